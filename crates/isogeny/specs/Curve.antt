@@ -1,0 +1,35 @@
+-- Curves y² = x³ + A x + B over a commutative ring, after document 01, "Field and curves".
+-- Assumes nothing.
+use mathlib.Core.Path.{_≡_}
+use mathlib.Core.Logic.{_≢_}
+use Prim.Native.Nat.{ℕ}
+use Rattle.ring.specs.Ring.{CRing, cast, pow}
+
+module _ (R : CRing) where
+  open CRing R using (Car, 𝟘, add as _⊕_, mul as _⊗_)
+
+  infixl 65 _⊕_
+  infixl 70 _⊗_
+  infixr 75 _^_
+  infix 80 #_
+  abbrev _^_ : Car → ℕ → Car
+  a ^ n = pow R a n
+
+  abbrev #_ : ℕ → Car
+  # n = cast R n
+
+  -- "4A³ + 27B²"
+  unfoldable pub discriminant : Car → Car → Car
+  discriminant A B = # 4 ⊗ A ^ 3 ⊕ # 27 ⊗ B ^ 2
+
+  -- "with 4A³ + 27B² not 0"
+  abbrev pub Nonsingular : Car → Car → Type 0
+  Nonsingular A B = discriminant A B ≢ 𝟘
+
+  -- "A curve's j-value is 1728 · 4A³ / (4A³ + 27B²)"
+  unfoldable pub JValue : Car → Car → Car → Type 0
+  JValue A B j = j ⊗ discriminant A B ≡ # 1728 ⊗ (# 4 ⊗ A ^ 3)
+
+  -- the affine point (u, v) is on the curve
+  unfoldable pub OnCurve : Car → Car → Car → Car → Type 0
+  OnCurve A B u v = v ^ 2 ≡ u ^ 3 ⊕ A ⊗ u ⊕ B

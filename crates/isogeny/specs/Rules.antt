@@ -1,0 +1,95 @@
+-- Document 01's rules R1 to R3 for g and N, over any commutative ring, and the image of a point. A polynomial is the sequence of its coefficients, the
+-- constant term first; sums, products and powers are those of the ring of such sequences, and ∂ is the derivative.
+-- Assumes nothing.
+use mathlib.Core.Path.{_≡_}
+use mathlib.Core.Logic.{_≢_}
+use Prim.Native.Nat.{ℕ, suc, _+_, _*_, _-_}
+use Rattle.ring.specs.Ring.{CRing, cast, pow}
+use Rattle.series.specs.Series.{Series, Seq, const, ∂}
+use Rattle.series.specs.Degree.{Below}
+use Rattle.series.specs.Indeterminate.{ind}
+use Rattle.series.specs.Value.{value}
+
+-- domain (A, B), codomain (Ã, B̃), degree ℓ = 2 d + 1, and σ
+pub record Question (R : CRing) : Type 0 where
+  pub A : R .Car
+  pub B : R .Car
+  pub Ã : R .Car
+  pub B̃ : R .Car
+  pub d : ℕ
+  pub σ : R .Car
+
+module _ (R : CRing) (q : Question R) where
+  open Question q using (A, B, Ã, B̃, d, σ)
+  open CRing (Series R) using (add as _⊕_, mul as _⊗_, neg)
+
+  infixl 65 _⊕_ _⊖_
+  infixl 70 _⊗_
+  infixr 75 _^_
+  infix 80 #_
+  abbrev _⊖_ : Seq R → Seq R → Seq R
+  a ⊖ b = a ⊕ neg b
+
+  abbrev _^_ : Seq R → ℕ → Seq R
+  a ^ n = pow (Series R) a n
+
+  -- a number, an element of R, and x, as polynomials
+  abbrev #_ : ℕ → Seq R
+  # n = cast (Series R) n
+
+  abbrev κ : R .Car → Seq R
+  κ c = const R c
+
+  abbrev x : Seq R
+  x = ind R
+
+  abbrev pub ℓ : ℕ
+  ℓ = 2 * d + 1
+
+  -- "f = x³ + Ax + B"
+  unfoldable pub f : Seq R
+  f = x ^ 3 ⊕ κ A ⊗ x ⊕ κ B
+
+  -- R1: "g has degree d and leading coefficient 1; σ is −2 times its coefficient of x^(d−1)"
+  pub record R1 (g : Seq R) : Type 0 where
+    pub degree : Below R (suc d) g
+    pub leading : g d ≡ R .𝟙
+    pub sigma : σ ≡ R .neg (R .mul (cast R 2) (g (d - 1)))
+
+  -- R2: "N = (ℓx − σ)g² − 2(3x² + A)gg′ − 4f(gg″ − g′²)"
+  unfoldable pub N : Seq R → Seq R
+  N g = (# ℓ ⊗ x ⊖ κ σ) ⊗ g ^ 2 ⊖ # 2 ⊗ (# 3 ⊗ x ^ 2 ⊕ κ A) ⊗ g ⊗ ∂ R g ⊖ # 4 ⊗ f ⊗ (g ⊗ ∂ R (∂ R g) ⊖ ∂ R g ^ 2)
+
+  -- R3: "f(N′g − 2Ng′)² = N³ + ÃNg⁴ + B̃g⁶, coefficient by coefficient"
+  unfoldable pub W : Seq R → Seq R → Seq R
+  W g n = ∂ R n ⊗ g ⊖ # 2 ⊗ n ⊗ ∂ R g
+
+  unfoldable pub left : Seq R → Seq R → Seq R
+  left g n = f ⊗ W g n ^ 2
+
+  unfoldable pub right : Seq R → Seq R → Seq R
+  right g n = n ^ 3 ⊕ κ Ã ⊗ n ⊗ g ^ 4 ⊕ κ B̃ ⊗ g ^ 6
+
+  abbrev pub R3 : Seq R → Seq R → Type 0
+  R3 g n = (i : ℕ) → left g n i ≡ right g n i
+
+  -- "g meets the rules when R1 and R3 hold with the question's values and the N that R2 gives"
+  pub record Meets (g : Seq R) : Type 0 where
+    pub r1 : R1 g
+    pub r3 : R3 g (N g)
+
+  -- "A point (u, v) with g(u) not 0 goes to (N/g², v(N′g − 2Ng′)/g³) taken at u": g(u), N(u) and (N′g − 2Ng′)(u), and the point (u′, v′) by its
+  -- quotients' numerators
+  abbrev pub g-at : Seq R → R .Car → R .Car
+  g-at g u = value R (suc d) g u
+
+  abbrev pub N-at : Seq R → R .Car → R .Car
+  N-at n u = value R (suc ℓ) n u
+
+  abbrev pub W-at : Seq R → Seq R → R .Car → R .Car
+  W-at g n u = value R (suc (3 * d)) (W g n) u
+
+  pub record Image (g n : Seq R) (u v u′ v′ : R .Car) : Type 0 where
+    pub defined : g-at g u ≢ R .𝟘
+    pub abscissa : R .mul u′ (pow R (g-at g u) 2) ≡ N-at n u
+    pub ordinate : R .mul v′ (pow R (g-at g u) 3) ≡ R .mul v (W-at g n u)

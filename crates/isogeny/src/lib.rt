@@ -1,0 +1,1 @@
+// Laws alone: curves, the rules for kernel polynomials, and the theorems about them. There is no code here.

@@ -1,0 +1,7 @@
+pub mod Ring
+pub mod Test
+pub mod Identity
+pub mod Derivation
+pub mod Derivative
+pub mod Field
+pub mod Examples

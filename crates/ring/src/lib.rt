@@ -1,0 +1,1 @@
+// Laws alone: commutative rings, identities decided by computing, derivations. There is no code here.
