@@ -1,0 +1,49 @@
+-- Residues of sums, negatives and differences of residues, as the functions compute them; and the size of a product.
+-- Assumes nothing.
+use mathlib.Core.Path.{_≡_, sym, _∙_, ap, subst⁻¹}
+use Prim.Native.Nat.{ℕ, _+_, _-_, _*_, _^_, _<_, _≤_}
+use native.Mathlib.Nat as N
+use native.Mathlib.Omega.{arith}
+use lib.Pow.{pow-add, pow-pos}
+use Rattle.ring.specs.Ring
+use Rattle.ring.specs.Identity.{solve2}
+use Rattle.ring.specs.Identity.Ex.{_:+_, _:-_}
+use Rattle.zmod.specs.Zmod.{Zmod, mk, plus, minus, mk-add, mk-eq, mk-sub}
+use Rattle.zmod.specs.Residues.{Residue}
+
+-- the product of two numbers of k bits has 2 k bits
+pub product-below : (k : ℕ) {a b : ℕ} → a < 2 ^ k → b < 2 ^ k → a * b < 2 ^ (k + k)
+product-below k {a} {b} ha hb =
+    subst⁻¹ (λ (n : ℕ). a * b < n) (pow-add 2 k k)
+    (N.lt-of-le-of-lt (N.mul-le-mul-left a (N.le-of-lt hb)) (N.mul-lt-mul-of-pos-right ha (pow-pos k)))
+
+module _ (p a b : ℕ) where
+  pub add-low : a + b < p → Residue p (plus p (mk p a) (mk p b)) (a + b)
+  add-low h = record { below = h; class = mk-add p a b }
+
+  pub add-high : a < p → b < p → p ≤ a + b → Residue p (plus p (mk p a) (mk p b)) (a + b - p)
+  add-high ha hb h = record {
+    below = omega arith;
+    class = mk-eq {p = p} (omega arith) (a + b - p) (a + b) (sym (N.mod-eq-sub-mod h)) ∙ mk-add p a b;
+  }
+
+  pub subtract-low : a < p → b ≤ a → Residue p (plus p (mk p a) (minus p (mk p b))) (a - b)
+  subtract-low ha h = record {
+    below = omega arith;
+    class =
+        solve2 (Zmod p) (λ x y. x) (λ x y. x :+ y :- y) tt (mk p (a - b)) (mk p b)
+        ∙ ap (λ z. plus p z (minus p (mk p b))) (sym (mk-add p (a - b) b) ∙ ap (mk p) (omega arith));
+  }
+
+  pub subtract-high : b < p → a < b → Residue p (plus p (mk p a) (minus p (mk p b))) (a + (p - b))
+  subtract-high hb h = record { below = omega arith; class = mk-sub {p = p} (omega arith) a b (omega arith) }
+
+module _ (p a : ℕ) where
+  pub negate-zero : a < p → a ≡ 0 → Residue p (minus p (mk p a)) 0
+  negate-zero ha e = record { below = omega arith; class = sym (ap (λ n. minus p (mk p n)) e ∙ Ring.neg-zero (Zmod p)) }
+
+  pub negate-more : a < p → (a ≡ 0 → ⊥) → Residue p (minus p (mk p a)) (p - a)
+  negate-more ha h = record {
+    below = omega arith;
+    class = ap (mk p) (omega arith) ∙ mk-sub {p = p} (omega arith) 0 a (omega arith) ∙ Ring.zero-add (Zmod p) _;
+  }
