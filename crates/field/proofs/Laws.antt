@@ -42,8 +42,8 @@ module _ (p a : ℕ) where
   pub negate-zero : a < p → a ≡ 0 → Residue p (minus p (mk p a)) 0
   negate-zero ha e = record { below = omega arith; class = sym (ap (λ n. minus p (mk p n)) e ∙ Ring.neg-zero (Zmod p)) }
 
+  pub mk-minus : a < p → mk p (p - a) ≡ minus p (mk p a)
+  mk-minus h = ap (mk p) (omega arith) ∙ mk-sub {p = p} (omega arith) 0 a (omega arith) ∙ Ring.zero-add (Zmod p) _
+
   pub negate-more : a < p → (a ≡ 0 → ⊥) → Residue p (minus p (mk p a)) (p - a)
-  negate-more ha h = record {
-    below = omega arith;
-    class = ap (mk p) (omega arith) ∙ mk-sub {p = p} (omega arith) 0 a (omega arith) ∙ Ring.zero-add (Zmod p) _;
-  }
+  negate-more ha h = record { below = omega arith; class = mk-minus ha }

@@ -1,9 +1,17 @@
 // Arithmetic in ℤ/p on residues held in u32, for p up to 2^28: a residue is below p, and what a function promises is the residue of the sum, the
-// product, .. of the classes of its arguments. `Residue p x r` says that r is the residue of the element x.
+// product, .. of the classes of its arguments. `Residue p x r` says that r is the residue of the element x, `InverseOf p a r` that r is the inverse
+// of a. `is_prime` is for every word.
+mod prime;
+
+pub use prime::is_prime;
 ghost use mathlib.Core.Path.{_≡_};
 ghost use Prim.Native.Nat.{_*_, _^_, _<_, _≤_};
-ghost use Rattle.zmod.specs.Zmod.{mk, plus, minus, times};
+ghost use Rattle.ring.specs.Ring.{pow};
+ghost use Rattle.slices.specs.Filling.{Filled};
+ghost use Rattle.zmod.specs.Zmod.{Zmod, mk, plus, minus, times};
+ghost use Rattle.zmod.specs.Prime.{Prime};
 ghost use Rattle.zmod.specs.Residues.{Residue};
+ghost use Rattle.field.specs.Inverse.{InverseOf, Inverses, Entry};
 
 pub fn wide(x: u32) -> u64
     ensures { λ r. ⌜ r ≡ x ⌝ }
@@ -53,4 +61,63 @@ pub fn multiply(a: u32, b: u32, p: u32) -> u32
     ensures { λ r. ⌜ Residue p (times p (mk p a) (mk p b)) r ⌝ }
 {
     reduce(product(a, b), p)
+}
+
+// a to the power e, the exponent's bits read from its topmost set one down; the power 0 is 1.
+pub fn power(a: u32, e: u32, p: u32) -> u32
+    requires { ⌜ (a < p) × (1 < p) ⌝ }
+    ensures { λ r. ⌜ Residue p (pow (Zmod p) (mk p a) e) r ⌝ }
+{
+    if e == 0 {
+        return 1;
+    }
+    let mut i = 31 - u32::leading_zeros(e);
+    let mut r = a;
+    while 0 < i {
+        i -= 1;
+        r = multiply(r, r, p);
+        if (e >> i) % 2 == 1 {
+            r = multiply(r, a, p);
+        }
+    }
+    r
+}
+
+// By Fermat: the power p − 2.
+pub fn inverse(a: u32, p: u32) -> u32
+    requires { ⌜ Prime p ⌝ }
+    requires { ⌜ (0 < a) × (a < p) ⌝ }
+    ensures { λ r. ⌜ InverseOf p a r ⌝ }
+{
+    power(a, p - 2, p)
+}
+
+// The entry at k of a table of inverses that is filled up to k: −(p / k) times the inverse of p % k, since (p % k) + k (p / k) is 0 modulo p.
+fn entry(table: &[u32], k: u32, p: u32) -> u32
+    requires { ⌜ Prime p ⌝ }
+    requires { do ⌜ (k < p) × (k < (← ⟦table.len()⟧)) ⌝ }
+    requires { ⌜ Filled (Entry p) (now table) k ⌝ }
+    ensures { λ r. ⌜ Entry p k r ⌝ }
+{
+    if k < 2 {
+        return k;
+    }
+    let q = p - p / k;
+    let i = (p % k) as usize;
+    multiply(q, table[i], p)
+}
+
+// The inverses of 1, 2, .., each from smaller ones: one division and one product for each. At place 0 stands 0.
+pub fn inverses(out: &mut [u32], p: u32)
+    requires { ⌜ Prime p ⌝ }
+    requires { do ⌜ (← ⟦out.len()⟧) ≤ p ⌝ }
+    ensures { λ r. ⌜ Inverses p (now (out .exit)) ⌝ }
+{
+    let n = out.len() as u32;
+    let mut k: u32 = 0;
+    while k < n {
+        let i = k as usize;
+        out[i] = entry(out, k, p);
+        k += 1;
+    }
 }

@@ -23,14 +23,15 @@ pub prime-pos : {p : ℕ} → Prime p → 0 < p
 prime-pos P = omega arith
 
 -- in any ring: from r + a q = 0 and r b = 1, a · −(q b) = 1
-step : (R : CRing) (a q r b : R .Car) → R .add r (R .mul a q) ≡ R .𝟘 → R .mul r b ≡ R .𝟙 → R .mul a (R .neg (R .mul q b)) ≡ R .𝟙
+pub step : (R : CRing) (a q r b : R .Car) → R .add r (R .mul a q) ≡ R .𝟘 → R .mul r b ≡ R .𝟙 → R .mul a (R .neg (R .mul q b)) ≡ R .𝟙
 step R a q r b e f =
     solve4 R (λ a q r b. a :* (:- (q :* b))) (λ a q r b. r :* b :- (r :+ a :* q) :* b) tt a q r b
     ∙ ap₂ (λ x y. R .add x (R .neg (R .mul y b))) f e
     ∙ solve2 R (λ x b. x :- :0 :* b) (λ x b. x) tt (R .𝟙) b
 
 module _ {p : ℕ} (P : Prime p) where
-  quotient : (a : ℕ) → plus p (mk p (p % a)) (times p (mk p a) (mk p (p / a))) ≡ mk p 0
+  -- p = (p % a) + a (p / a)
+  pub quotient : (a : ℕ) → plus p (mk p (p % a)) (times p (mk p a) (mk p (p / a))) ≡ mk p 0
   quotient a =
       ap (λ x. plus p (mk p (p % a)) x) (sym (mk-mul p a (p / a))) ∙ sym (mk-add p (p % a) (a * (p / a)))
       ∙ ap (mk p) (N.mod-add-div p a) ∙ mk-self (prime-pos P)
