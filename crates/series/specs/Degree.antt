@@ -61,6 +61,10 @@ module _ (R : CRing) where
   pub poly-∂ : (a : Seq R) → Poly a → Poly (∂ R a)
   poly-∂ a p = (p .0, λ i l. ∂-at R a i ∙ ap (λ x. cast R (suc i) ⊗ x) (p .1 (suc i) (omega arith)) ∙ Ring.mul-zero R _)
 
+  -- the derivative has one coefficient less
+  pub ∂-below : (n : ℕ) (a : Seq R) → Below (suc n) a → Below n (∂ R a)
+  ∂-below n a h i l = ∂-at R a i ∙ ap (λ x. cast R (suc i) ⊗ x) (h (suc i) (omega arith)) ∙ Ring.mul-zero R _
+
   pub poly-cast : (n : ℕ) → Poly (cast (Series R) n)
   poly-cast zero = subst Poly (sym (cast-zero (Series R))) poly-zeros
   poly-cast (suc n) = subst Poly (sym (cast-suc (Series R) n)) (poly-add (cast (Series R) n) (const R 𝟙) (poly-cast n) (poly-const 𝟙))

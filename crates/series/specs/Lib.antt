@@ -2,6 +2,7 @@ pub mod Series
 pub mod Recursion
 pub mod Local
 pub mod Degree
+pub mod ConstantTerm
 pub mod Indeterminate
 pub mod Reversal
 pub mod Value

@@ -34,6 +34,9 @@ module _ (R : CRing) where
   rev-at i zero P = ap (λ m. rev m P 0) (N.add-zero i) ∙ rev-first i P
   rev-at i (suc j) P = ap (λ m. rev m P (suc j)) (N.add-suc i j) ∙ rev-at i j P
 
+  pub rev-sub : (n k : ℕ) (P : Seq R) → k ≤ n → rev n P k ≡ P (n - k)
+  rev-sub n k P l = ap (λ m. rev m P k) (omega arith) ∙ rev-at (n - k) k P
+
   pub rev-past : (n i : ℕ) (P : Seq R) → n < i → rev n P i ≡ 𝟘
   unfolding rev
   rev-past n zero P h = absurd (omega arith)
