@@ -1,0 +1,61 @@
+//! Which outcomes the cases expected: for each entry, how often it had to
+//! accept and how often each number had to be given. A run of all groups in
+//! which an outcome of document 01 never came up would say too little.
+
+use reference::call::{Call, Reply, REFUSED};
+
+/// Each entry with the questions it puts.
+const ENTRIES: [(&str, &[usize]); 5] = [
+    ("check", &[2, 3, 4, 5, 6, 7, 8, 9, 10]),
+    ("push", &[2, 3, 4, 5, 6, 7, 8, 9, 10, 12]),
+    ("solve", &[1, 2, 3, 4, 5, 6, 7, 11]),
+    ("kernel", &[1, 2, 3, 4, 5, 6, 7, 8, 11]),
+    ("name", &[3, 5, 7]),
+];
+
+/// Counts by entry and number; number 0 stands for accepting.
+#[derive(Clone, Default)]
+pub struct Coverage {
+    counts: [[u64; 13]; 5],
+}
+
+impl Coverage {
+    pub fn record(&mut self, call: &Call, expected: &Reply) {
+        let refused = expected.number.saturating_sub(REFUSED);
+        let (entry, number) = match call {
+            Call::Check { .. } => (0, expected.number),
+            Call::Push { .. } => (1, refused),
+            Call::Solve { .. } => (2, refused),
+            Call::Kernel { .. } => (3, refused),
+            Call::Name { .. } => (4, refused),
+        };
+        self.counts[entry][number as usize] += 1;
+    }
+
+    pub fn merge(&mut self, other: &Coverage) {
+        let all = self.counts.iter_mut().flatten();
+        all.zip(other.counts.iter().flatten())
+            .for_each(|(sum, count)| *sum += count);
+    }
+
+    /// One line for each entry.
+    pub fn lines(&self) -> Vec<String> {
+        let rows = ENTRIES.iter().zip(&self.counts);
+        rows.map(|((name, asked), counts)| {
+            let refusals = asked.iter().map(|&n| format!("{n}: {}", counts[n]));
+            let refusals: Vec<String> = refusals.collect();
+            let accepted = counts[0];
+            format!(
+                "{name}: accepts {accepted}, refuses {}",
+                refusals.join(", ")
+            )
+        })
+        .collect()
+    }
+
+    /// Whether every outcome came up.
+    pub fn is_complete(&self) -> bool {
+        let mut rows = ENTRIES.iter().zip(&self.counts);
+        rows.all(|((_, asked), counts)| counts[0] > 0 && asked.iter().all(|&n| counts[n] > 0))
+    }
+}

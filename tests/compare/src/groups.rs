@@ -1,0 +1,105 @@
+//! The groups of cases, in the order in which they are run.
+
+pub mod almost;
+pub mod certificates;
+pub mod damage;
+pub mod document;
+pub mod hostile;
+pub mod lengths;
+pub mod limits;
+pub mod points;
+pub mod search;
+
+use crate::judge::Judge;
+use crate::Options;
+
+pub struct Group {
+    pub name: &'static str,
+    pub run: Box<dyn Fn(&mut Judge) + Send + Sync>,
+}
+
+/// A group with a quick form, which the flag asks for.
+type WithQuick = fn(&mut Judge, bool);
+
+/// Shards of the random part; each has its own seed.
+const SHARDS: u64 = 8;
+
+fn group(name: impl Into<String>, run: impl Fn(&mut Judge) + Send + Sync + 'static) -> Group {
+    Group {
+        // A few dozen names for the whole run.
+        name: Box::leak(name.into().into_boxed_str()),
+        run: Box::new(run),
+    }
+}
+
+/// The long searches come early, so that all threads have work to the end.
+pub fn all(options: &Options) -> Vec<Group> {
+    let mut groups = by_document();
+    groups.extend(by_search(options.quick));
+    groups.extend(by_generation(options.quick));
+    groups.extend(by_chance(options.count));
+    groups
+}
+
+/// Cases that document 01 prints or whose expectation it states outright.
+fn by_document() -> Vec<Group> {
+    vec![
+        group("document", document::rows),
+        group("order of questions", document::order),
+        group("rooms", limits::rooms),
+        group("degrees", limits::degrees),
+        group("points", points::run),
+    ]
+}
+
+/// Cases whose expectation is an exhaustive search.
+fn by_search(quick: bool) -> Vec<Group> {
+    let whole = search::fields(quick).into_iter().rev();
+    let mut groups: Vec<Group> = whole
+        .map(|(p, l)| {
+            group(format!("search p={p} l={l}"), move |judge| {
+                search::whole(judge, p, l);
+            })
+        })
+        .collect();
+    groups.extend(search::larger_fields(quick).into_iter().map(|(p, l)| {
+        group(format!("near answers p={p} l={l}"), move |judge| {
+            search::near(judge, p, l);
+        })
+    }));
+    groups
+}
+
+/// Cases made from isogenies that are known to exist, and beside them.
+fn by_generation(quick: bool) -> Vec<Group> {
+    let over = |p: u64| {
+        group(format!("certificates p={p}"), move |judge| {
+            certificates::over(judge, p, quick);
+        })
+    };
+    let mut groups: Vec<Group> = certificates::primes(quick).into_iter().map(over).collect();
+    let others: [(&str, WithQuick); 9] = [
+        ("certificates, least primes", certificates::least_primes),
+        ("certificates, composed", certificates::composed),
+        ("damage", damage::run),
+        ("almost, all degrees", almost::large),
+        ("almost, small fields", almost::small),
+        ("almost, deep", almost::deep),
+        ("lengths", lengths::run),
+        ("names", limits::names),
+        ("primes", limits::primes),
+    ];
+    groups.extend(others.map(|(name, run)| group(name, move |judge| run(judge, quick))));
+    groups
+}
+
+/// Random cases, in shards of their own seeds.
+fn by_chance(count: u64) -> Vec<Group> {
+    let share = move |shard: u64| count / SHARDS + u64::from(shard < count % SHARDS);
+    let shards = (0..SHARDS).map(|shard| {
+        group(format!("hostile {}", shard + 1), move |judge| {
+            hostile::run(judge, shard, share(shard));
+        })
+    });
+    shards.collect()
+}

@@ -1,0 +1,154 @@
+//! Limits that document 01 names: buffer sizes, primes, degrees, names.
+
+use reference::call::{Call, Reply};
+use reference::primes::{next_prime, previous_prime, sieve};
+use reference::random::Random;
+use reference::sheet::{bytes_of, word, KernelSheet, Question, A, L, P};
+
+use crate::groups::certificates::LARGEST_PRIME;
+use crate::groups::document;
+use crate::judge::Judge;
+
+/// Rooms around 392, with sheets that pass and sheets that do not.
+pub fn rooms(judge: &mut Judge) {
+    for certificate in document::samples() {
+        let answer = Reply::written(certificate.words());
+        let question = certificate.question.words();
+        let kernel = certificate.kernel_sheet().words();
+        for room in [0, 1, 14, 100, 390, 391, 392, 393, 1000, 8000] {
+            let calls = |sheet: &[u32], other: &[u32]| {
+                let (sheet, other) = (sheet.to_vec(), other.to_vec());
+                [
+                    Call::Solve { sheet, room },
+                    Call::Kernel { sheet: other, room },
+                ]
+            };
+            // Twice, for both ways to lay out the answer.
+            for call in [calls(&question, &kernel), calls(&question, &kernel)].concat() {
+                if room < 392 {
+                    judge.refuses(&call, 1);
+                } else {
+                    judge.expect(&call, &answer);
+                }
+            }
+            for (sheet, number) in [(&question[..6], 2), (&kernel[..3], 2), (&[][..], 2)] {
+                for call in calls(sheet, sheet) {
+                    let number = if room < 392 { 1 } else { number };
+                    judge.refuses(&call, number);
+                }
+            }
+        }
+    }
+}
+
+/// Question 3 for all small numbers and around the limits, by name, which puts
+/// it first, and by sheets.
+pub fn primes(judge: &mut Judge, quick: bool) {
+    let limit = if quick { 1 << 14 } else { 1 << 18 };
+    let mut is_prime = vec![false; limit];
+    for p in sieve(limit) {
+        is_prime[p as usize] = true;
+    }
+    for p in 0..limit as u32 {
+        let call = Call::Name { p, a: 0, b: 1 };
+        if p >= 11 && is_prime[p as usize] {
+            judge.expect(&call, &Reply::number(0));
+        } else {
+            judge.refuses(&call, 3);
+        }
+    }
+    for p in hard_numbers() {
+        // a = 0 gives j = 0 for a lawful prime.
+        judge.agrees(&Call::Name { p, a: 0, b: 1 });
+        if p < 1 << 28 {
+            let mut words = reference::marked::first().words();
+            words[0] = word(P, u64::from(p));
+            judge.agrees(&Call::check(&words));
+        }
+    }
+}
+
+/// Squares and products of neighbouring primes, pseudoprimes, both sides of
+/// 2^28 and of 2^32.
+fn hard_numbers() -> Vec<u32> {
+    let mut numbers = vec![
+        341, 561, 1105, 1729, 2047, 3277, 4033, 8911, 10585, 25326001,
+    ];
+    numbers.extend([3215031751, 8321, 252601, 1373653, 9080191, 161304001]);
+    let mut random = Random::new(60);
+    for p in sieve(16384).into_iter().rev().step_by(40) {
+        numbers.push(p * p);
+        numbers.push(p * previous_prime(u64::from(p) - 1) as u32);
+    }
+    for _ in 0..300 {
+        let prime = next_prime(random.below(LARGEST_PRIME)) as u32;
+        numbers.extend([prime, prime + 2, 3 * (prime / 3)]);
+    }
+    numbers.extend((1 << 28) - 200..(1 << 28) + 200);
+    numbers.extend((u32::MAX - 20)..=u32::MAX);
+    numbers.extend([268435459, 536870909, 2147483647, 4294967291]);
+    numbers
+}
+
+/// Question 4 for every degree over every small prime. With a = p the next
+/// "no" is 5, so 5 says that question 4 was passed.
+pub fn degrees(judge: &mut Judge) {
+    for p in sieve(600).into_iter().filter(|&p| p >= 11) {
+        let p = u64::from(p);
+        for l in (0..=260).chain([511, 65535, (1 << 28) - 1]) {
+            let passes = l % 2 == 1 && (3..=255).contains(&l) && 2 * l - 1 < p;
+            let number = if passes { 5 } else { 4 };
+            let question = Question::of([p, p, 1, 0, 1, l, 0]);
+            let sheet = KernelSheet {
+                p,
+                a: p,
+                b: 1,
+                l,
+                g: vec![0, 1],
+            };
+            judge.refuses(&Call::solve(&question.words()), number);
+            judge.refuses(&Call::check(&question.words()), number);
+            judge.refuses(&Call::kernel(&sheet.words()), number);
+        }
+    }
+    largest_degree(judge);
+}
+
+/// l = 255 is lawful over 521 and not over 509.
+fn largest_degree(judge: &mut Judge) {
+    let mut words = reference::marked::first().words();
+    words[5] = word(L, 255);
+    for (p, number) in [(509, 4), (521, 5)] {
+        words[0] = word(P, p);
+        words[1] = word(A, p);
+        let bytes = bytes_of(&words);
+        judge.refuses(&Call::Check { bytes }, number);
+    }
+}
+
+/// Every curve over small primes, values at and above p, large primes.
+pub fn names(judge: &mut Judge, quick: bool) {
+    let limit = if quick { 24 } else { 80 };
+    for p in sieve(limit).into_iter().filter(|&p| p >= 11) {
+        for a in 0..p + 2 {
+            for b in 0..p + 2 {
+                judge.agrees(&Call::Name { p, a, b });
+            }
+        }
+    }
+    let mut random = Random::new(61);
+    for _ in 0..if quick { 500 } else { 5000 } {
+        let p = next_prime(random.below(LARGEST_PRIME - 1000) + 11) as u32;
+        let mut value = || random.below(u64::from(p)) as u32;
+        let (a, b) = (value(), value());
+        for (a, b) in [(a, b), (0, b), (a, 0), (p - 1, b), (a, p), (a | 1 << 28, b)] {
+            judge.agrees(&Call::Name { p, a, b });
+        }
+        // A singular curve: a = -3t^2, b = 2t^3.
+        let field = reference::field::Field::new(u64::from(p));
+        let t = u64::from(a);
+        let a = field.mul(field.of(-3), field.pow(t, 2)) as u32;
+        let b = field.mul(2, field.pow(t, 3)) as u32;
+        judge.refuses(&Call::Name { p, a, b }, 7);
+    }
+}

@@ -1,0 +1,223 @@
+//! Puts calls to the library and compares everything it may touch: the
+//! returned number, every word of the answer buffer, the words around it, and
+//! the sheet, which must stay as it was.
+
+use std::sync::atomic::{AtomicU64, Ordering};
+use std::time::{Duration, Instant};
+
+use reference::call::{Call, Reply};
+use reference::random::Random;
+
+use crate::coverage::Coverage;
+use crate::entries;
+use crate::guarded::{Guarded, Side};
+use crate::report;
+
+/// Words around the answer that are watched on the side without a guard page.
+const MARGIN: usize = 64;
+const CAPACITY: usize = 1 << 17;
+const LARGEST_ROOM: usize = 8192;
+/// The run ends at so many differences.
+const ENOUGH: u64 = 10;
+
+static DIFFERENCES: AtomicU64 = AtomicU64::new(0);
+
+/// Differences so far, of all threads.
+pub fn differences() -> u64 {
+    DIFFERENCES.load(Ordering::SeqCst)
+}
+
+pub struct Judge {
+    group: &'static str,
+    cases: u64,
+    notes: Vec<String>,
+    coverage: Coverage,
+    /// Time spent inside the library.
+    inside: Duration,
+    sheet: Guarded,
+    answer: Guarded,
+    /// What the answer buffer holds before a call; two of them, so that no
+    /// word written can pass for an untouched one in both.
+    patterns: [Vec<u32>; 2],
+}
+
+/// What the library did.
+struct Seen {
+    number: u64,
+    /// Indices of answer words that are not as expected, with both values;
+    /// negative before the answer.
+    words: Vec<(isize, u32, u32)>,
+    sheet_changed: bool,
+}
+
+impl Judge {
+    pub fn new(group: &'static str) -> Judge {
+        let mut random = Random::new(0x7061_7474_6572_6e73);
+        let mut pattern = || {
+            (0..LARGEST_ROOM + MARGIN)
+                .map(|_| random.word())
+                .collect::<Vec<u32>>()
+        };
+        Judge {
+            group,
+            cases: 0,
+            notes: Vec::new(),
+            coverage: Coverage::default(),
+            inside: Duration::ZERO,
+            sheet: Guarded::new(CAPACITY),
+            answer: Guarded::new(CAPACITY),
+            patterns: [pattern(), pattern()],
+        }
+    }
+
+    pub fn cases(&self) -> u64 {
+        self.cases
+    }
+
+    pub fn coverage(&self) -> &Coverage {
+        &self.coverage
+    }
+
+    pub fn inside(&self) -> Duration {
+        self.inside
+    }
+
+    pub fn notes(&self) -> String {
+        self.notes.join(", ")
+    }
+
+    /// Adds to the summary line of the group.
+    pub fn note(&mut self, text: String) {
+        self.notes.push(text);
+    }
+
+    /// The reference's reply is expected.
+    pub fn agrees(&mut self, call: &Call) {
+        self.expect(call, &call.reply());
+    }
+
+    /// A refusal with this number is expected.
+    pub fn refuses(&mut self, call: &Call, number: u32) {
+        self.expect(call, &call.refusal(number));
+    }
+
+    pub fn expect(&mut self, call: &Call, expected: &Reply) {
+        self.cases += 1;
+        self.coverage.record(call, expected);
+        report::running(call, self.group);
+        let seen = self.put(call, expected);
+        report::finished();
+        if seen.number != expected.number || !seen.words.is_empty() || seen.sheet_changed {
+            self.report(call, expected, &seen);
+        }
+    }
+
+    fn put(&mut self, call: &Call, expected: &Reply) -> Seen {
+        match call {
+            Call::Check { bytes } => {
+                self.with_bytes(bytes, |bytes| u64::from(entries::check(bytes)))
+            }
+            Call::Push { bytes, point } => {
+                self.with_bytes(bytes, |bytes| entries::push(bytes, *point))
+            }
+            Call::Solve { sheet, room } => {
+                self.with_answer(sheet, *room, &expected.words, entries::solve)
+            }
+            Call::Kernel { sheet, room } => {
+                self.with_answer(sheet, *room, &expected.words, entries::kernel)
+            }
+            Call::Name { p, a, b } => Seen {
+                number: timed(&mut self.inside, || entries::name(*p, *a, *b)),
+                words: Vec::new(),
+                sheet_changed: false,
+            },
+        }
+    }
+
+    fn with_bytes(&mut self, bytes: &[u8], entry: impl Fn(&[u8]) -> u64) -> Seen {
+        let side = match self.cases % 5 {
+            0 | 1 => Side::End,
+            2 | 3 => Side::Start,
+            _ => Side::Offset(1 + self.cases as usize % 3),
+        };
+        let lent = self.sheet.bytes(side, bytes.len());
+        lent.copy_from_slice(bytes);
+        Seen {
+            number: timed(&mut self.inside, || entry(lent)),
+            words: Vec::new(),
+            sheet_changed: lent != bytes,
+        }
+    }
+
+    fn with_answer(
+        &mut self,
+        sheet: &[u32],
+        room: usize,
+        written: &[u32],
+        entry: impl Fn(&[u32], &mut [u32]) -> u64,
+    ) -> Seen {
+        let (sheet_side, answer_side) = match self.cases % 4 {
+            0 => (Side::End, Side::End),
+            1 => (Side::Start, Side::Start),
+            2 => (Side::End, Side::Start),
+            _ => (Side::Start, Side::End),
+        };
+        let lent = self.sheet.words(sheet_side, sheet.len());
+        lent.copy_from_slice(sheet);
+        // The margin lies on the side that has no guard page.
+        let first = if answer_side == Side::End { MARGIN } else { 0 };
+        let watched = self.answer.words(answer_side, room + MARGIN);
+        let pattern = &self.patterns[self.cases as usize % 2][..room + MARGIN];
+        watched.copy_from_slice(pattern);
+        let lent_answer = &mut watched[first..first + room];
+        let number = timed(&mut self.inside, || entry(lent, lent_answer));
+        let written_end = first + written.len();
+        let as_expected = watched[..first] == pattern[..first]
+            && watched[first..written_end] == *written
+            && watched[written_end..] == pattern[written_end..];
+        let mut words = Vec::new();
+        if !as_expected {
+            for (i, (&got, &before)) in watched.iter().zip(pattern).enumerate() {
+                let answer = i.checked_sub(first).and_then(|i| written.get(i));
+                let wanted = *answer.unwrap_or(&before);
+                if got != wanted {
+                    words.push((i as isize - first as isize, wanted, got));
+                }
+            }
+        }
+        Seen {
+            number,
+            words,
+            sheet_changed: lent != sheet,
+        }
+    }
+
+    fn report(&self, call: &Call, expected: &Reply, seen: &Seen) {
+        let mut text = format!("DIFFERENCE in group {}, case {}\n", self.group, self.cases);
+        report::describe(&mut text, call).expect("a string takes any text");
+        let (wanted, got) = (
+            report::meaning(expected.number),
+            report::meaning(seen.number),
+        );
+        text += &format!("  number: expected {wanted}, got {got}\n");
+        for (i, wanted, got) in seen.words.iter().take(20) {
+            text += &format!("  answer word {i}: expected {wanted:08x}, got {got:08x}\n");
+        }
+        if seen.sheet_changed {
+            text += "  the sheet was changed\n";
+        }
+        eprint!("{text}");
+        if DIFFERENCES.fetch_add(1, Ordering::SeqCst) + 1 >= ENOUGH {
+            eprintln!("{ENOUGH} differences: stopped");
+            std::process::exit(1);
+        }
+    }
+}
+
+/// Calls the library and adds the time it takes.
+fn timed(sum: &mut Duration, call: impl FnOnce() -> u64) -> u64 {
+    let start = Instant::now();
+    let number = call();
+    *sum += start.elapsed();
+    number
+}

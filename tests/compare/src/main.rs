@@ -1,0 +1,116 @@
+//! Compares the C entries of the library with an independent implementation of
+//! document 01 and with exhaustive search. See the README beside it.
+
+mod coverage;
+mod entries;
+mod groups;
+mod guarded;
+mod judge;
+mod report;
+
+use std::process::ExitCode;
+use std::sync::atomic::{AtomicUsize, Ordering};
+use std::sync::Mutex;
+use std::time::Instant;
+
+use coverage::Coverage;
+use groups::Group;
+use judge::Judge;
+
+pub struct Options {
+    pub quick: bool,
+    /// Random cases of the hostile groups.
+    pub count: u64,
+    threads: usize,
+    /// Only groups whose name contains this.
+    only: String,
+}
+
+#[derive(Default)]
+struct Totals {
+    cases: u64,
+    coverage: Coverage,
+}
+
+const USAGE: &str = "usage: compare [--quick] [--count N] [--threads N] [--only TEXT]";
+
+fn parse(arguments: impl Iterator<Item = String>) -> Option<Options> {
+    let mut arguments = arguments;
+    let mut count = None;
+    let mut options = Options {
+        quick: false,
+        count: 0,
+        threads: 2,
+        only: String::new(),
+    };
+    while let Some(argument) = arguments.next() {
+        match argument.as_str() {
+            "--quick" => options.quick = true,
+            "--count" => count = Some(arguments.next()?.parse().ok()?),
+            "--threads" => options.threads = arguments.next()?.parse().ok()?,
+            "--only" => options.only = arguments.next()?,
+            _ => return None,
+        }
+    }
+    let usual = if options.quick { 20_000 } else { 400_000 };
+    options.count = count.unwrap_or(usual);
+    Some(options)
+}
+
+/// Runs one group and prints its summary line.
+fn run(group: &Group, totals: &Mutex<Totals>) {
+    let start = Instant::now();
+    let mut judge = Judge::new(group.name);
+    (group.run)(&mut judge);
+    let whole = start.elapsed().as_secs_f64();
+    let inside = judge.inside().as_secs_f64();
+    let (name, cases, notes) = (group.name, judge.cases(), judge.notes());
+    println!("{name:27} {cases:>8} cases {whole:>6.1} s, library {inside:>6.1} s  {notes}");
+    let mut totals = totals.lock().expect("no thread panics");
+    totals.cases += cases;
+    totals.coverage.merge(judge.coverage());
+}
+
+/// Runs all groups. Several threads call the entries at once: they have no
+/// state, so that must make no difference.
+fn run_all(groups: &[Group], threads: usize) -> Totals {
+    let totals = Mutex::new(Totals::default());
+    let next = AtomicUsize::new(0);
+    std::thread::scope(|scope| {
+        for _ in 0..threads {
+            scope.spawn(|| {
+                while let Some(group) = groups.get(next.fetch_add(1, Ordering::SeqCst)) {
+                    run(group, &totals);
+                }
+            });
+        }
+    });
+    totals.into_inner().expect("no thread panics")
+}
+
+fn main() -> ExitCode {
+    let Some(options) = parse(std::env::args().skip(1)) else {
+        eprintln!("{USAGE}");
+        return ExitCode::from(2);
+    };
+    report::catch_faults();
+    let start = Instant::now();
+    let mut groups = groups::all(&options);
+    groups.retain(|group| group.name.contains(&options.only));
+    let Totals { cases, coverage } = run_all(&groups, options.threads.max(1));
+    for line in coverage.lines() {
+        println!("{line}");
+    }
+    let (differences, seconds) = (judge::differences(), start.elapsed().as_secs_f64());
+    println!("total: {cases} cases, {differences} differences, {seconds:.1} s");
+    let whole = options.only.is_empty();
+    if whole && !coverage.is_complete() {
+        eprintln!("some outcome of document 01 never came up");
+        return ExitCode::FAILURE;
+    }
+    if differences == 0 {
+        ExitCode::SUCCESS
+    } else {
+        ExitCode::FAILURE
+    }
+}

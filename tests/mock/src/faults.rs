@@ -1,0 +1,667 @@
+//! Deliberate faults, one at a time: each is a program that breaks document 01
+//! in one way and keeps it otherwise. The comparison must find every one.
+
+use std::sync::OnceLock;
+
+use reference::call::{point_number, point_of, Call, Reply, INFINITY, REFUSED};
+use reference::curve::Curve;
+use reference::field::Field;
+use reference::generate;
+use reference::marked;
+use reference::poly::Poly;
+use reference::rules::R3;
+use reference::services::{self, Point};
+use reference::sheet::{self, kind, value, word, Certificate, KernelSheet, Question};
+use reference::sheet::{A_T, B_T, END, G, L, N, P};
+
+pub enum Fault {
+    /// Answers another call than the one that was made.
+    Input(fn(Call) -> Call),
+    /// Answers otherwise than the reference.
+    Output(fn(&Call, Reply) -> Reply),
+    /// Touches memory that it must leave alone.
+    Memory(fn(&Memory)),
+}
+
+/// What an entry was lent, and how it answered.
+pub struct Memory<'a> {
+    pub reply: &'a Reply,
+    pub sheet: *const u8,
+    pub bytes: usize,
+    /// The lent answer and its room; check and push have none.
+    pub answer: Option<(*mut u32, usize)>,
+}
+
+pub const FAULTS: &[(&str, Fault)] = &[
+    ("order-1-last", Fault::Output(order_1_last)),
+    ("order-3-4", Fault::Output(order_3_4)),
+    ("order-5-6", Fault::Output(order_5_6)),
+    ("order-6-7", Fault::Output(order_6_7)),
+    ("order-7-8", Fault::Output(order_7_8)),
+    ("order-9-10", Fault::Output(order_9_10)),
+    ("order-12-first", Fault::Output(order_12_first)),
+    ("bytes-cut-to-words", Fault::Input(bytes_cut_to_words)),
+    ("words-after-end", Fault::Input(words_after_end)),
+    ("end-value", Fault::Input(end_value)),
+    ("value-p", Fault::Input(value_p)),
+    ("coefficient-p", Fault::Input(coefficient_p)),
+    ("coefficient-kind", Fault::Input(coefficient_kind)),
+    ("codomain-swapped", Fault::Input(codomain_swapped)),
+    ("codomain-singular", Fault::Output(codomain_singular)),
+    ("prime-fermat", Fault::Output(prime_fermat)),
+    ("prime-of-low-bits", Fault::Input(prime_of_low_bits)),
+    ("degree-bound", Fault::Output(degree_bound)),
+    ("degree-255", Fault::Output(degree_255)),
+    ("room-ignored", Fault::Input(room_ignored)),
+    ("room-above-392", Fault::Input(room_above_392)),
+    ("sigma-once", Fault::Output(sigma_once)),
+    ("r2-not-asked", Fault::Output(r2_not_asked)),
+    ("r3-not-asked", Fault::Output(r3_not_asked)),
+    ("r3-to-degree-2l", Fault::Output(r3_to_degree_2l)),
+    ("r3-highest-only", Fault::Output(r3_highest_only)),
+    ("r3-at-two-points", Fault::Output(r3_at_two_points)),
+    ("solve-without-r3", Fault::Output(solve_without_r3)),
+    ("kernel-without-r3", Fault::Output(kernel_without_r3)),
+    ("hard-sheets-11", Fault::Output(hard_sheets_11)),
+    ("refuse-everything", Fault::Output(refuse_everything)),
+    ("fixed-certificate", Fault::Output(fixed_certificate)),
+    ("answer-unwritten", Fault::Output(answer_unwritten)),
+    ("answer-codomain-swapped", Fault::Output(answer_swapped)),
+    ("answer-last-word", Fault::Output(answer_last_word)),
+    ("count-one-more", Fault::Output(count_one_more)),
+    ("count-one-less", Fault::Output(count_one_less)),
+    ("push-infinity", Fault::Output(push_infinity)),
+    ("push-not-checked", Fault::Output(push_not_checked)),
+    ("push-off-curve", Fault::Output(push_off_curve)),
+    ("push-coordinates-reduced", Fault::Input(push_reduced)),
+    ("push-infinity-above", Fault::Input(push_infinity_above)),
+    ("push-negative", Fault::Output(push_negative)),
+    ("push-kernel-to-zero", Fault::Output(push_kernel_to_zero)),
+    ("push-plain-refusal", Fault::Output(push_plain_refusal)),
+    ("name-without-1728", Fault::Output(name_without_1728)),
+    ("name-singular", Fault::Output(name_singular)),
+    ("write-refused-first", Fault::Memory(write_refused_first)),
+    ("write-refused-last", Fault::Memory(write_refused_last)),
+    ("write-after-count", Fault::Memory(write_after_count)),
+    ("write-beyond-room", Fault::Memory(write_beyond_room)),
+    ("write-before-answer", Fault::Memory(write_before_answer)),
+    ("read-beyond-sheet", Fault::Memory(read_beyond_sheet)),
+    ("read-beyond-bytes", Fault::Memory(read_beyond_bytes)),
+    ("read-before-sheet", Fault::Memory(read_before_sheet)),
+    ("sheet-changed", Fault::Memory(sheet_changed)),
+];
+
+/// The fault that the environment names, if it names one.
+fn chosen() -> Option<&'static Fault> {
+    static CHOSEN: OnceLock<Option<&'static Fault>> = OnceLock::new();
+    *CHOSEN.get_or_init(|| {
+        let wanted = std::env::var("SAGEPLIERS_FAULT").ok()?;
+        let found = FAULTS.iter().find(|(name, _)| *name == wanted);
+        Some(&found.expect("SAGEPLIERS_FAULT names no fault").1)
+    })
+}
+
+/// The reference's reply, or that of the chosen fault.
+pub fn reply(call: Call) -> Reply {
+    match chosen() {
+        Some(Fault::Input(change)) => change(call).reply(),
+        Some(Fault::Output(change)) => {
+            let reply = call.reply();
+            change(&call, reply)
+        }
+        _ => call.reply(),
+    }
+}
+
+/// The chosen fault's way with memory, if it has one.
+pub fn touch(memory: &Memory) {
+    if let Some(Fault::Memory(touch)) = chosen() {
+        touch(memory);
+    }
+}
+
+/// The number of the first "no"; 0 if there is none.
+fn refusal(call: &Call, reply: &Reply) -> u32 {
+    match call {
+        Call::Check { .. } => reply.number as u32,
+        _ => reply.number.saturating_sub(REFUSED) as u32,
+    }
+}
+
+fn words(call: &Call) -> Vec<u32> {
+    match call {
+        Call::Check { bytes } | Call::Push { bytes, .. } => {
+            sheet::words_of(bytes).unwrap_or_default()
+        }
+        Call::Solve { sheet, .. } | Call::Kernel { sheet, .. } => sheet.clone(),
+        Call::Name { .. } => Vec::new(),
+    }
+}
+
+/// The value of the first word of a kind; 0 if there is none.
+fn first(call: &Call, wanted: u32) -> u64 {
+    let words = words(call);
+    let found = words.iter().find(|&&w| kind(w) == wanted);
+    found.map_or(0, |&w| value(w))
+}
+
+fn certificate(call: &Call) -> Option<Certificate> {
+    match call {
+        Call::Check { .. } | Call::Push { .. } => Certificate::read(&words(call)).ok(),
+        _ => None,
+    }
+}
+
+/// Changes the words of a sheet.
+fn with_words(mut call: Call, change: impl Fn(&mut Vec<u32>)) -> Call {
+    match &mut call {
+        Call::Check { bytes } | Call::Push { bytes, .. } => {
+            if let Ok(mut words) = sheet::words_of(bytes) {
+                change(&mut words);
+                *bytes = sheet::bytes_of(&words);
+            }
+        }
+        Call::Solve { sheet, .. } | Call::Kernel { sheet, .. } => change(sheet),
+        Call::Name { .. } => {}
+    }
+    call
+}
+
+fn with_room(mut call: Call, change: impl Fn(usize) -> usize) -> Call {
+    if let Call::Solve { room, .. } | Call::Kernel { room, .. } = &mut call {
+        *room = change(*room);
+    }
+    call
+}
+
+// The order of questions.
+
+fn order_1_last(call: &Call, reply: Reply) -> Reply {
+    if refusal(call, &reply) != 1 {
+        return reply;
+    }
+    let roomy = with_room(call.clone(), |_| sheet::LARGEST_CERTIFICATE).reply();
+    if roomy.words.is_empty() {
+        roomy
+    } else {
+        reply
+    }
+}
+
+/// The other number if both questions get a "no".
+fn instead(call: &Call, reply: Reply, first: u32, other: u32, also: bool) -> Reply {
+    if refusal(call, &reply) == first && also {
+        call.refusal(other)
+    } else {
+        reply
+    }
+}
+
+fn order_3_4(call: &Call, reply: Reply) -> Reply {
+    let also = sheet::ask_degree(first(call, L), first(call, P)).is_err();
+    let sheet = !matches!(call, Call::Name { .. });
+    instead(call, reply, 3, 4, sheet && also)
+}
+
+fn order_5_6(call: &Call, reply: Reply) -> Reply {
+    let count = words(call).len();
+    let also = match call {
+        Call::Solve { .. } => count != 8,
+        Call::Check { .. } => count != 3 * (first(call, L) as usize / 2) + 11,
+        _ => false,
+    };
+    instead(call, reply, 5, 6, also)
+}
+
+fn order_6_7(call: &Call, reply: Reply) -> Reply {
+    let also = first(call, 2) == 0 && first(call, 3) == 0;
+    instead(call, reply, 6, 7, also)
+}
+
+fn order_7_8(call: &Call, reply: Reply) -> Reply {
+    let last = words(call).into_iter().rfind(|&w| kind(w) == G);
+    let also = last.is_some_and(|w| value(w) != 1);
+    instead(call, reply, 7, 8, also)
+}
+
+fn order_9_10(call: &Call, reply: Reply) -> Reply {
+    let also = certificate(call).is_some_and(|c| {
+        let codomain = (c.question.a_t, c.question.b_t);
+        !R3::of(&c).holds(codomain.0, codomain.1)
+    });
+    instead(call, reply, 9, 10, also)
+}
+
+fn order_12_first(call: &Call, reply: Reply) -> Reply {
+    match call {
+        Call::Push { point, .. } if point_of(*point).is_none() => Reply::refused(12),
+        _ => reply,
+    }
+}
+
+// Reading sheets.
+
+fn bytes_cut_to_words(mut call: Call) -> Call {
+    if let Call::Check { bytes } | Call::Push { bytes, .. } = &mut call {
+        bytes.truncate(bytes.len() / 4 * 4);
+    }
+    call
+}
+
+fn words_after_end(call: Call) -> Call {
+    with_words(call, |words| {
+        if let Some(end) = words.iter().position(|&w| w == word(END, 0)) {
+            words.truncate(end + 1);
+        }
+    })
+}
+
+fn end_value(call: Call) -> Call {
+    with_words(call, |words| {
+        if let Some(last) = words.last_mut().filter(|w| kind(**w) == END) {
+            *last = word(END, 0);
+        }
+    })
+}
+
+/// Takes p for 0 in words of these kinds.
+fn p_is_zero(call: Call, kinds: &[u32]) -> Call {
+    let p = first(&call, P);
+    with_words(call, |words| {
+        for w in words.iter_mut() {
+            if kinds.contains(&kind(*w)) && value(*w) == p {
+                *w = word(kind(*w), 0);
+            }
+        }
+    })
+}
+
+fn value_p(call: Call) -> Call {
+    p_is_zero(call, &sheet::QUESTION_HEAD[1..])
+}
+
+fn coefficient_p(call: Call) -> Call {
+    p_is_zero(call, &[G, N])
+}
+
+fn coefficient_kind(call: Call) -> Call {
+    with_words(call, |words| {
+        if let Some(w) = words.get_mut(7).filter(|w| kind(**w) == N) {
+            *w = word(G, value(*w));
+        }
+    })
+}
+
+fn codomain_swapped(call: Call) -> Call {
+    with_words(call, |words| {
+        let (Some(&a), Some(&b)) = (words.get(3), words.get(4)) else {
+            return;
+        };
+        if (kind(a), kind(b)) == (A_T, B_T) {
+            words[3] = word(A_T, value(b));
+            words[4] = word(B_T, value(a));
+        }
+    })
+}
+
+fn codomain_singular(call: &Call, reply: Reply) -> Reply {
+    let (p, a, b) = (first(call, P), first(call, 2), first(call, 3));
+    if refusal(call, &reply) != 7 || p == 0 || sheet::ask_curve(p, a, b).is_err() {
+        return reply;
+    }
+    call.refusal(if certificate(call).is_some() { 10 } else { 11 })
+}
+
+// Questions 3, 4 and 1.
+
+fn prime_fermat(call: &Call, reply: Reply) -> Reply {
+    match call {
+        Call::Name { p, .. } if refusal(call, &reply) == 3 && p % 2 == 1 && *p > 11 => {
+            let ring = Field::new(u64::from(*p));
+            if ring.pow(2, u64::from(*p) - 1) == 1 {
+                Reply::number(0)
+            } else {
+                reply
+            }
+        }
+        _ => reply,
+    }
+}
+
+fn prime_of_low_bits(mut call: Call) -> Call {
+    if let Call::Name { p, .. } = &mut call {
+        *p %= 1 << sheet::VALUE_BITS;
+    }
+    call
+}
+
+fn degree_bound(call: &Call, reply: Reply) -> Reply {
+    let (p, l) = (first(call, P), first(call, L));
+    let equal = l >= 3 && l % 2 == 1 && 2 * l - 1 == p;
+    instead(call, reply, 4, 5, equal)
+}
+
+fn degree_255(call: &Call, reply: Reply) -> Reply {
+    let early = (1..4).contains(&refusal(call, &reply));
+    if first(call, L) == 255 && !early {
+        call.refusal(4)
+    } else {
+        reply
+    }
+}
+
+fn room_ignored(call: Call) -> Call {
+    with_room(call, |_| sheet::LARGEST_CERTIFICATE)
+}
+
+fn room_above_392(call: Call) -> Call {
+    with_room(call, |room| if room == 392 { 391 } else { room })
+}
+
+// Rules R1 to R3.
+
+fn sigma_once(call: &Call, reply: Reply) -> Reply {
+    match (call, certificate(call)) {
+        (Call::Check { .. }, Some(c)) => {
+            let (q, d) = (&c.question, c.question.d());
+            let once = q.field().neg(c.g[d - 1]);
+            if q.sigma != once {
+                call.refusal(8)
+            } else {
+                reply
+            }
+        }
+        _ => reply,
+    }
+}
+
+fn r2_not_asked(call: &Call, reply: Reply) -> Reply {
+    let Some(c) = certificate(call).filter(|_| refusal(call, &reply) == 9) else {
+        return reply;
+    };
+    let holds = R3::of(&c).holds(c.question.a_t, c.question.b_t);
+    call.refusal(if holds { 0 } else { 10 })
+}
+
+/// Check passes where R3 fails if the part that is looked at agrees.
+fn r3_in_part(call: &Call, reply: Reply, agrees: fn(&R3, &Question) -> bool) -> Reply {
+    let wrong = matches!(call, Call::Check { .. }) && refusal(call, &reply) == 10;
+    match certificate(call).filter(|_| wrong) {
+        Some(c) if agrees(&R3::of(&c), &c.question) => Reply::number(0),
+        _ => reply,
+    }
+}
+
+fn r3_not_asked(call: &Call, reply: Reply) -> Reply {
+    r3_in_part(call, reply, |_, _| true)
+}
+
+fn r3_to_degree_2l(call: &Call, reply: Reply) -> Reply {
+    r3_in_part(call, reply, |r3, q| {
+        (0..=2 * q.l as usize).all(|i| r3.difference_at(i, q.a_t, q.b_t) == 0)
+    })
+}
+
+fn r3_highest_only(call: &Call, reply: Reply) -> Reply {
+    r3_in_part(call, reply, |r3, q| {
+        let top = 3 * q.l as usize;
+        (top - q.d() - 2..=top).all(|i| r3.difference_at(i, q.a_t, q.b_t) == 0)
+    })
+}
+
+fn r3_at_two_points(call: &Call, reply: Reply) -> Reply {
+    r3_in_part(call, reply, |r3, q| {
+        let right = r3.n_g4.scale(q.a_t).add(&r3.g6.scale(q.b_t));
+        [0, 1].iter().all(|&x| r3.rest.value(x) == right.value(x))
+    })
+}
+
+fn solve_without_r3(call: &Call, reply: Reply) -> Reply {
+    match call {
+        Call::Solve { sheet, .. } if refusal(call, &reply) == 11 => {
+            let question = Question::read(sheet).expect("11 comes after 2 to 7");
+            Reply::written(services::recurrence_candidate(&question).words())
+        }
+        _ => reply,
+    }
+}
+
+fn kernel_without_r3(call: &Call, reply: Reply) -> Reply {
+    match call {
+        Call::Kernel { sheet, .. } if refusal(call, &reply) == 11 => {
+            let sheet = KernelSheet::read(sheet).expect("11 comes after 2 to 8");
+            let curve = Curve::new(sheet.p, sheet.a, sheet.b);
+            let g = Poly::new(curve.field, sheet.g);
+            Reply::written(generate::candidate(&curve, sheet.l, &g).words())
+        }
+        _ => reply,
+    }
+}
+
+// Answers of solve and kernel.
+
+/// Changes the reply of a call that wrote an answer.
+fn with_answer(mut reply: Reply, change: fn(&mut Reply)) -> Reply {
+    if !reply.words.is_empty() {
+        change(&mut reply);
+    }
+    reply
+}
+
+fn hard_sheets_11(call: &Call, reply: Reply) -> Reply {
+    if matches!(call, Call::Solve { .. }) && reply.words.len() > 100 {
+        Reply::refused(11)
+    } else {
+        reply
+    }
+}
+
+fn refuse_everything(call: &Call, _: Reply) -> Reply {
+    call.refusal(2)
+}
+
+fn fixed_certificate(_: &Call, reply: Reply) -> Reply {
+    with_answer(reply, |reply| {
+        *reply = Reply::written(marked::first().words());
+    })
+}
+
+fn answer_unwritten(_: &Call, reply: Reply) -> Reply {
+    with_answer(reply, |reply| reply.words.clear())
+}
+
+fn answer_swapped(_: &Call, reply: Reply) -> Reply {
+    with_answer(reply, |reply| {
+        let (a, b) = (value(reply.words[3]), value(reply.words[4]));
+        reply.words[3] = word(A_T, b);
+        reply.words[4] = word(B_T, a);
+    })
+}
+
+fn answer_last_word(_: &Call, reply: Reply) -> Reply {
+    with_answer(reply, |reply| {
+        reply.words.pop();
+    })
+}
+
+fn count_one_more(_: &Call, reply: Reply) -> Reply {
+    with_answer(reply, |reply| reply.number += 1)
+}
+
+fn count_one_less(_: &Call, reply: Reply) -> Reply {
+    with_answer(reply, |reply| reply.number -= 1)
+}
+
+// Push.
+
+/// Changes the image of an affine point that is accepted.
+fn with_image(call: &Call, reply: Reply, change: impl Fn(Certificate, Point) -> u64) -> Reply {
+    match (call, certificate(call)) {
+        (Call::Push { point, .. }, Some(c)) if refusal(call, &reply) == 0 => match point_of(*point)
+        {
+            Some(point @ Point::Affine(..)) => Reply::number(change(c, point)),
+            _ => reply,
+        },
+        _ => reply,
+    }
+}
+
+fn push_infinity(call: &Call, reply: Reply) -> Reply {
+    with_image(call, reply, |_, _| INFINITY)
+}
+
+fn push_not_checked(call: &Call, reply: Reply) -> Reply {
+    match (call, certificate(call)) {
+        (Call::Push { point, .. }, Some(c)) if (8..=10).contains(&refusal(call, &reply)) => {
+            let image = point_of(*point).map(|point| services::image(&c, point));
+            match image {
+                Some(Ok(image)) => Reply::number(point_number(image)),
+                _ => Reply::refused(12),
+            }
+        }
+        _ => reply,
+    }
+}
+
+fn push_off_curve(call: &Call, reply: Reply) -> Reply {
+    match call {
+        Call::Push { point, .. } if refusal(call, &reply) == 12 && *point < INFINITY => {
+            Reply::number(*point)
+        }
+        _ => reply,
+    }
+}
+
+fn push_reduced(mut call: Call) -> Call {
+    let p = first(&call, P).max(1);
+    if let Call::Push { point, .. } = &mut call {
+        if let Some(Point::Affine(u, v)) = point_of(*point) {
+            *point = point_number(Point::Affine(u % p, v % p));
+        }
+    }
+    call
+}
+
+fn push_infinity_above(mut call: Call) -> Call {
+    if let Call::Push { point, .. } = &mut call {
+        *point = (*point).min(INFINITY);
+    }
+    call
+}
+
+fn push_negative(call: &Call, reply: Reply) -> Reply {
+    let number = reply.number;
+    with_image(call, reply, |c, _| match point_of(number) {
+        Some(Point::Affine(u, v)) => point_number(Point::Affine(u, c.question.field().neg(v))),
+        _ => number,
+    })
+}
+
+fn push_kernel_to_zero(call: &Call, reply: Reply) -> Reply {
+    let number = reply.number;
+    with_image(
+        call,
+        reply,
+        |_, _| if number == INFINITY { 0 } else { number },
+    )
+}
+
+fn push_plain_refusal(call: &Call, reply: Reply) -> Reply {
+    match call {
+        Call::Push { .. } if reply.number > REFUSED => Reply::number(reply.number - REFUSED),
+        _ => reply,
+    }
+}
+
+// Name.
+
+fn name_without_1728(call: &Call, reply: Reply) -> Reply {
+    match call {
+        Call::Name { p, .. } if refusal(call, &reply) == 0 => {
+            let field = Field::new(u64::from(*p));
+            Reply::number(field.div(reply.number, field.of(1728)))
+        }
+        _ => reply,
+    }
+}
+
+fn name_singular(call: &Call, reply: Reply) -> Reply {
+    match call {
+        Call::Name { .. } if refusal(call, &reply) == 7 => Reply::number(0),
+        _ => reply,
+    }
+}
+
+// Memory. SAFETY of all of these: none, on purpose. The comparison lends
+// buffers whose surroundings it owns or has made inaccessible.
+
+fn flip<T: Copy + std::ops::Not<Output = T>>(place: *mut T) {
+    // SAFETY: see above.
+    unsafe { place.write_volatile(!place.read_volatile()) }
+}
+
+fn look(place: *const u8) {
+    // SAFETY: see above.
+    unsafe {
+        place.read_volatile();
+    }
+}
+
+fn write_refused_first(memory: &Memory) {
+    if let Some((answer, 1..)) = memory.answer {
+        if memory.reply.number > REFUSED {
+            flip(answer);
+        }
+    }
+}
+
+fn write_refused_last(memory: &Memory) {
+    if let Some((answer, room @ 1..)) = memory.answer {
+        if memory.reply.number > REFUSED {
+            flip(answer.wrapping_add(room - 1));
+        }
+    }
+}
+
+fn write_after_count(memory: &Memory) {
+    let count = memory.reply.words.len();
+    if let Some((answer, room)) = memory.answer {
+        if (1..room).contains(&count) {
+            flip(answer.wrapping_add(count));
+        }
+    }
+}
+
+fn write_beyond_room(memory: &Memory) {
+    if let Some((answer, room)) = memory.answer {
+        flip(answer.wrapping_add(room));
+    }
+}
+
+fn write_before_answer(memory: &Memory) {
+    if let Some((answer, _)) = memory.answer {
+        flip(answer.wrapping_sub(1));
+    }
+}
+
+fn read_beyond_sheet(memory: &Memory) {
+    if memory.answer.is_some() {
+        look(memory.sheet.wrapping_add(memory.bytes));
+    }
+}
+
+fn read_beyond_bytes(memory: &Memory) {
+    if memory.answer.is_none() {
+        look(memory.sheet.wrapping_add(memory.bytes));
+    }
+}
+
+fn read_before_sheet(memory: &Memory) {
+    look(memory.sheet.wrapping_sub(1));
+}
+
+fn sheet_changed(memory: &Memory) {
+    if memory.bytes > 0 {
+        flip(memory.sheet.cast_mut());
+    }
+}

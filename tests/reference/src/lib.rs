@@ -1,0 +1,25 @@
+//! An independent implementation of document 01: normalized isogenies of odd
+//! degree between elliptic curves over a prime field.
+//!
+//! It is written from that document alone and serves as the expectation in
+//! comparisons with the C library. It prefers the shortest route from the
+//! document's words to code; nothing here is tuned beyond what the tests need.
+//!
+//! Letters follow the document: curve (a, b) is y^2 = x^3 + ax + b, the codomain
+//! is (a_t, b_t), the degree is l = 2d + 1, and g, n, sigma are its g, N, sigma.
+
+#![forbid(unsafe_code)]
+
+pub mod brute;
+pub mod call;
+pub mod curve;
+pub mod field;
+pub mod generate;
+pub mod marked;
+pub mod poly;
+pub mod primes;
+pub mod random;
+pub mod rules;
+pub mod services;
+pub mod sheet;
+pub mod spoil;

@@ -1,0 +1,186 @@
+//! The rows of "The marked sheets and their neighbours" in document 01, and
+//! the output that it prints. Every expectation is copied from there; where it
+//! prints a g but no N, N is taken from R2.
+
+use crate::call::{point_number, Call, Reply};
+use crate::field::Field;
+use crate::poly::Poly;
+use crate::rules;
+use crate::services::{self, Point};
+use crate::sheet::{word, Certificate, KernelSheet, Question, B, END, P};
+
+pub struct Row {
+    pub name: &'static str,
+    pub call: Call,
+    pub reply: Reply,
+}
+
+/// What the answer program prints for the first question.
+pub const PRINTED: [&str; 14] = [
+    "100003f1", "20000001", "30000003", "40000109", "5000036d", "60000003", "7000002e", "800003da",
+    "80000001", "900003b5", "900002a6", "900003c3", "90000001", "f0000000",
+];
+
+/// Coefficients from the constant term up, of any sign.
+fn certificate(values: [u64; 7], g: &[i64], n: &[i64]) -> Certificate {
+    let question = Question::of(values);
+    let field = question.field();
+    services::certificate(question, &Poly::of(field, g), &Poly::of(field, n))
+}
+
+pub fn first() -> Certificate {
+    let values = [1009, 1, 3, 265, 877, 3, 46];
+    certificate(values, &[-23, 1], &[949, 678, 963, 1])
+}
+
+/// Degree 9; its kernel is not cyclic.
+pub fn not_cyclic() -> Certificate {
+    let question = Question::of([1009, 1, 3, 81, 169, 9, 0]);
+    let g = Poly::of(Field::new(1009), &[336, 12, 2, 0, 1]);
+    let n = rules::r2(1, 3, 9, 0, &g);
+    services::certificate(question, &g, &n)
+}
+
+pub fn smallest() -> Certificate {
+    certificate([11, 0, 1, 0, 6, 3, 0], &[0, 1], &[4, 0, 0, 1])
+}
+
+fn kernel_sheet(p: u64, a: u64, b: u64, l: u64, g: &[i64]) -> Vec<u32> {
+    let g = Poly::of(Field::new(p), g).coefficients().to_vec();
+    KernelSheet { p, a, b, l, g }.words()
+}
+
+pub fn rows() -> Vec<Row> {
+    let mut rows = marked();
+    rows.extend(neighbours());
+    rows
+}
+
+fn row(name: &'static str, call: Call, reply: Reply) -> Row {
+    Row { name, call, reply }
+}
+
+fn solved(name: &'static str, answer: &Certificate) -> Row {
+    let call = Call::solve(&answer.question.words());
+    row(name, call, Reply::written(answer.words()))
+}
+
+fn unsolved(name: &'static str, values: [u64; 7], number: u32) -> Row {
+    let call = Call::solve(&Question::of(values).words());
+    row(name, call, Reply::refused(number))
+}
+
+fn checked(name: &'static str, certificate: &Certificate, number: u32) -> Row {
+    let call = Call::check(&certificate.words());
+    row(name, call, Reply::number(u64::from(number)))
+}
+
+fn pushed(name: &'static str, through: &Certificate, from: (u64, u64), to: Point) -> Row {
+    let point = point_number(Point::Affine(from.0, from.1));
+    let call = Call::push(&through.words(), point);
+    row(name, call, Reply::number(point_number(to)))
+}
+
+fn marked() -> Vec<Row> {
+    let common_factor = certificate([11, 0, 1, 0, 1, 3, 2], &[-1, 1], &[0, 1, 9, 1]);
+    let wrong_codomain = certificate([11, 0, 1, 0, 7, 3, 0], &[0, 1], &[4, 0, 0, 1]);
+    vec![
+        solved("first question", &first()),
+        unsolved("sigma = 48", [1009, 1, 3, 265, 877, 3, 48], 11),
+        unsolved("b_t = 878", [1009, 1, 3, 265, 878, 3, 46], 11),
+        solved("kernel not cyclic", &not_cyclic()),
+        pushed(
+            "(1008, 1) through the first",
+            &first(),
+            (1008, 1),
+            Point::Affine(617, 44),
+        ),
+        solved("over 11", &smallest()),
+        pushed("(2, 3) over 11", &smallest(), (2, 3), Point::Affine(3, 0)),
+        pushed("(0, 1) over 11", &smallest(), (0, 1), Point::Infinity),
+        row(
+            "kernel g = x",
+            Call::kernel(&kernel_sheet(11, 0, 1, 3, &[0, 1])),
+            Reply::written(smallest().words()),
+        ),
+        row(
+            "kernel g = x - 1",
+            Call::kernel(&kernel_sheet(11, 0, 1, 3, &[-1, 1])),
+            Reply::refused(11),
+        ),
+        checked("9 though R3 holds", &common_factor, 9),
+        checked("wrong codomain", &wrong_codomain, 10),
+        checked("first certificate", &first(), 0),
+        checked("certificate of degree 9", &not_cyclic(), 0),
+        checked("certificate over 11", &smallest(), 0),
+    ]
+}
+
+fn neighbours() -> Vec<Row> {
+    let mut ninth_word = first().question.words();
+    ninth_word.push(word(END, 0));
+    let mut composite = first().words();
+    composite[0] = word(P, 1001);
+    let mut singular = first().words();
+    singular[1] = word(2, 0);
+    singular[2] = word(B, 0);
+    let leading_two = certificate(
+        [1009, 1, 3, 265, 877, 3, 46],
+        &[-23, 2],
+        &[949, 678, 963, 1],
+    );
+    let tight = Call::Solve {
+        sheet: first().question.words(),
+        room: 391,
+    };
+    let tight_kernel = Call::Kernel {
+        sheet: first().kernel_sheet().words(),
+        room: 391,
+    };
+    vec![
+        unsolved("p = 1001", [1001, 1, 3, 265, 877, 3, 46], 3),
+        row(
+            "p = 1001 on a certificate",
+            Call::check(&composite),
+            Reply::number(3),
+        ),
+        // a = p fails question 5, so question 4 was passed.
+        unsolved(
+            "l = 5 over 11 passes question 4",
+            [11, 11, 1, 0, 6, 5, 0],
+            5,
+        ),
+        unsolved("l = 7 over 11", [11, 0, 1, 0, 6, 7, 0], 4),
+        unsolved("l = 7 over 11 before a = p", [11, 11, 1, 0, 6, 7, 0], 4),
+        unsolved("l = 6", [1009, 1, 3, 265, 877, 6, 46], 4),
+        unsolved("a = p", [1009, 1009, 3, 265, 877, 3, 46], 5),
+        row("a ninth word", Call::solve(&ninth_word), Reply::refused(6)),
+        unsolved("a = b = 0", [1009, 0, 0, 265, 877, 3, 46], 7),
+        row(
+            "a = b = 0 on a certificate",
+            Call::check(&singular),
+            Reply::number(7),
+        ),
+        checked("leading 2", &leading_two, 8),
+        row(
+            "leading 2 on a kernel sheet",
+            Call::kernel(&kernel_sheet(1009, 1, 3, 3, &[-23, 2])),
+            Reply::refused(8),
+        ),
+        row("a buffer of 391", tight, Reply::refused(1)),
+        row(
+            "a buffer of 391 for kernel",
+            tight_kernel,
+            Reply::refused(1),
+        ),
+        row(
+            "name of (1, 3) over 1009",
+            Call::Name {
+                p: 1009,
+                a: 1,
+                b: 3,
+            },
+            Reply::number(269),
+        ),
+    ]
+}

@@ -1,0 +1,37 @@
+#!/bin/sh
+# Shows that the comparison can fail: it must pass against the faultless mock
+# and find every deliberate fault. Needs no library.
+set -eu
+cd "$(dirname "$0")"
+. ./environment.sh
+
+cargo build -q -j1 --release -p mock
+SAGEPLIERS_LIB_DIR=$CARGO_TARGET_DIR/release
+export SAGEPLIERS_LIB_DIR
+cargo build -q -j1 --release -p compare
+compare=$CARGO_TARGET_DIR/release/compare
+faults=$("$CARGO_TARGET_DIR/release/faults")
+log=$CARGO_TARGET_DIR/selftest.log
+
+unset SAGEPLIERS_FAULT
+"$compare" --quick
+echo "no fault: passed"
+
+missed=0
+found=0
+for fault in $faults; do
+    if SAGEPLIERS_FAULT=$fault "$compare" --quick >"$log" 2>&1; then
+        echo "$fault: MISSED"
+        missed=$((missed + 1))
+    elif grep -q '^DIFFERENCE' "$log"; then
+        where=$(sed -n 's/^DIFFERENCE.* in group \([^,]*\).*/\1/p' "$log" | sort -u | tr '\n' ';')
+        echo "$fault: found (${where%;})"
+        found=$((found + 1))
+    else
+        echo "$fault: the comparison broke down without a report"
+        cat "$log"
+        missed=$((missed + 1))
+    fi
+done
+echo "$found faults found, $missed missed"
+[ "$missed" -eq 0 ]
