@@ -4,3 +4,4 @@ pub mod Prime
 pub mod Natural
 pub mod Residues
 pub mod Fermat
+pub mod Calculation

@@ -38,7 +38,8 @@ evalN ρ (a :* b) = evalN ρ a * evalN ρ b
 evalN ρ (:- a) = 0
 evalN ρ (a :^ n) = evalN ρ a ^ n
 
-agree : (p : ℕ) (ρ : ℕ → ℕ) (e : Ex) → T (plain e) → mk p (evalN ρ e) ≡ eval (Zmod p) (λ i. mk p (ρ i)) e
+-- the class of an expression's value is the expression of the classes
+pub agree : (p : ℕ) (ρ : ℕ → ℕ) (e : Ex) → T (plain e) → mk p (evalN ρ e) ≡ eval (Zmod p) (λ i. mk p (ρ i)) e
 agree p ρ (var i) t = refl
 agree p ρ (num n) t = sym (cast-mk p n)
 agree p ρ :0 t = refl
