@@ -11,7 +11,7 @@ use Rattle.ring.specs.Ring
 use Rattle.ring.specs.Ring.{CRing, cast, cast-zero, cast-suc, pow, pow-zero, pow-suc}
 use Rattle.ring.specs.Identity.{Ex, eval, at, solve3}
 use Rattle.ring.specs.Identity.Ex.{var, num, :0, :1, _:+_, _:-_, _:*_, :-_, _:^_}
-use Rattle.series.specs.Series.{Series, Seq, conv, sums, negs, const, zeros, tail, conv-zero, conv-suc, conv-zeros, conv-const, ∂, ∂-at}
+use Rattle.series.specs.Series.{Series, Seq, conv, sums, negs, scaled, const, zeros, tail, conv-zero, conv-suc, conv-zeros, conv-const, ∂, ∂-at}
 use Rattle.ring.specs.Field.{Inverse, unit-cancel}
 
 module _ (R : CRing) where
@@ -32,6 +32,22 @@ module _ (R : CRing) where
       ∙ ap₂ _⊕_ (ap (λ x. a 0 ⊗ x) (hb (suc k) (omega arith)) ∙ Ring.mul-zero R _)
       (conv-below k m n (tail R a) b (λ i g. ha (suc i) (omega arith)) hb (omega arith))
       ∙ add-zero 𝟘
+
+  -- bounds of what is made of polynomials
+  pub below-mono : (m n : ℕ) (a : Seq R) → m ≤ n → Below m a → Below n a
+  below-mono m n a l h i g = h i (omega arith)
+
+  pub sums-below : (n : ℕ) (a b : Seq R) → Below n a → Below n b → Below n (sums R a b)
+  sums-below n a b ha hb i l = ap₂ _⊕_ (ha i l) (hb i l) ∙ add-zero 𝟘
+
+  pub negs-below : (n : ℕ) (a : Seq R) → Below n a → Below n (negs R a)
+  negs-below n a h i l = ap neg (h i l) ∙ Ring.neg-zero R
+
+  pub scaled-below : (n : ℕ) (c : Car) (a : Seq R) → Below n a → Below n (scaled R c a)
+  scaled-below n c a h i l = ap (λ x. c ⊗ x) (h i l) ∙ Ring.mul-zero R c
+
+  pub product-below : (m n : ℕ) (a b : Seq R) → Below m a → Below n b → Below (m + n) (conv R a b)
+  product-below m n a b ha hb i l = conv-below i m n a b ha hb l
 
   -- a polynomial: zero from some place on
   abbrev pub Poly : Seq R → Type 0

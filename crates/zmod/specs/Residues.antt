@@ -2,18 +2,19 @@
 -- are the words of xs, the constant term first. `Residues p a xs`: the words of xs are the residues of the first coefficients of the polynomial a.
 -- Contracts of code modulo p are stated with these three.
 -- Assumes nothing.
-use mathlib.Core.Path.{_≡_, refl, sym, _∙_, ap, fun-ext}
-use mathlib.Core.List.{List}
+use mathlib.Core.Path.{_≡_, refl, sym, _∙_, ap, subst, fun-ext}
+use mathlib.Core.List.{List, _++_}
 use Prim.Native.Nat.{ℕ, _≤_, _<_, _%_}
 use native.Mathlib.Nat as N
 use native.Mathlib.Decide.{decLt}
 use native.Mathlib.Omega.{arith}
-use lib.ListN.{length, getD, take, length-take, List·getD-eq-default}
-use lib.Seq.{ext-getD, getD-take}
+use lib.ListN.{length, getD, take, replicate, length-take, length-replicate, getD-replicate, List·getD-eq-default}
+use lib.Seq.{ext-getD, getD-take, take-at}
 use Rattle.slices.specs.Filling.{Filled}
-use Rattle.series.specs.Series.{Seq}
+use Rattle.series.specs.Series.{Seq, conv, sums, scaled, zeros}
+use Rattle.series.specs.Local.{conv-local}
 use Rattle.series.specs.Degree.{Below}
-use Rattle.zmod.specs.Zmod.{Elt, Zmod, val, mk, mk-val, mk-mod, mk-apart, val-lt}
+use Rattle.zmod.specs.Zmod.{Elt, Zmod, val, mk, plus, times, mk-val, mk-mod, mk-apart, val-lt}
 
 -- the number below p that is in the class x
 pub record Residue (p : ℕ) (x : Elt p) (r : ℕ) : Type 0 where
@@ -95,3 +96,44 @@ reduced-take {p} xs pos n h i = go (decLt i n)
     go (no l) =
         let z : getD (take n xs) i 0 ≡ 0 = List·getD-eq-default (take n xs) 0 (omega (arith, length-take n xs)) in
         omega arith
+
+-- ── what callers chain: a slice that was filled stands for its polynomial in what is made of it next
+
+pub poly-below : (p : ℕ) (xs : List ℕ) (n : ℕ) → length xs ≤ n → Below (Zmod p) n (poly p xs)
+poly-below p xs n le i l = poly-past p xs i (omega arith)
+
+-- a and b need to agree only as far as the slice goes
+pub residues-upto : {p : ℕ} {a b : Seq (Zmod p)} {xs : List ℕ} → ((i : ℕ) → i < length xs → a i ≡ b i) → Residues p a xs → Residues p b xs
+residues-upto e h = record { reduced = h .reduced; coefficients = λ i l. h .coefficients i l ∙ e i l }
+
+-- so an operand may be known by its front alone
+pub residues-sums : {p : ℕ} {a : Seq (Zmod p)} {xs ys : List ℕ} (b : Seq (Zmod p)) → length ys ≤ length xs → Residues p a xs
+    → Residues p (sums (Zmod p) (poly p xs) b) ys → Residues p (sums (Zmod p) a b) ys
+residues-sums {p} b le h = residues-upto (λ i l. ap (λ x. plus p x (b i)) (h .coefficients i (omega arith)))
+
+pub residues-scaled : {p : ℕ} {a : Seq (Zmod p)} {xs ys : List ℕ} (c : Elt p) → length ys ≤ length xs → Residues p a xs
+    → Residues p (scaled (Zmod p) c (poly p xs)) ys → Residues p (scaled (Zmod p) c a) ys
+residues-scaled {p} c le h = residues-upto (λ i l. ap (times p c) (h .coefficients i (omega arith)))
+
+pub residues-conv : {p : ℕ} {a b : Seq (Zmod p)} {xs ys zs : List ℕ} → length zs ≤ length xs → length zs ≤ length ys → Residues p a xs → Residues p b ys
+    → Residues p (conv (Zmod p) (poly p xs) (poly p ys)) zs → Residues p (conv (Zmod p) a b) zs
+residues-conv {p} {a} {b} {xs} {ys} lx ly ha hb =
+    residues-upto (λ i l. conv-local (Zmod p) i (poly p xs) a (poly p ys) b (λ j g. ha .coefficients j (omega arith)) (λ j g. hb .coefficients j (omega arith)))
+
+-- the front of a slice, and a slice of zeros
+pub residues-take : {p : ℕ} {a : Seq (Zmod p)} {xs : List ℕ} → 0 < p → (n : ℕ) → Residues p a xs → Residues p a (take n xs)
+residues-take {p} {a} {xs} pos n h = record {
+  reduced = reduced-take xs pos n (h .reduced);
+  coefficients = λ i l.
+      poly-at p (take n xs) i ∙ ap (mk p) (getD-take n xs i 0 (omega (arith, length-take n xs))) ∙ sym (poly-at p xs i)
+      ∙ h .coefficients i (omega (arith, length-take n xs));
+}
+
+pub residues-zeros : {p : ℕ} → 0 < p → (n : ℕ) → Residues p (zeros (Zmod p)) (replicate n 0)
+residues-zeros {p} pos n = residues-filled {a = zeros (Zmod p)} pos (λ j l.
+    let e : getD (replicate n 0) j 0 ≡ 0 = getD-replicate n j 0 0 (omega (arith, length-replicate {A = ℕ} n 0)) in
+    record { below = omega arith; class = ap (mk p) e })
+
+-- a part that was lent, filled and came back: the front of the whole is what the part was filled with
+pub residues-part : {p : ℕ} {a : Seq (Zmod p)} {part : List ℕ} (rest : List ℕ) (n : ℕ) → length part ≡ n → Residues p a part → Residues p a (take n (part ++ rest))
+residues-part {p} {a} {part} rest n e h = subst (Residues p a) (sym (take-at part rest n e)) h

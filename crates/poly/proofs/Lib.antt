@@ -1,0 +1,5 @@
+pub mod Sums
+pub mod Stored
+pub mod Horner
+pub mod Twins
+pub mod Laws
