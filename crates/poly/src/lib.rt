@@ -25,7 +25,7 @@ fn most(x: usize, y: usize) -> usize
 }
 
 // x - y, or 0 where y is larger.
-fn over(x: usize, y: usize) -> usize
+pub fn over(x: usize, y: usize) -> usize
     ensures { λ r. ⌜ r ≡ x - y ⌝ }
 {
     if x < y { 0 } else { x - y }
@@ -75,7 +75,7 @@ fn span(
 }
 
 // `start` plus the coefficient k of the product.
-fn coefficient(start: u32, a: &[u32], b: &[u32], k: usize, p: u32) -> u32
+pub fn coefficient(start: u32, a: &[u32], b: &[u32], k: usize, p: u32) -> u32
     requires { ⌜ (start < p) × (p ≤ 2 ^ 28) × (k < 2 ^ 63) ⌝ }
     requires { ⌜ (Reduced p (now a)) × (Reduced p (now b)) ⌝ }
     ensures { λ r. ⌜ Residue p (plus p (mk p start) (conv (Zmod p) (poly p (now (a .entry))) (poly p (now (b .entry))) k)) r ⌝ }
@@ -112,7 +112,7 @@ pub fn add_product(a: &[u32], b: &[u32], out: &mut [u32], p: u32)
 }
 
 // The word at i, 0 past the end.
-fn word(a: &[u32], i: usize) -> u32
+pub fn word(a: &[u32], i: usize) -> u32
     ensures { λ r. ⌜ r ≡ getD (now (a .entry)) i 0 ⌝ }
 {
     if i < a.len() { a[i] } else { 0 }

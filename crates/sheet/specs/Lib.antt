@@ -1,6 +1,8 @@
 pub mod Word
 pub mod Form
+pub mod Place
 pub mod FirstNo
 pub mod Asked
 pub mod Reading
+pub mod Leaf
 pub mod Certificate

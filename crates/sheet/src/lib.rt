@@ -1,4 +1,21 @@
 // Sheets: words, kinds and values; the three forms; questions 2 to 7 put to a sheet; and the writer of certificates.
+ghost use mathlib.Core.Path.{_≡_};
+ghost use mathlib.Core.Logic.{_↔_};
+ghost use mathlib.Core.Bool.{true};
+ghost use Prim.Native.Nat.{_+_, _-_, _*_, _^_, _<_, _≤_};
+ghost use mathlib.Core.List.{_++_, map};
+ghost use lib.ListN.{length, take, drop};
+ghost use lib.Seq.{paste};
+ghost use Rattle.zmod.specs.Zmod.{Zmod, mk};
+ghost use Rattle.zmod.specs.Residues.{Residue, Reduced};
+ghost use Rattle.isogeny.specs.Curve.{discriminant, Nonsingular};
+ghost use Rattle.sheet.specs.Word.{kindOf, valueOf, word, wordAt, wordsOf};
+ghost use Rattle.sheet.specs.Form.{entry, half};
+ghost use Rattle.sheet.specs.Place.{placeOf, columnOf, Cell};
+ghost use Rattle.sheet.specs.Asked.{Asked2, Asked6};
+ghost use Rattle.sheet.specs.Reading.{valuesOf, Right};
+ghost use Rattle.sheet.specs.Certificate.{headerWords, valueAt, ValuesFit, Writable, Written};
+ghost use Rattle.sheet.specs.Leaf.{Stands, PrimeAllowed, DegreeAllowed, ValuesBelow, Section, Curves};
 
 // The form in which a sheet is read.
 pub enum Form {
@@ -22,4 +39,369 @@ pub struct Values {
 pub enum Reading {
     Accepted(Values),
     Refused(u32),
+}
+
+// For each kind, and in each of the forms question, certificate, kernel sheet: the place of its first word at d = 0, and how far each
+// step of d moves it. 255 is nowhere.
+const PLACES: [[[u8; 2]; 3]; 16] = [
+    [[255, 0], [255, 0], [255, 0]],
+    [[0, 0], [0, 0], [0, 0]],
+    [[1, 0], [1, 0], [1, 0]],
+    [[2, 0], [2, 0], [2, 0]],
+    [[3, 0], [3, 0], [255, 0]],
+    [[4, 0], [4, 0], [255, 0]],
+    [[5, 0], [5, 0], [3, 0]],
+    [[6, 0], [6, 0], [255, 0]],
+    [[255, 0], [7, 0], [4, 0]],
+    [[255, 0], [8, 1], [255, 0]],
+    [[255, 0], [255, 0], [255, 0]],
+    [[255, 0], [255, 0], [255, 0]],
+    [[255, 0], [255, 0], [255, 0]],
+    [[255, 0], [255, 0], [255, 0]],
+    [[255, 0], [255, 0], [255, 0]],
+    [[7, 0], [10, 3], [5, 1]],
+];
+
+fn column(form: Form) -> usize
+    ensures { λ r. ⌜ (r ≡ columnOf form) × (r < 3) ⌝ }
+{
+    match form {
+        Form::Question => 0,
+        Form::Certificate => 1,
+        Form::Kernel => 2,
+    }
+}
+
+fn size(x: u8) -> usize
+    ensures { λ r. ⌜ (r ≡ x) × (r < 256) ⌝ }
+{
+    x as usize
+}
+
+// A number of the table: part 0 is the place at d = 0, part 1 how far a step of d moves it.
+fn cell(form: Form, kind: usize, part: usize) -> usize
+    requires { ⌜ (kind < 16) × (part < 2) ⌝ }
+    ensures { λ r. ⌜ Cell form kind part r ⌝ }
+{
+    size(PLACES[kind][column(form)][part])
+}
+
+// The place of the first word of a kind in a sheet of degree 2 d + 1, or `none` where the form has no such word.
+pub fn place(form: Form, kind: usize, d: usize, none: usize) -> usize
+    requires { ⌜ (kind < 16) × (d ≤ 2 ^ 28) ⌝ }
+    ensures { λ r. ⌜ r ≡ placeOf form kind d none ⌝ }
+{
+    let at = cell(form, kind, 0);
+    if at == 255 {
+        return none;
+    }
+    at + cell(form, kind, 1) * d
+}
+
+pub fn kind(w: u32) -> usize
+    ensures { λ r. ⌜ r ≡ kindOf w ⌝ }
+{
+    (w >> 28) as usize
+}
+
+pub fn value(w: u32) -> u32
+    ensures { λ r. ⌜ r ≡ valueOf w ⌝ }
+{
+    w % 268435456
+}
+
+// The value of the header's word of a kind; 0 where the form has no such word, or the sheet ends before it.
+pub fn entry_of(form: Form, kind: usize, ws: &[u32]) -> u32
+    requires { ⌜ kind < 8 ⌝ }
+    ensures { λ r. ⌜ (r ≡ entry form kind (now (ws .entry))) × (r < 2 ^ 28) ⌝ }
+{
+    let at = place(form, kind, 0, ws.len());
+    if at < ws.len() { value(ws[at]) } else { 0 }
+}
+
+// d = (ℓ − 1) / 2
+pub fn half_of(form: Form, ws: &[u32]) -> usize
+    ensures { λ r. ⌜ (r ≡ half form (now (ws .entry))) × (r < 2 ^ 27) ⌝ }
+{
+    let l = entry_of(form, 6, ws);
+    if l == 0 { 0 } else { ((l - 1) / 2) as usize }
+}
+
+pub fn values_of(form: Form, ws: &[u32]) -> Values
+    ensures { λ r. ⌜ (r ≡ valuesOf form (now (ws .entry))) × (r .p < 2 ^ 28) ⌝ }
+{
+    Values {
+        p: entry_of(form, 1, ws),
+        a: entry_of(form, 2, ws),
+        b: entry_of(form, 3, ws),
+        atilde: entry_of(form, 4, ws),
+        btilde: entry_of(form, 5, ws),
+        degree: entry_of(form, 6, ws),
+        sigma: entry_of(form, 7, ws),
+    }
+}
+
+// Whether the word of a kind is there, if the form has one.
+fn has_kind(form: Form, k: usize, ws: &[u32]) -> bool
+    requires { ⌜ k < 8 ⌝ }
+    ensures { λ r. ⌜ (r ≡ true) ↔ Stands form k (now (ws .entry)) ⌝ }
+{
+    let at = place(form, k, 0, 255);
+    if at == 255 {
+        return true;
+    }
+    if ws.len() <= at {
+        return false;
+    }
+    kind(ws[at]) == k
+}
+
+// Question 2.
+pub fn headed(form: Form, ws: &[u32]) -> bool
+    ensures { λ r. ⌜ (r ≡ true) ↔ Asked2 form (now (ws .entry)) ⌝ }
+{
+    for k in 1..8 {
+        if !has_kind(form, k, ws) {
+            return false;
+        }
+    }
+    true
+}
+
+// Question 3.
+pub fn prime_allowed(p: u32) -> bool
+    ensures { λ r. ⌜ (r ≡ true) ↔ PrimeAllowed p ⌝ }
+{
+    if p < 11 {
+        return false;
+    }
+    field::is_prime(p)
+}
+
+// Question 4.
+pub fn degree_allowed(l: u32, p: u32) -> bool
+    ensures { λ r. ⌜ (r ≡ true) ↔ DegreeAllowed l p ⌝ }
+{
+    if l % 2 == 0 {
+        return false;
+    }
+    if l < 3 {
+        return false;
+    }
+    if 255 < l {
+        return false;
+    }
+    2 * l - 1 < p
+}
+
+// Question 5.
+pub fn values_below(v: Values) -> bool
+    ensures { λ r. ⌜ (r ≡ true) ↔ ValuesBelow v ⌝ }
+{
+    if v.p <= v.a {
+        return false;
+    }
+    if v.p <= v.b {
+        return false;
+    }
+    if v.p <= v.atilde {
+        return false;
+    }
+    if v.p <= v.btilde {
+        return false;
+    }
+    v.sigma < v.p
+}
+
+// Whether the words from `from` up to `to` are of kind k, with values below p.
+fn section(ws: &[u32], from: usize, to: usize, k: usize, p: u32) -> bool
+    requires { ⌜ to ≤ length (now ws) ⌝ }
+    ensures { λ r. ⌜ (r ≡ true) ↔ Section (now (ws .entry)) from to k p ⌝ }
+{
+    for i in from..to {
+        if kind(ws[i]) != k {
+            return false;
+        }
+        if p <= value(ws[i]) {
+            return false;
+        }
+    }
+    true
+}
+
+// Question 6.
+pub fn exact(form: Form, ws: &[u32]) -> bool
+    ensures { λ r. ⌜ (r ≡ true) ↔ Asked6 form (now (ws .entry)) ⌝ }
+{
+    let p = entry_of(form, 1, ws);
+    let d = half_of(form, ws);
+    let end = place(form, 15, d, 0);
+    if ws.len() != end + 1 {
+        return false;
+    }
+    if ws[end] != 0xF0000000 {
+        return false;
+    }
+    let n = place(form, 9, d, end);
+    let g = place(form, 8, d, end);
+    if !section(ws, g, n, 8, p) {
+        return false;
+    }
+    section(ws, n, end, 9, p)
+}
+
+// The residue of 4 a³ + 27 b².
+pub fn discriminant_of(a: u32, b: u32, p: u32) -> u32
+    requires { ⌜ (0 < p) × (p ≤ 2 ^ 28) ⌝ }
+    ensures { λ r. ⌜ Residue p (discriminant (Zmod p) (mk p a) (mk p b)) r ⌝ }
+{
+    let cube = field::multiply(field::multiply(a, a, p), a, p);
+    let square = field::multiply(b, b, p);
+    field::add(
+        field::multiply(4, cube, p),
+        field::multiply(27, square, p),
+        p,
+    )
+}
+
+pub fn nonsingular(a: u32, b: u32, p: u32) -> bool
+    requires { ⌜ (0 < p) × (p ≤ 2 ^ 28) ⌝ }
+    ensures { λ r. ⌜ (r ≡ true) ↔ Nonsingular (Zmod p) (mk p a) (mk p b) ⌝ }
+{
+    discriminant_of(a, b, p) != 0
+}
+
+// Question 7: of the domain, and of the codomain where the form has one.
+pub fn curves(form: Form, v: Values) -> bool
+    requires { ⌜ (0 < v .p) × (v .p ≤ 2 ^ 28) ⌝ }
+    ensures { λ r. ⌜ (r ≡ true) ↔ Curves form v ⌝ }
+{
+    if !nonsingular(v.a, v.b, v.p) {
+        return false;
+    }
+    if let Form::Kernel = form {
+        return true;
+    }
+    nonsingular(v.atilde, v.btilde, v.p)
+}
+
+// Questions 2 to 7, in document 01's order.
+pub fn read(form: Form, ws: &[u32]) -> Reading
+    ensures { λ r. ⌜ Right form (now (ws .entry)) r ⌝ }
+{
+    if !headed(form, ws) {
+        return Reading::Refused(2);
+    }
+    let v = values_of(form, ws);
+    if !prime_allowed(v.p) {
+        return Reading::Refused(3);
+    }
+    if !degree_allowed(v.degree, v.p) {
+        return Reading::Refused(4);
+    }
+    if !values_below(v) {
+        return Reading::Refused(5);
+    }
+    if !exact(form, ws) {
+        return Reading::Refused(6);
+    }
+    if !curves(form, v) {
+        return Reading::Refused(7);
+    }
+    Reading::Accepted(v)
+}
+
+// The values of the words from `from` on, as many as `out` has room for.
+pub fn coefficients(ws: &[u32], from: usize, out: &mut [u32])
+    requires { ⌜ from + length (now out) ≤ length (now ws) ⌝ }
+    ensures { λ _. ⌜ now (out .exit) ≡ map valueOf (take (length (now (out .entry))) (drop from (now (ws .entry)))) ⌝ }
+{
+    for i in 0..out.len() {
+        out[i] = value(ws[from + i]);
+    }
+}
+
+fn byte(x: u8) -> u32
+    ensures { λ r. ⌜ (r ≡ x) × (r < 256) ⌝ }
+{
+    x as u32
+}
+
+// A word from its four bytes, the lowest first.
+fn word_at(bytes: &[u8], i: usize) -> u32
+    requires { ⌜ 4 * i + 3 < length (now bytes) ⌝ }
+    ensures { λ r. ⌜ r ≡ wordAt (now (bytes .entry)) i ⌝ }
+{
+    let at = 4 * i;
+    byte(bytes[at])
+        + 256 * byte(bytes[at + 1])
+        + 65536 * byte(bytes[at + 2])
+        + 16777216 * byte(bytes[at + 3])
+}
+
+// The first words of a run of bytes, as many as `out` has room for.
+pub fn load(bytes: &[u8], out: &mut [u32])
+    requires { ⌜ 4 * length (now out) ≤ length (now bytes) ⌝ }
+    ensures { λ _. ⌜ now (out .exit) ≡ take (length (now (out .entry))) (wordsOf (now (bytes .entry))) ⌝ }
+{
+    for i in 0..out.len() {
+        out[i] = word_at(bytes, i);
+    }
+}
+
+fn word_of(kind: usize, value: u32) -> u32
+    requires { ⌜ (kind < 16) × (value < 2 ^ 28) ⌝ }
+    ensures { λ r. ⌜ r ≡ word kind value ⌝ }
+{
+    (kind as u32) * 268435456 + value
+}
+
+// The value of a header's word of kind k.
+fn header_value(v: Values, k: usize) -> u32
+    requires { ⌜ (1 ≤ k) × (k < 8) ⌝ }
+    ensures { λ r. ⌜ r ≡ valueAt v k ⌝ }
+{
+    match k {
+        1 => v.p,
+        2 => v.a,
+        3 => v.b,
+        4 => v.atilde,
+        5 => v.btilde,
+        6 => v.degree,
+        _ => v.sigma,
+    }
+}
+
+fn write_header(v: Values, out: &mut [u32])
+    requires { ⌜ (7 ≤ length (now out)) × ValuesFit v ⌝ }
+    ensures { λ _. ⌜ now (out .exit) ≡ headerWords v ++ drop 7 (now (out .entry)) ⌝ }
+{
+    for k in 1..8 {
+        let at = place(Form::Certificate, k, 0, 0);
+        out[at] = word_of(k, header_value(v, k));
+    }
+}
+
+// The words of kind k with the values xs, from `from` on.
+fn write_section(k: usize, xs: &[u32], from: usize, out: &mut [u32])
+    requires { ⌜ (k < 16) × (from + length (now xs) ≤ length (now out)) × Reduced (2 ^ 28) (now xs) ⌝ }
+    ensures { λ _. ⌜ now (out .exit) ≡ paste (now (out .entry)) from (map (word k) (now (xs .entry))) (length (now (xs .entry))) ⌝ }
+{
+    for i in 0..xs.len() {
+        out[from + i] = word_of(k, xs[i]);
+    }
+}
+
+// The words of a certificate, to the front of `out`; the rest of it stays. The answer is their count.
+pub fn write(v: Values, g: &[u32], n: &[u32], out: &mut [u32]) -> usize
+    requires { ⌜ Writable v (now g) (now n) (length (now out)) ⌝ }
+    ensures { λ r. ⌜ Written v (now (g .entry)) (now (n .entry)) (now (out .entry)) (now (out .exit)) r ⌝ }
+{
+    let d = g.len() - 1;
+    write_header(v, out);
+    write_section(8, g, place(Form::Certificate, 8, d, 0), out);
+    write_section(9, n, place(Form::Certificate, 9, d, 0), out);
+    let end = place(Form::Certificate, 15, d, 0);
+    out[end] = word_of(15, 0);
+    end + 1
 }

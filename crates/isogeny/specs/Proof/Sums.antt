@@ -71,7 +71,7 @@ module _ (R : CRing) where
   -- ── the power sums are what obeys Newton's identities
 
   module _ (d : ℕ) where
-    newton-local : (g : Seq R) → Local Car (newton-step R d g)
+    pub newton-local : (g : Seq R) → Local Car (newton-step R d g)
     unfolding newton-step
     newton-local g zero a b e = refl
     newton-local g (suc k) a b e =
@@ -82,7 +82,7 @@ module _ (R : CRing) where
     unfolding power-sums
     sums-obey g = fix-is Car 𝟘 (newton-step R d g) (newton-local g)
 
-    sums-step : (g s : Seq R) (n : ℕ) → ((i : ℕ) → i < n → s i ≡ newton-step R d g i s) → Before Car n s (power-sums R d g)
+    pub sums-step : (g s : Seq R) (n : ℕ) → ((i : ℕ) → i < n → s i ≡ newton-step R d g i s) → Before Car n s (power-sums R d g)
     unfolding power-sums
     sums-step g s n = fix-only Car 𝟘 (newton-step R d g) (newton-local g) n s
 

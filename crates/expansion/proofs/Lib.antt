@@ -1,0 +1,6 @@
+pub mod Stores
+pub mod Parts
+pub mod Causal
+pub mod Products
+pub mod Steps
+pub mod Only

@@ -1,0 +1,62 @@
+-- Document 01's sums as coefficients of products of parts: a and b are the sequences from some place on.
+-- Assumes nothing.
+use mathlib.Core.Path.{_≡_, refl, _∙_, ap, ap₂}
+use Prim.Native.Nat.{ℕ, zero, suc, _+_, _*_, _-_, _≤_, _<_}
+use native.Mathlib.Omega.{arith}
+use Rattle.ring.specs.Ring
+use Rattle.ring.specs.Ring.{CRing, cast}
+use Rattle.series.specs.Series.{Seq, conv, sum, conv-sum, sum-suc, sum-same}
+use Rattle.series.specs.Reversal.{rev}
+use Rattle.isogeny.specs.Expansion.{sum-to, newton-step, expansion, from-sums}
+
+module _ (R : CRing) where
+  open CRing R using (Car, 𝟘, add as _⊕_, mul as _⊗_, neg, add-zero)
+
+  infixl 65 _⊕_
+  infixl 70 _⊗_
+  -- a coefficient by its terms
+  conv-terms : (a b f : Seq R) (n : ℕ) → ((i : ℕ) → i ≤ n → a i ⊗ b (n - i) ≡ f i) → conv R a b n ≡ sum R f (suc n)
+  conv-terms a b f n h = conv-sum R a b n ∙ sum-same R (λ i. a i ⊗ b (n - i)) f (suc n) (λ i l. h i (omega arith))
+
+  -- the sum of s_i c_(k − i), i from 1 to k − 1: a is s₁ .. s_(k − 1)
+  pub newton-part : (s c a : Seq R) (k : ℕ) → 1 ≤ k → ((i : ℕ) → i < k - 1 → a i ≡ s (1 + i)) → a (k - 1) ≡ 𝟘
+      → conv R a c (k - 1) ≡ sum-to R (λ i. s i ⊗ c (k - i)) (k - 1)
+  newton-part s c a k l h z =
+      conv-sum R a c (k - 1) ∙ sum-suc R (λ i. a i ⊗ c (k - 1 - i)) (k - 1)
+      ∙ ap₂ _⊕_
+      (sum-same R (λ i. a i ⊗ c (k - 1 - i)) (λ i. s (suc i) ⊗ c (k - suc i)) (k - 1)
+      (λ i m. ap₂ _⊗_ (h i m ∙ ap s (omega arith)) (ap c (omega arith))))
+      (ap (λ x. x ⊗ c (k - 1 - (k - 1))) z ∙ Ring.zero-mul R _)
+      ∙ add-zero _
+
+  -- i from 1 to k: a is s from 1 on, to k at least, and b is c up to k − 1
+  pub newton-whole : (s c a b : Seq R) (k : ℕ) → 1 ≤ k → ((i : ℕ) → i < k → a i ≡ s (1 + i)) → ((i : ℕ) → i < k → b i ≡ c i)
+      → conv R a b (k - 1) ≡ sum-to R (λ i. s i ⊗ c (k - i)) k
+  newton-whole s c a b k l ha hb =
+      conv-terms a b (λ i. s (suc i) ⊗ c (k - suc i)) (k - 1)
+      (λ i m. ap₂ _⊗_ (ha i (omega arith) ∙ ap s (omega arith)) (hb (k - 1 - i) (omega arith) ∙ ap c (omega arith)))
+      ∙ ap (sum R (λ i. s (suc i) ⊗ c (k - suc i))) (omega arith)
+
+  -- the sum of h_i h_(k − 1 − i), i from 1 to k − 2: a is h₁ .. h_(k − 2)
+  pub square-part : (h a : Seq R) (k : ℕ) → 3 ≤ k → ((i : ℕ) → i < k - 2 → a i ≡ h (1 + i))
+      → conv R a a (k - 3) ≡ sum-to R (λ i. h i ⊗ h (k - 1 - i)) (k - 2)
+  square-part h a k l e =
+      conv-terms a a (λ i. h (suc i) ⊗ h (k - 1 - suc i)) (k - 3)
+      (λ i m. ap₂ _⊗_ (e i (omega arith) ∙ ap h (omega arith)) (e (k - 3 - i) (omega arith) ∙ ap h (omega arith)))
+      ∙ ap (sum R (λ i. h (suc i) ⊗ h (k - 1 - suc i))) (omega arith)
+
+  -- definitions by cases, above 0
+  pub newton-step-at : (d : ℕ) (g s : Seq R) (k : ℕ) → 1 ≤ k
+      → newton-step R d g k s ≡ neg (cast R (2 * k) ⊗ rev R d g k) ⊕ neg (sum-to R (λ i. s i ⊗ rev R d g (k - i)) (k - 1))
+  unfolding newton-step
+  newton-step-at d g s zero l = absurd (omega arith)
+  newton-step-at d g s (suc j) l =
+      ap (λ n. neg (cast R (2 * suc j) ⊗ rev R d g (suc j)) ⊕ neg (sum R (λ i. s (suc i) ⊗ rev R d g (suc j - suc i)) n)) (omega arith)
+
+  pub newton-step-zero : (d : ℕ) (g s : Seq R) → newton-step R d g 0 s ≡ cast R (2 * d)
+  unfolding newton-step
+  newton-step-zero d g s = refl
+
+  pub expansion-above : (A B : Car) (s : Seq R) (i : ℕ) → 1 ≤ i → expansion R A B s i ≡ from-sums R A B s i
+  expansion-above A B s zero l = absurd (omega arith)
+  expansion-above A B s (suc i) l = refl

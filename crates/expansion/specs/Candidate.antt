@@ -1,0 +1,17 @@
+-- What is said of the polynomial that solving computes.
+-- Assumes nothing.
+use mathlib.Core.Path.{_≡_}
+use mathlib.Core.List.{List}
+use Prim.Native.Nat.{ℕ}
+use Rattle.series.specs.Series.{Seq}
+use Rattle.zmod.specs.Zmod.{Zmod}
+use Rattle.zmod.specs.Residues.{Reduced, poly}
+use Rattle.isogeny.specs.Rules.{R1, Meets}
+use Rattle.sheet.specs.declared.Values.{Values}
+use Rattle.rules.specs.Question.{question}
+
+-- the words of the one polynomial that can meet the rules
+pub record Candidate (v : Values) (g : List ℕ) : Type 0 where
+  pub reduced : Reduced (v .p) g
+  pub r1 : R1 (Zmod (v .p)) (question v) (poly (v .p) g)
+  pub only : (g′ : Seq (Zmod (v .p))) → Meets (Zmod (v .p)) (question v) g′ → g′ ≡ poly (v .p) g

@@ -1,0 +1,135 @@
+-- N of R2 from two products. With G = g²: G′ = 2gg′ and G″ − 4g′² = 2(gg″ − g′²), so N = (ℓx − σ)G − (3x² + A)G′ − 2f(G″ − 4g′²).
+-- N has at most ℓ + 1 coefficients.
+-- Assumes nothing.
+use mathlib.Core.Path.{_≡_, refl, sym, _∙_, ap, ap₂, subst, fun-ext}
+use Prim.Native.Nat.{ℕ, zero, suc, _+_, _*_, _-_, _≤_}
+use native.Mathlib.Omega.{arith}
+use Rattle.ring.specs.Ring
+use Rattle.ring.specs.Ring.{CRing, cast, pow}
+use Rattle.ring.specs.Identity.{solve6}
+use Rattle.ring.specs.Identity.Ex.{num, _:+_, _:-_, _:*_, :-_, _:^_}
+use Rattle.series.specs.Series.{Series, Seq, scaled, const, ∂, ∂-add, ∂-leibniz, conv-scalar}
+use Rattle.series.specs.Degree.{Below}
+use Rattle.series.specs.Indeterminate.{ind, cast-series}
+use Rattle.series.specs.Reversal.{r-add, r-neg, r-mul, r-pow, r-up, r-const, r-cast, r-ind}
+use Rattle.isogeny.specs.Rules.{Question, ℓ, f, N}
+use Rattle.rules.specs.Degrees.{below-sums, below-∂, below-conv}
+
+module _ (R : CRing) where
+  open CRing (Series R) using (add as _⊕_, mul as _⊗_, neg)
+
+  infixl 65 _⊕_
+  infixl 70 _⊗_
+  -- ── constants
+
+  pub const-neg : (c : R .Car) → const R (R .neg c) ≡ neg (const R c)
+  const-neg c = fun-ext go
+    where
+      go : (i : ℕ) → const R (R .neg c) i ≡ R .neg (const R c i)
+      go zero = refl
+      go (suc i) = sym (Ring.neg-zero R)
+
+  pub scaled-minus : (m : R .Car) (n : ℕ) (a : Seq R) → m ≡ R .neg (cast R n) → scaled R m a ≡ neg (cast (Series R) n) ⊗ a
+  scaled-minus m n a e =
+      conv-scalar R m a ∙ ap (λ c. c ⊗ a) (ap (const R) e ∙ const-neg (cast R n) ∙ ap neg (sym (cast-series R n)))
+
+  -- ── −2(G″ − 4g′²), from G″ and g′², and from g and G′
+
+  unfoldable pub lowered : Seq R → Seq R → Seq R
+  lowered s t = neg (cast (Series R) 2) ⊗ (s ⊕ neg (cast (Series R) 4) ⊗ t)
+
+  pub lowered-is : (m m′ : R .Car) → m ≡ R .neg (cast R 4) → m′ ≡ R .neg (cast R 2) → (s t : Seq R)
+      → scaled R m′ (s ⊕ scaled R m t) ≡ lowered s t
+  unfolding lowered
+  lowered-is m m′ e e′ s t = ap (λ u. scaled R m′ (s ⊕ u)) (scaled-minus m 4 t e) ∙ scaled-minus m′ 2 (s ⊕ neg (cast (Series R) 4) ⊗ t) e′
+
+  pub lowered-below : (n : ℕ) (s t : Seq R) → Below R n s → Below R n t → Below R n (lowered s t)
+  unfolding lowered
+  lowered-below n s t h k =
+      below-conv R 1 n (neg (cast (Series R) 2)) _ (omega arith) (r-neg R (r-cast R 2) .below)
+      (below-sums R s _ h (below-conv R 1 n (neg (cast (Series R) 4)) t (omega arith) (r-neg R (r-cast R 4) .below) k))
+
+  unfoldable pub bent : Seq R → Seq R → Seq R
+  bent g s = lowered (∂ R s) (∂ R g ⊗ ∂ R g)
+
+  -- G″
+  twice : (g : Seq R) → ∂ R (∂ R (g ⊗ g)) ≡ ∂ R (∂ R g) ⊗ g ⊕ ∂ R g ⊗ ∂ R g ⊕ (∂ R g ⊗ ∂ R g ⊕ g ⊗ ∂ R (∂ R g))
+  twice g = ap (∂ R) (∂-leibniz R g g) ∙ ∂-add R _ _ ∙ ap₂ _⊕_ (∂-leibniz R (∂ R g) g) (∂-leibniz R g (∂ R g))
+
+module _ (R : CRing) (q : Question R) where
+  open Question q using (A, B, d, σ)
+  open CRing (Series R) using (add as _⊕_, mul as _⊗_, neg)
+
+  infixl 65 _⊕_ _⊖_
+  infixl 70 _⊗_
+  infixr 75 _^_
+  infix 80 #_
+  abbrev _⊖_ : Seq R → Seq R → Seq R
+  a ⊖ b = a ⊕ neg b
+
+  abbrev _^_ : Seq R → ℕ → Seq R
+  a ^ n = pow (Series R) a n
+
+  abbrev #_ : ℕ → Seq R
+  # n = cast (Series R) n
+
+  abbrev κ : R .Car → Seq R
+  κ c = const R c
+
+  abbrev x : Seq R
+  x = ind R
+
+  -- ℓx − σ, and −(3x² + A)
+  unfoldable pub line : Seq R
+  line = # (ℓ R q) ⊗ x ⊖ κ σ
+
+  unfoldable pub slope : Seq R
+  slope = neg (# 3 ⊗ x ^ 2 ⊕ κ A)
+
+  -- (ℓx − σ)G − (3x² + A)G′ + f e
+  unfoldable pub joined : Seq R → Seq R → Seq R → Seq R
+  joined s t e = line ⊗ s ⊕ slope ⊗ t ⊕ f R q ⊗ e
+
+  pub N-is : (g : Seq R) → joined (g ⊗ g) (∂ R (g ⊗ g)) (bent R g (∂ R (g ⊗ g))) ≡ N R q g
+  unfolding joined line slope bent lowered N
+  N-is g =
+      ap₂ (λ s t. line ⊗ (g ⊗ g) ⊕ slope ⊗ s ⊕ f R q ⊗ (neg (# 2) ⊗ (t ⊕ neg (# 4) ⊗ (∂ R g ⊗ ∂ R g)))) (∂-leibniz R g g) (twice R g)
+      ∙ solve6 (Series R)
+      (λ l s f g g′ g″. l :* (g :* g) :+ :- s :* (g′ :* g :+ g :* g′) :+ f :* (:- num 2 :* (g″ :* g :+ g′ :* g′ :+ (g′ :* g′ :+ g :* g″) :+ :- num 4 :* (g′ :* g′))))
+      (λ l s f g g′ g″. l :* g :^ 2 :- num 2 :* s :* g :* g′ :- num 4 :* f :* (g :* g″ :- g′ :^ 2)) tt
+      (# (ℓ R q) ⊗ x ⊖ κ σ) (# 3 ⊗ x ^ 2 ⊕ κ A) (f R q) g (∂ R g) (∂ R (∂ R g))
+
+  -- ── degrees
+
+  pub line-below : Below R 2 line
+  unfolding line
+  line-below = r-add R (r-mul R (r-cast R (ℓ R q)) (r-ind R)) (r-neg R (r-up R (r-const R σ))) .below
+
+  pub slope-below : Below R 3 slope
+  unfolding slope
+  slope-below = r-neg R (r-add R (r-mul R (r-cast R 3) (r-pow R (r-ind R) 2)) (r-up R (r-up R (r-const R A)))) .below
+
+  pub f-below : Below R 4 (f R q)
+  unfolding f
+  f-below =
+      r-add R (r-add R (r-pow R (r-ind R) 3) (r-up R (r-up R (r-mul R (r-const R A) (r-ind R))))) (r-up R (r-up R (r-up R (r-const R B)))) .below
+
+  pub bent-below : (g s : Seq R) → Below R (suc d) g → Below R (2 * d) s → Below R (2 * d - 1) (bent R g s)
+  unfolding bent
+  bent-below g s hg hs =
+      lowered-below R (2 * d - 1) (∂ R s) (∂ R g ⊗ ∂ R g) (below-∂ R s (omega arith) hs)
+      (below-conv R d d (∂ R g) (∂ R g) (omega arith) (below-∂ R g (omega arith) hg) (below-∂ R g (omega arith) hg))
+
+  pub N-below : (g : Seq R) → 1 ≤ d → Below R (suc d) g → Below R (2 * d + 2) (N R q g)
+  unfolding joined
+  N-below g pos h = subst (Below R (2 * d + 2)) (N-is g)
+      (below-sums R _ _
+      (below-sums R _ _ (below-conv R 2 (2 * d + 1) line (g ⊗ g) (omega arith) line-below square-below)
+      (below-conv R 3 (2 * d) slope (∂ R (g ⊗ g)) (omega arith) slope-below slope-of))
+      (below-conv R 4 (2 * d - 1) (f R q) (bent R g (∂ R (g ⊗ g))) (omega arith) f-below (bent-below g (∂ R (g ⊗ g)) h slope-of)))
+    where
+      square-below : Below R (2 * d + 1) (g ⊗ g)
+      square-below = below-conv R (suc d) (suc d) g g (omega arith) h h
+
+      slope-of : Below R (2 * d) (∂ R (g ⊗ g))
+      slope-of = below-∂ R (g ⊗ g) (omega arith) square-below

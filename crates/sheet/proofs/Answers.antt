@@ -1,0 +1,29 @@
+-- A test's answer against what it decides.
+-- Assumes nothing.
+use mathlib.Core.Path.{_≡_, refl, sym, _∙_, subst}
+use Prim.Native.Nat.{ℕ, _+_, _≤_, _<_}
+use native.Mathlib.Decide.{decLt}
+use native.Mathlib.Omega.{arith}
+use mathlib.Core.Logic.{_↔_}
+use mathlib.Core.Bool.{Bool, true, false, not, false≢true}
+
+pub says-no : {P : Type 0} → (P → ⊥) → (false ≡ true) ↔ P
+says-no n = (λ e. absurd (false≢true e), λ h. absurd (n h))
+
+pub says-yes : {P : Type 0} → P → (true ≡ true) ↔ P
+says-yes y = (λ e. y, λ h. refl)
+
+-- a test that was answered with no, and with yes
+pub was-no : {P : Type 0} {t : Bool} → (t ≡ true) ↔ P → t ≡ false → P → ⊥
+was-no d e h = false≢true (sym e ∙ d .1 h)
+
+pub was-yes : {P : Type 0} {t : Bool} → (t ≡ true) ↔ P → t ≡ true → P
+was-yes d e = d .0 e
+
+-- what holds from a on up to i, and of i, holds up to i + 1
+pub more-from : (P : ℕ → Type 0) (a i : ℕ) → ((j : ℕ) → a ≤ j → j < i → P j) → P i → (j : ℕ) → a ≤ j → j < i + 1 → P j
+more-from P a i before here j from below = go (decLt j i)
+  where
+    go : Dec (j < i) → P j
+    go (yes l) = before j from l
+    go (no l) = let e : i ≡ j = omega arith in subst P e here

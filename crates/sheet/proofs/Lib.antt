@@ -1,0 +1,15 @@
+pub mod Table
+pub mod Sections
+pub mod Places
+pub mod Answers
+pub mod Header
+pub mod Fields
+pub mod Singular
+pub mod Body
+pub mod Domains
+pub mod Questions
+pub mod Copies
+pub mod Writing
+pub mod Accepted
+pub mod LongSheet
+pub mod RoundTrip

@@ -1,0 +1,118 @@
+-- The places of the kinds in the three forms, and the table that holds them.
+-- Assumes nothing.
+use mathlib.Core.Path.{_≡_, refl, sym, _∙_, ap, ap₂}
+use mathlib.Core.Bool.{Bool, true, false, cond}
+use mathlib.Core.List.{List, [], _∷_, _++_, append-assoc}
+use Prim.Native.Nat.{ℕ, zero, suc, _+_, _*_, _-_, _<_, _≤_}
+use native.Mathlib.Nat as N
+use native.Mathlib.Omega.{arith}
+use lib.Dec.{eqb, ltb, eqb→eq, ltb→lt}
+use lib.ListN.{getD, replicate}
+use Rattle.sheet.specs.declared.Form.{Form}
+use Rattle.sheet.specs.declared.Form.the-variants.{Question, Certificate, Kernel}
+use Rattle.sheet.specs.Form.{header, body, position, holds}
+use Rattle.sheet.specs.Place.{kindsOf, placeOf, columnOf}
+use Rattle.sheet.proofs.Table.{at}
+use Rattle.sheet.proofs.Sections.{Section, section, expand, has, base, slope, holds-sections, position-sections, total, base-most}
+
+-- ── the forms in sections
+
+abbrev sections : Form → List Section
+sections Question = section 1 0 0 ∷ section 2 0 0 ∷ section 3 0 0 ∷ section 4 0 0 ∷ section 5 0 0 ∷ section 6 0 0 ∷ section 7 0 0 ∷ section 15 0 0 ∷ []
+sections Certificate =
+    section 1 0 0 ∷ section 2 0 0 ∷ section 3 0 0 ∷ section 4 0 0 ∷ section 5 0 0 ∷ section 6 0 0 ∷ section 7 0 0 ∷ section 8 0 1 ∷ section 9 1 2 ∷ section 15 0 0 ∷ []
+sections Kernel = section 1 0 0 ∷ section 2 0 0 ∷ section 3 0 0 ∷ section 6 0 0 ∷ section 8 0 1 ∷ section 15 0 0 ∷ []
+
+-- how many words follow the first one of a section
+no-more : (d : ℕ) → 0 + 0 * d ≡ 0
+no-more d = omega arith
+
+g-more : (d : ℕ) → d + 1 ≡ suc (0 + 1 * d)
+g-more d = omega arith
+
+n-more : (d : ℕ) → 2 * d + 2 ≡ suc (1 + 2 * d)
+n-more d = omega arith
+
+in-sections : (form : Form) (d : ℕ) → kindsOf form d ≡ expand d (sections form)
+in-sections Question d = simp no-more
+in-sections Certificate d = simp (no-more, g-more, n-more, append-assoc)
+in-sections Kernel d = simp (no-more, g-more)
+
+-- a number + a number · d
+module _ (form : Form) (k : ℕ) where
+  pub place-is : (d none : ℕ) → placeOf form k d none ≡ cond (has k (sections form)) (base k (sections form) + slope k (sections form) * d) none
+  place-is d none =
+      ap₂ (λ (t : Bool) (n : ℕ). cond t n none)
+      (ap (holds k) (in-sections form d) ∙ holds-sections k d (sections form))
+      (ap (position k) (in-sections form d) ∙ position-sections k d (sections form))
+
+-- ── the table
+
+abbrev places : List (List (List ℕ))
+places =
+    ((255 ∷ 0 ∷ []) ∷ (255 ∷ 0 ∷ []) ∷ (255 ∷ 0 ∷ []) ∷ []) ∷
+    ((0 ∷ 0 ∷ []) ∷ (0 ∷ 0 ∷ []) ∷ (0 ∷ 0 ∷ []) ∷ []) ∷
+    ((1 ∷ 0 ∷ []) ∷ (1 ∷ 0 ∷ []) ∷ (1 ∷ 0 ∷ []) ∷ []) ∷
+    ((2 ∷ 0 ∷ []) ∷ (2 ∷ 0 ∷ []) ∷ (2 ∷ 0 ∷ []) ∷ []) ∷
+    ((3 ∷ 0 ∷ []) ∷ (3 ∷ 0 ∷ []) ∷ (255 ∷ 0 ∷ []) ∷ []) ∷
+    ((4 ∷ 0 ∷ []) ∷ (4 ∷ 0 ∷ []) ∷ (255 ∷ 0 ∷ []) ∷ []) ∷
+    ((5 ∷ 0 ∷ []) ∷ (5 ∷ 0 ∷ []) ∷ (3 ∷ 0 ∷ []) ∷ []) ∷
+    ((6 ∷ 0 ∷ []) ∷ (6 ∷ 0 ∷ []) ∷ (255 ∷ 0 ∷ []) ∷ []) ∷
+    ((255 ∷ 0 ∷ []) ∷ (7 ∷ 0 ∷ []) ∷ (4 ∷ 0 ∷ []) ∷ []) ∷
+    ((255 ∷ 0 ∷ []) ∷ (8 ∷ 1 ∷ []) ∷ (255 ∷ 0 ∷ []) ∷ []) ∷
+    ((255 ∷ 0 ∷ []) ∷ (255 ∷ 0 ∷ []) ∷ (255 ∷ 0 ∷ []) ∷ []) ∷
+    ((255 ∷ 0 ∷ []) ∷ (255 ∷ 0 ∷ []) ∷ (255 ∷ 0 ∷ []) ∷ []) ∷
+    ((255 ∷ 0 ∷ []) ∷ (255 ∷ 0 ∷ []) ∷ (255 ∷ 0 ∷ []) ∷ []) ∷
+    ((255 ∷ 0 ∷ []) ∷ (255 ∷ 0 ∷ []) ∷ (255 ∷ 0 ∷ []) ∷ []) ∷
+    ((255 ∷ 0 ∷ []) ∷ (255 ∷ 0 ∷ []) ∷ (255 ∷ 0 ∷ []) ∷ []) ∷
+    ((7 ∷ 0 ∷ []) ∷ (10 ∷ 3 ∷ []) ∷ (5 ∷ 1 ∷ []) ∷ []) ∷ []
+
+abbrev pub number : ℕ → ℕ → ℕ → ℕ
+number kind column part = getD (getD (getD places kind []) column []) part 0
+
+-- its first numbers are the places at d = 0, its second ones how far they rise from d = 0 to d = 1
+pub start-right : (form : Form) (kind : ℕ) → kind < 16 → number kind (columnOf form) 0 ≡ placeOf form kind 0 255
+start-right Question k h = eqb→eq _ _ (at (λ k. eqb (number k 0 0) (placeOf Question k 0 255)) 16 tt k h)
+start-right Certificate k h = eqb→eq _ _ (at (λ k. eqb (number k 1 0) (placeOf Certificate k 0 255)) 16 tt k h)
+start-right Kernel k h = eqb→eq _ _ (at (λ k. eqb (number k 2 0) (placeOf Kernel k 0 255)) 16 tt k h)
+
+pub rise-right : (form : Form) (kind : ℕ) → kind < 16 → number kind (columnOf form) 1 ≡ placeOf form kind 1 255 - placeOf form kind 0 255
+rise-right Question k h = eqb→eq _ _ (at (λ k. eqb (number k 0 1) (placeOf Question k 1 255 - placeOf Question k 0 255)) 16 tt k h)
+rise-right Certificate k h = eqb→eq _ _ (at (λ k. eqb (number k 1 1) (placeOf Certificate k 1 255 - placeOf Certificate k 0 255)) 16 tt k h)
+rise-right Kernel k h = eqb→eq _ _ (at (λ k. eqb (number k 2 1) (placeOf Kernel k 1 255 - placeOf Kernel k 0 255)) 16 tt k h)
+
+-- ── a place from the place at d = 0 and the rise
+
+early : (form : Form) (k : ℕ) → base k (sections form) < 255
+early Question k = omega (arith, base-most k (sections Question))
+early Certificate k = omega (arith, base-most k (sections Certificate))
+early Kernel k = omega (arith, base-most k (sections Kernel))
+
+-- by whether the form has the kind
+module _ (t : Bool) (b s d none : ℕ) (small : b < 255) where
+  absent : cond t (b + s * 0) 255 ≡ 255 → cond t (b + s * d) none ≡ none
+  absent e = go t e
+    where
+      go : (t : Bool) → cond t (b + s * 0) 255 ≡ 255 → cond t (b + s * d) none ≡ none
+      go true e = absurd (omega arith)
+      go false e = refl
+
+  present : (cond t (b + s * 0) 255 ≡ 255 → ⊥) → cond t (b + s * 0) 255 + (cond t (b + s * 1) 255 - cond t (b + s * 0) 255) * d ≡ cond t (b + s * d) none
+  present n = go t n
+    where
+      go : (t : Bool) → (cond t (b + s * 0) 255 ≡ 255 → ⊥)
+          → cond t (b + s * 0) 255 + (cond t (b + s * 1) 255 - cond t (b + s * 0) 255) * d ≡ cond t (b + s * d) none
+      go true n = let r : b + s * 1 - (b + s * 0) ≡ s = omega arith in ap₂ (λ x y. x + y * d) (omega arith) r
+      go false n = absurd (n refl)
+
+module _ (form : Form) (k d none : ℕ) where
+  pub nowhere : placeOf form k 0 255 ≡ 255 → placeOf form k d none ≡ none
+  nowhere e =
+      place-is form k d none ∙ absent (has k (sections form)) (base k (sections form)) (slope k (sections form)) d none (early form k)
+      (sym (place-is form k 0 255) ∙ e)
+
+  pub somewhere : (placeOf form k 0 255 ≡ 255 → ⊥) → placeOf form k 0 255 + (placeOf form k 1 255 - placeOf form k 0 255) * d ≡ placeOf form k d none
+  somewhere n =
+      ap₂ (λ x y. x + (y - x) * d) (place-is form k 0 255) (place-is form k 1 255)
+      ∙ present (has k (sections form)) (base k (sections form)) (slope k (sections form)) d none (early form k) (λ e. n (place-is form k 0 255 ∙ e))
+      ∙ sym (place-is form k d none)
