@@ -1,0 +1,298 @@
+-- Whether a row of the table holds, by computing: `test` is a boolean that the checker computes, and a row that passes it holds.
+-- Assumes nothing.
+use mathlib.Core.Path.{_≡_, refl, sym, _∙_, ap, subst}
+use mathlib.Core.Bool.{Bool, true, false, not}
+use mathlib.Core.Logic.{inl, inr}
+use mathlib.Core.List.{List, [], _∷_, _++_}
+use Prim.Native.Nat.{ℕ, _+_, _*_, _-_, _<_, _≤_}
+use native.Mathlib.Omega.{arith}
+use lib.Dec.{T, eqb, eqb→eq, ltb, ltb→lt}
+use lib.ListN.{length, drop}
+use Rattle.ring.specs.Test.{both, both-left, both-right}
+use Rattle.zmod.specs.Zmod.{Elt, Zmod, mk, minus, times, cast-mk}
+use Rattle.zmod.specs.Prime.{prime-pos}
+use Rattle.zmod.specs.Residues.{poly}
+use Rattle.isogeny.specs.Curve.{Nonsingular}
+use Rattle.isogeny.specs.Rules as Rules
+use Rattle.isogeny.specs.Rules.{N, R1, R3, Meets}
+use Rattle.sheet.specs.declared.Form.the-variants.{Question, Certificate, Kernel}
+use Rattle.sheet.specs.declared.Values.{Values}
+use Rattle.sheet.specs.Form.{gOf, nOf}
+use Rattle.sheet.specs.Asked.{asked}
+use Rattle.sheet.specs.Reading.{valuesOf}
+use Rattle.sheet.specs.Certificate.{certificate}
+use Rattle.sheet.specs.FirstNo.{Questions, AllYes, FirstNo, all-all, no-after}
+use Rattle.rules.specs.Question.{question, half}
+use Rattle.services.specs.declared.Written.the-variants as written
+use Rattle.services.specs.declared.Point.{Point}
+use Rattle.services.specs.declared.Point.the-variants as point
+use Rattle.services.specs.declared.Image.{Image}
+use Rattle.services.specs.declared.Image.the-variants as image
+use Rattle.services.specs.Asked.{prime, put, g, n, enough, check-asks, push-asks, Solvable, Codomain, Leading, Given}
+use Rattle.services.specs.Answer.{SolveRight, KernelRight, PushRight, Filled, kernel-values}
+use Rattle.marked.specs.Tests.{every, Every, every-yes, same-list, same-list-yes, below, below-yes}
+use Rattle.marked.specs.Rules.{R1-test, R1-by-computing, R2-test, R2-by-computing, R2-refuted, R3-test, R3-by-computing, R3-refuted, meets-test, meets-by-computing, none-test, none-by-computing, nonsingular-test, nonsingular-by-computing, on-curve-test, on-curve-by-computing, image-test, image-by-computing, vanishes-test, vanishes-by-computing}
+use Rattle.marked.specs.Sheets.{asked-test, asked-by-computing, prime-by-computing, least-by-computing}
+use Rattle.marked.specs.Row.{Row, Claim, question-words, kernel-words, count, filled}
+use Rattle.marked.specs.Row.Row.{solves, unsolved, pushes, kernel, refused, refused-though}
+
+-- ── a certificate in the buffer: the values v, g and n of a row against those that are read from the sheet
+
+module _ (read : Values) (g n : List ℕ) (v : Values) (g₀ : List ℕ) where
+  abbrev fill-tests : List Bool
+  fill-tests =
+      meets-test read g n ∷ eqb (length g) (half read + 1) ∷ eqb (length n) (2 * half read + 2) ∷ below (read .p) g ∷ below (read .p) n
+      ∷ eqb (count v) (3 * half read + 11) ∷ same-list (certificate v g₀ n) (certificate read g n) ∷ []
+
+  abbrev fill-by-computing : 0 < read .p → Every fill-tests → (before : List ℕ) → Filled read before (filled v g₀ n before) (count v)
+  fill-by-computing pos t before = record {
+    g = g;
+    n = n;
+    g-length = eqb→eq _ _ (t 1);
+    n-length = eqb→eq _ _ (t 2);
+    g-reduced = below-yes (read .p) pos g (t 3);
+    meets = meets-by-computing read g n pos (t 0);
+    n-is = record {
+      reduced = below-yes (read .p) pos n (t 4);
+      coefficients = λ i l. ap (λ s. s i) (R2-by-computing read g n pos (both-left (R2-test read g n) (R3-test read g n) (both-right (R1-test read g) _ (t 0))));
+    };
+    count-is = eqb→eq _ _ (t 5);
+    words = ap (λ l. l ++ drop (count v) before) (same-list-yes (certificate v g₀ n) (certificate read g n) (t 6));
+  }
+
+-- ── solve
+
+module _ (v : Values) where
+  abbrev ws : List ℕ
+  ws = question-words v
+
+  abbrev read : Values
+  read = valuesOf Question ws
+
+  abbrev solve-test : List ℕ → List ℕ → Bool
+  solve-test g n = both (asked-test Question ws) (every (fill-tests read g n v g))
+
+  solve-by-computing : (g n : List ℕ) → T (solve-test g n) → (before : List ℕ) → enough ≤ length before
+      → SolveRight ws before (filled v g n before) (written.Count (count v))
+  solve-by-computing g n t before room =
+      let a : Bool = asked-test Question ws in
+      let ta : T (asked-test Question ws) = both-left a _ t in
+      let pos : 0 < read .p = prime-pos (prime-by-computing Question ws ta) in
+      let fill : Filled read before (filled v g n before) (count v) = fill-by-computing read g n v g pos (every-yes (fill-tests read g n v g) (both-right a _ t)) before in
+      ((room, all-all (asked Question ws) ((11, Solvable ws) ∷ []) (asked-by-computing Question ws ta) (record { g = poly (read .p) (fill .g); meets = fill .meets }, tt)), fill)
+
+  abbrev unsolved-test : ℕ → Bool
+  unsolved-test k = both (asked-test Question ws) (both (none-test read) (eqb k 11))
+
+  unsolved-by-computing : (k : ℕ) → T (unsolved-test k) → (before : List ℕ) → enough ≤ length before
+      → SolveRight ws before before (written.Refused k)
+  unsolved-by-computing k t before room =
+      let a : Bool = asked-test Question ws in
+      let ta : T (asked-test Question ws) = both-left a _ t in
+      let rest : T (both (none-test read) (eqb k 11)) = both-right a _ t in
+      let small : 11 ≤ read .p = least-by-computing Question ws ta in (
+        inr (
+          room,
+          no-after (asked Question ws) ((11, Solvable ws) ∷ []) k (asked-by-computing Question ws ta)
+              (inl (
+                eqb→eq k 11 (both-right (none-test read) (eqb k 11) rest),
+                λ s. none-by-computing read (prime-by-computing Question ws ta) (omega arith) (both-left (none-test read) (eqb k 11) rest) (s .g) (s .meets),
+              )),
+        ),
+        refl,
+      )
+
+-- ── check and push
+
+module _ (ws : List ℕ) where
+  abbrev v : Values
+  v = valuesOf Certificate ws
+
+  abbrev γ : List ℕ
+  γ = gOf Certificate ws
+
+  abbrev ν : List ℕ
+  ν = nOf Certificate ws
+
+  positive : T (asked-test Certificate ws) → 0 < v .p
+  positive t = prime-pos (prime-by-computing Certificate ws t)
+
+  -- questions 9 and 10, and with 8
+  abbrev later : Questions
+  later =
+      (9, (n Certificate ws ≡ N (Zmod (prime Certificate ws)) (put Certificate ws) (g Certificate ws)))
+      ∷ (10, R3 (Zmod (prime Certificate ws)) (put Certificate ws) (g Certificate ws) (n Certificate ws))
+      ∷ []
+
+  abbrev rules : Questions
+  rules = (8, R1 (Zmod (prime Certificate ws)) (put Certificate ws) (g Certificate ws)) ∷ later
+
+  abbrev pass-tests : List Bool
+  pass-tests = asked-test Certificate ws ∷ R1-test v γ ∷ R2-test v γ ν ∷ R3-test v γ ν ∷ []
+
+  pass-by-computing : Every pass-tests → AllYes (check-asks ws)
+  pass-by-computing t =
+      let pos : 0 < v .p = positive (t 0) in
+      all-all (asked Certificate ws) rules (asked-by-computing Certificate ws (t 0))
+      (R1-by-computing v γ pos (t 1), (R2-by-computing v γ ν pos (t 2), (R3-by-computing v γ ν pos (t 3), tt)))
+
+  -- 9 where N is not that of R2, and else 10 where R3 does not hold
+  abbrev rule-test : Bool → ℕ → Bool
+  rule-test true k = both (not (R3-test v γ ν)) (eqb k 10)
+  rule-test false k = eqb k 9
+
+  abbrev refused-tests : ℕ → List Bool
+  refused-tests k = asked-test Certificate ws ∷ R1-test v γ ∷ rule-test (R2-test v γ ν) k ∷ []
+
+  refused-by-computing : (k : ℕ) → Every (refused-tests k) → FirstNo (check-asks ws) k
+  refused-by-computing k t =
+      no-after (asked Certificate ws) rules k (asked-by-computing Certificate ws (t 0))
+      (inr (R1-by-computing v γ pos (t 1), go (R2-test v γ ν) refl (t 2)))
+    where
+      pos : 0 < v .p
+      pos = positive (t 0)
+
+      go : (b : Bool) → R2-test v γ ν ≡ b → T (rule-test b k) → FirstNo later k
+      go true e s =
+          inr (
+            R2-by-computing v γ ν pos (subst T (sym e) tt),
+            inl (eqb→eq k 10 (both-right (not (R3-test v γ ν)) (eqb k 10) s), R3-refuted v γ ν pos (both-left (not (R3-test v γ ν)) (eqb k 10) s)),
+          )
+      go false e s = inl (eqb→eq k 9 s, R2-refuted v γ ν pos (subst (λ b. T (not b)) (sym e) tt))
+
+  abbrev given-tests : ℕ → ℕ → List Bool
+  given-tests u w = ltb u (v .p) ∷ ltb w (v .p) ∷ on-curve-test (v .p) (v .a) (v .b) u w ∷ []
+
+  abbrev push-tests : Point → Image → List Bool
+  push-tests (point.Affine u w) (image.Affine u′ w′) =
+      every pass-tests ∷ every (given-tests u w) ∷ ltb u′ (v .p) ∷ ltb w′ (v .p) ∷ image-test v γ ν u w u′ w′ ∷ []
+  push-tests (point.Affine u w) image.Infinity = every pass-tests ∷ every (given-tests u w) ∷ vanishes-test v γ u ∷ []
+  push-tests (point.Affine u w) (image.Refused k) = false ∷ []
+  push-tests point.Infinity (image.Affine u′ w′) = false ∷ []
+  push-tests point.Infinity image.Infinity = every pass-tests ∷ []
+  push-tests point.Infinity (image.Refused k) = false ∷ []
+
+  given-by-computing : T (every pass-tests) → (u w : ℕ) → T (every (given-tests u w)) → AllYes (push-asks ws (point.Affine u w))
+  given-by-computing t u w s =
+      let r : Every (given-tests u w) = every-yes (given-tests u w) s in
+      let p : Every pass-tests = every-yes pass-tests t in
+      all-all (check-asks ws) ((12, Given ws (point.Affine u w)) ∷ []) (pass-by-computing p) (
+        record {
+          u-below = ltb→lt u (v .p) (r 0);
+          v-below = ltb→lt w (v .p) (r 1);
+          on = on-curve-by-computing (positive (p 0)) (v .a) (v .b) u w (r 2);
+        },
+        tt,
+      )
+
+  push-by-computing : (from : Point) (to : Image) → Every (push-tests from to) → PushRight ws from to
+  push-by-computing (point.Affine u w) (image.Affine u′ w′) t = (
+    given-by-computing (t 0) u w (t 1),
+    record {
+      u-below = ltb→lt u′ (v .p) (t 2);
+      v-below = ltb→lt w′ (v .p) (t 3);
+      image = image-by-computing v γ ν (positive (every-yes pass-tests (t 0) 0)) u w u′ w′ (t 4);
+    },
+  )
+  push-by-computing (point.Affine u w) image.Infinity t =
+      (given-by-computing (t 0) u w (t 1), vanishes-by-computing v γ ν (positive (every-yes pass-tests (t 0) 0)) u (t 2))
+  push-by-computing (point.Affine u w) (image.Refused k) t = absurd (t 0)
+  push-by-computing point.Infinity (image.Affine u′ w′) t = absurd (t 0)
+  push-by-computing point.Infinity image.Infinity t =
+      (all-all (check-asks ws) ((12, Given ws point.Infinity) ∷ []) (pass-by-computing (every-yes pass-tests (t 0))) (tt, tt), tt)
+  push-by-computing point.Infinity (image.Refused k) t = absurd (t 0)
+
+-- ── kernel
+
+module _ (v : Values) (g₀ n : List ℕ) where
+  abbrev sheet : List ℕ
+  sheet = kernel-words v g₀
+
+  abbrev completed : Values
+  completed = kernel-values sheet (v .atilde) (v .btilde) (v .sigma)
+
+  abbrev γ₀ : List ℕ
+  γ₀ = gOf Kernel sheet
+
+  abbrev codomain-tests : List Bool
+  codomain-tests =
+      asked-test Kernel sheet ∷ ltb (v .atilde) (completed .p) ∷ ltb (v .btilde) (completed .p) ∷ ltb (v .sigma) (completed .p)
+      ∷ nonsingular-test (completed .p) (v .atilde) (v .btilde) ∷ every (fill-tests completed γ₀ n v g₀) ∷ []
+
+  -- the sheet's question with any σ: the number on the certificate, and R1's
+  abbrev with-sigma : Elt (completed .p) → Rules.Question (Zmod (completed .p))
+  with-sigma s = record {
+    A = mk (completed .p) (completed .a);
+    B = mk (completed .p) (completed .b);
+    Ã = mk (completed .p) (v .atilde);
+    B̃ = mk (completed .p) (v .btilde);
+    d = half completed;
+    σ = s;
+  }
+
+  kernel-by-computing : Every codomain-tests → (before : List ℕ) → enough ≤ length before
+      → KernelRight sheet before (filled v g₀ n before) (written.Count (count v))
+  kernel-by-computing t before room =
+      let p : ℕ = completed .p in
+      let pos : 0 < p = prime-pos (prime-by-computing Kernel sheet (t 0)) in
+      let curve : Nonsingular (Zmod p) (mk p (v .atilde)) (mk p (v .btilde)) =
+      nonsingular-by-computing pos (v .atilde) (v .btilde) (t 4)
+      in
+      let fill : Every (fill-tests completed γ₀ n v g₀) = every-yes (fill-tests completed γ₀ n v g₀) (t 5) in
+      let meets : Meets (Zmod p) (with-sigma (mk p (v .sigma))) (poly p γ₀) = meets-by-computing completed γ₀ n pos (fill 0) in
+      let sigma : mk p (v .sigma) ≡ minus p (times p (mk p 2) (poly p γ₀ (half completed - 1))) =
+      meets .r1 .sigma ∙ ap (λ c. minus p (times p c (poly p γ₀ (half completed - 1)))) (cast-mk p 2)
+      in (
+        (
+          room,
+          all-all (asked Kernel sheet) ((8, Leading sheet) ∷ (11, Codomain sheet) ∷ []) (asked-by-computing Kernel sheet (t 0)) (
+            meets .r1 .leading,
+            (
+              record {
+                Ã = mk p (v .atilde);
+                B̃ = mk p (v .btilde);
+                nonsingular = curve;
+                meets = subst (λ s. Meets (Zmod p) (with-sigma s) (poly p γ₀)) sigma meets;
+              },
+              tt,
+            ),
+          ),
+        ),
+        record {
+          ã = v .atilde;
+          b̃ = v .btilde;
+          σ = v .sigma;
+          ã-below = ltb→lt (v .atilde) p (t 1);
+          b̃-below = ltb→lt (v .btilde) p (t 2);
+          σ-below = ltb→lt (v .sigma) p (t 3);
+          nonsingular = curve;
+          filled = fill-by-computing completed γ₀ n v g₀ pos fill before;
+          same-g = refl;
+        },
+      )
+
+-- ── the rows
+
+abbrev though-tests : Values → List ℕ → List ℕ → ℕ → List Bool
+though-tests v g n k = every (refused-tests (certificate v g n) k) ∷ ltb 0 (v .p) ∷ R3-test v g n ∷ []
+
+abbrev pub test : Row → Bool
+test (solves v g n) = solve-test v g n
+test (unsolved v k) = unsolved-test v k
+test (pushes v g n from to) = every (push-tests (certificate v g n) from to)
+test (kernel v g n) = every (codomain-tests v g n)
+test (refused v g n k) = every (refused-tests (certificate v g n) k)
+test (refused-though v g n k) = every (though-tests v g n k)
+
+pub row-holds : (r : Row) → T (test r) → Claim r
+unfolding Claim
+row-holds (solves v g n) t = solve-by-computing v g n t
+row-holds (unsolved v k) t = unsolved-by-computing v k t
+row-holds (pushes v g n from to) t = push-by-computing (certificate v g n) from to (every-yes (push-tests (certificate v g n) from to) t)
+row-holds (kernel v g n) t = kernel-by-computing v g n (every-yes (codomain-tests v g n) t)
+row-holds (refused v g n k) t = refused-by-computing (certificate v g n) k (every-yes (refused-tests (certificate v g n) k) t)
+row-holds (refused-though v g n k) t =
+    let s : Every (though-tests v g n k) = every-yes (though-tests v g n k) t in (
+      refused-by-computing (certificate v g n) k (every-yes (refused-tests (certificate v g n) k) (s 0)),
+      R3-by-computing v g n (ltb→lt 0 (v .p) (s 1)) (s 2),
+    )

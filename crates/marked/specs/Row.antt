@@ -1,0 +1,67 @@
+-- A table of document 01's marked sheets: a row is a sheet, by the numbers that the document lists, with what it says of it; `Claim` states the row in
+-- terms of what the services have to answer.
+-- Assumes nothing.
+use mathlib.Core.List.{List, [], _∷_, _++_, map}
+use Prim.Native.Nat.{ℕ, _+_, _*_, _≤_}
+use lib.ListN.{length, drop}
+use Rattle.zmod.specs.Zmod.{Zmod}
+use Rattle.zmod.specs.Residues.{poly}
+use Rattle.isogeny.specs.Rules.{R3}
+use Rattle.sheet.specs.declared.Values.{Values}
+use Rattle.sheet.specs.Word.{word}
+use Rattle.sheet.specs.Certificate.{certificate}
+use Rattle.rules.specs.Question.{question, half}
+use Rattle.services.specs.declared.Verdict.the-variants as verdict
+use Rattle.services.specs.declared.Written.the-variants as written
+use Rattle.services.specs.declared.Point.{Point}
+use Rattle.services.specs.declared.Image.{Image}
+use Rattle.services.specs.Asked.{enough}
+use Rattle.services.specs.Answer.{CheckRight, SolveRight, KernelRight, PushRight}
+
+-- "Q" lists p, A, B, Ã, B̃, ℓ, σ
+abbrev pub Q : ℕ → ℕ → ℕ → ℕ → ℕ → ℕ → ℕ → Values
+Q p A B Ã B̃ ℓ σ = record { p = p; a = A; b = B; atilde = Ã; btilde = B̃; degree = ℓ; sigma = σ }
+
+-- Polynomials are lists of coefficients, the constant term first.
+pub data Row : Type 0 where
+  -- solve answers the question with the certificate of g and N
+  solves : Values → List ℕ → List ℕ → Row
+  -- solve refuses the question with a number
+  unsolved : Values → ℕ → Row
+  -- through the certificate of g and N, a point goes to a point
+  pushes : Values → List ℕ → List ℕ → Point → Image → Row
+  -- kernel answers the sheet of p, A, B, ℓ and g with the certificate of the codomain, σ, g and N
+  kernel : Values → List ℕ → List ℕ → Row
+  -- check refuses the certificate of g and N with a number
+  refused : Values → List ℕ → List ℕ → ℕ → Row
+  -- the same, though R3 holds
+  refused-though : Values → List ℕ → List ℕ → ℕ → Row
+
+-- ── the words
+
+abbrev pub question-words : Values → List ℕ
+question-words v =
+    word 1 (v .p) ∷ word 2 (v .a) ∷ word 3 (v .b) ∷ word 4 (v .atilde) ∷ word 5 (v .btilde) ∷ word 6 (v .degree) ∷ word 7 (v .sigma) ∷ word 15 0 ∷ []
+
+abbrev pub kernel-words : Values → List ℕ → List ℕ
+kernel-words v g = word 1 (v .p) ∷ word 2 (v .a) ∷ word 3 (v .b) ∷ word 6 (v .degree) ∷ map (word 8) g ++ word 15 0 ∷ []
+
+-- "3d + 11 words", and a certificate in a lent buffer
+abbrev pub count : Values → ℕ
+count v = 3 * half v + 11
+
+abbrev pub filled : Values → List ℕ → List ℕ → List ℕ → List ℕ
+filled v g n before = certificate v g n ++ drop (count v) before
+
+-- ── what a row says, for every buffer that is large enough
+
+unfoldable pub Claim : Row → Type 0
+Claim (solves v g n) =
+    (before : List ℕ) → enough ≤ length before → SolveRight (question-words v) before (filled v g n before) (written.Count (count v))
+Claim (unsolved v k) = (before : List ℕ) → enough ≤ length before → SolveRight (question-words v) before before (written.Refused k)
+Claim (pushes v g n from to) = PushRight (certificate v g n) from to
+Claim (kernel v g n) =
+    (before : List ℕ) → enough ≤ length before → KernelRight (kernel-words v g) before (filled v g n before) (written.Count (count v))
+Claim (refused v g n k) = CheckRight (certificate v g n) (verdict.Refused k)
+Claim (refused-though v g n k) =
+    CheckRight (certificate v g n) (verdict.Refused k) × R3 (Zmod (v .p)) (question v) (poly (v .p) g) (poly (v .p) n)

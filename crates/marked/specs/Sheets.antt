@@ -1,0 +1,114 @@
+-- Questions 2 to 7 put to a sheet of any form, by computing.
+-- Assumes nothing.
+use mathlib.Core.Path.{_≡_, _∙_, ap, subst}
+use mathlib.Core.Bool.{Bool}
+use mathlib.Core.List.{List, [], _∷_, map}
+use Prim.Native.Nat.{ℕ, _*_, _-_, _%_, _<_, _≤_}
+use native.Mathlib.Omega.{arith}
+use lib.Dec.{T, eqb, eqb→eq, leb, leb→le, ltb, ltb→lt}
+use lib.ListN.{length, getD, take, drop, List·getD-map}
+use lib.Seq.{getD-drop}
+use Rattle.ring.specs.Test.{both, both-left, both-right}
+use Rattle.zmod.specs.Prime.{Prime, prime-pos}
+use Rattle.zmod.specs.Calculation.{primeTest, prime-yes}
+use Rattle.sheet.specs.declared.Form.{Form}
+use Rattle.sheet.specs.declared.Form.the-variants.{Question, Certificate, Kernel}
+use Rattle.sheet.specs.Word.{kindOf, valueOf}
+use Rattle.sheet.specs.Form.{header, body, entry, half}
+use Rattle.sheet.specs.FirstNo.{AllYes}
+use Rattle.sheet.specs.Asked.{asked, Asked2, Asked7}
+use Rattle.marked.specs.Tests.{every, Every, every-yes, same-list, same-list-yes, below, below-yes}
+use Rattle.marked.specs.Rules.{nonsingular-test, nonsingular-by-computing}
+
+abbrev curve : Form → List ℕ → ℕ → ℕ → Bool
+curve form ws a b = nonsingular-test (entry form 1 ws) (entry form a ws) (entry form b ws)
+
+abbrev curves : Form → List ℕ → Bool
+curves Question ws = both (curve Question ws 2 3) (curve Question ws 4 5)
+curves Certificate ws = both (curve Certificate ws 2 3) (curve Certificate ws 4 5)
+curves Kernel ws = curve Kernel ws 2 3
+
+curves-yes : (form : Form) (ws : List ℕ) → 0 < entry form 1 ws → T (curves form ws) → Asked7 form ws
+unfolding Asked7
+curves-yes Question ws pos t = (
+  nonsingular-by-computing pos _ _ (both-left (curve Question ws 2 3) (curve Question ws 4 5) t),
+  nonsingular-by-computing pos _ _ (both-right (curve Question ws 2 3) (curve Question ws 4 5) t),
+)
+curves-yes Certificate ws pos t = (
+  nonsingular-by-computing pos _ _ (both-left (curve Certificate ws 2 3) (curve Certificate ws 4 5) t),
+  nonsingular-by-computing pos _ _ (both-right (curve Certificate ws 2 3) (curve Certificate ws 4 5) t),
+)
+curves-yes Kernel ws pos t = nonsingular-by-computing pos _ _ t
+
+module _ (form : Form) (ws : List ℕ) where
+  abbrev p : ℕ
+  p = entry form 1 ws
+
+  abbrev ℓ : ℕ
+  ℓ = entry form 6 ws
+
+  abbrev rest : List ℕ
+  rest = drop (length (header form)) ws
+
+  abbrev values : List ℕ
+  values = entry form 2 ws ∷ entry form 3 ws ∷ entry form 4 ws ∷ entry form 5 ws ∷ entry form 7 ws ∷ []
+
+  abbrev tests : List Bool
+  tests =
+      same-list (map kindOf (take (length (header form)) ws)) (header form)
+      ∷ primeTest p ∷ leb 11 p
+      ∷ eqb (ℓ % 2) 1 ∷ leb 3 ℓ ∷ leb ℓ 255 ∷ ltb (2 * ℓ - 1) p
+      ∷ below p values
+      ∷ same-list (map kindOf rest) (body form (half form ws)) ∷ below p (map valueOf rest) ∷ eqb (valueOf (getD ws (length ws - 1) 0)) 0
+      ∷ curves form ws ∷ []
+
+  abbrev pub asked-test : Bool
+  asked-test = every tests
+
+  yes : T asked-test → Every tests
+  yes t = every-yes tests t
+
+  pub prime-by-computing : T asked-test → Prime p
+  prime-by-computing t = prime-yes p (yes t 1)
+
+  pub least-by-computing : T asked-test → 11 ≤ p
+  least-by-computing t = leb→le 11 p (yes t 2)
+
+  below-at : 0 < p → T (below p (map valueOf rest)) → (i : ℕ) → length (header form) ≤ i → valueOf (getD ws i 0) < p
+  below-at pos t i l =
+      let j : ℕ = i - length (header form) in
+      let e : getD (map valueOf rest) j 0 ≡ valueOf (getD ws i 0) =
+      List·getD-map valueOf rest j 0 ∙ ap valueOf (getD-drop (length (header form)) ws j 0 ∙ ap (λ k. getD ws k 0) (omega arith))
+      in
+      subst (λ x. x < p) e (below-yes p pos (map valueOf rest) t j)
+
+  pub asked-by-computing : T asked-test → AllYes (asked form ws)
+  unfolding Asked2
+  asked-by-computing t =
+      let s : Every tests = yes t in
+      let pos : 0 < p = prime-pos (prime-by-computing t) in
+      let small : (i : ℕ) → getD values i 0 < p = below-yes p pos values (s 7) in (
+        same-list-yes _ _ (s 0),
+        (
+          record { prime = prime-by-computing t; least = least-by-computing t },
+          (
+            record {
+              odd = eqb→eq (ℓ % 2) 1 (s 3);
+              least = leb→le 3 ℓ (s 4);
+              most = leb→le ℓ 255 (s 5);
+              small = ltb→lt (2 * ℓ - 1) p (s 6);
+            },
+            (
+              record { A = small 0; B = small 1; Ã = small 2; B̃ = small 3; σ = small 4 },
+              (
+                record {
+                  kinds = same-list-yes _ _ (s 8);
+                  below = λ i l m. below-at pos (s 9) i l;
+                  end = eqb→eq _ _ (s 10);
+                },
+                (curves-yes form ws pos (s 11), tt),
+              ),
+            ),
+          ),
+        ),
+      )

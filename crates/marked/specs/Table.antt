@@ -1,0 +1,79 @@
+-- Document 01's marked sheets (◆ there) as one table, and the one theorem that covers it: every row holds, from the rules, by computing.
+-- Assumes nothing.
+use mathlib.Core.Bool.{Bool, true}
+use mathlib.Core.List.{List, [], _∷_}
+use Prim.Native.Nat.{ℕ}
+use lib.Dec.{T}
+use Rattle.ring.specs.Test.{both, both-left, both-right}
+use Rattle.sheet.specs.declared.Values.{Values}
+use Rattle.services.specs.declared.Point.the-variants as point
+use Rattle.services.specs.declared.Image.the-variants as image
+use Rattle.marked.specs.Rules.{numerator}
+use Rattle.marked.specs.Row.{Row, Q, Claim}
+use Rattle.marked.specs.Row.Row.{solves, unsolved, pushes, kernel, refused, refused-though}
+use Rattle.marked.specs.Holds.{test, row-holds}
+
+-- "Q 1009, 1, 3, 265, 877, 3, 46: g = x − 23, N = x³ + 963x² + 678x + 949"
+abbrev first : Values
+first = Q 1009 1 3 265 877 3 46
+
+abbrev first-g : List ℕ
+first-g = 986 ∷ 1 ∷ []
+
+abbrev first-n : List ℕ
+first-n = 949 ∷ 678 ∷ 963 ∷ 1 ∷ []
+
+-- "Q 1009, 1, 3, 81, 169, 9, 0: g = x⁴ + 2x² + 12x + 336"; N is R2's
+abbrev ninth : Values
+ninth = Q 1009 1 3 81 169 9 0
+
+abbrev ninth-g : List ℕ
+ninth-g = 336 ∷ 12 ∷ 2 ∷ 0 ∷ 1 ∷ []
+
+-- "Q 11, 0, 1, 0, 6, 3, 0: g = x, N = x³ + 4"
+abbrev eleven : Values
+eleven = Q 11 0 1 0 6 3 0
+
+abbrev x : List ℕ
+x = 0 ∷ 1 ∷ []
+
+abbrev x³+4 : List ℕ
+x³+4 = 4 ∷ 0 ∷ 0 ∷ 1 ∷ []
+
+unfoldable pub rows : List Row
+rows =
+    solves first first-g first-n
+    -- "The same with σ = 48: 11. With B̃ = 878: 11"
+    ∷ unsolved (Q 1009 1 3 265 877 3 48) 11
+    ∷ unsolved (Q 1009 1 3 265 878 3 46) 11
+    ∷ solves ninth ninth-g (numerator ninth ninth-g)
+    -- "Through the first, (1008, 1) goes to (617, 44)"
+    ∷ pushes first first-g first-n (point.Affine 1008 1) (image.Affine 617 44)
+    ∷ solves eleven x x³+4
+    -- "Through it (2, 3) goes to (3, 0), and (0, 1) to infinity"
+    ∷ pushes eleven x x³+4 (point.Affine 2 3) (image.Affine 3 0)
+    ∷ pushes eleven x x³+4 (point.Affine 0 1) image.Infinity
+    -- "Kernel sheet 11, 0, 1, ℓ = 3, g = x: codomain (0, 6)"
+    ∷ kernel eleven x x³+4
+    -- "Certificate 11, 0, 1, 0, 1, 3, 2 with g = x − 1, N = x³ + 9x² + x: 9, though R3 holds"
+    ∷ refused-though (Q 11 0 1 0 1 3 2) (10 ∷ 1 ∷ []) (0 ∷ 1 ∷ 9 ∷ 1 ∷ []) 9
+    -- "Certificate 11, 0, 1, 0, 7, 3, 0 with g = x, N = x³ + 4: 10"
+    ∷ refused (Q 11 0 1 0 7 3 0) x x³+4 10
+    ∷ []
+
+-- a property of every row
+abbrev pub All : (Row → Type 0) → List Row → Type 0
+All P [] = Unit {0}
+All P (r ∷ rs) = P r × All P rs
+
+abbrev tests : List Row → Bool
+tests [] = true
+tests (r ∷ rs) = both (test r) (tests rs)
+
+all-hold : (rs : List Row) → T (tests rs) → All Claim rs
+all-hold [] t = tt
+all-hold (r ∷ rs) t = (row-holds r (both-left (test r) (tests rs) t), all-hold rs (both-right (test r) (tests rs) t))
+
+pub all-marked : All Claim rows
+unfolding rows
+all-marked = all-hold rows tt

@@ -1,0 +1,47 @@
+-- Tests that the checker computes: several in one, equal lists, and lists of numbers below a bound.
+-- Assumes nothing.
+use mathlib.Core.Path.{_≡_, refl, ap₂}
+use mathlib.Core.Bool.{Bool, true, false}
+use mathlib.Core.List.{List, [], _∷_}
+use Prim.Native.Nat.{ℕ, zero, suc, _<_}
+use lib.Dec.{T, eqb, eqb→eq, ltb, ltb→lt}
+use lib.ListN.{getD}
+use Rattle.ring.specs.Test.{both, both-left, both-right}
+
+-- every test of a list passes
+abbrev pub every : List Bool → Bool
+every [] = true
+every (b ∷ bs) = both b (every bs)
+
+-- what each of them says, by its place
+abbrev pub Every : List Bool → Type 0
+Every bs = (i : ℕ) → T (getD bs i true)
+
+pub every-yes : (bs : List Bool) → T (every bs) → Every bs
+every-yes [] t i = tt
+every-yes (b ∷ bs) t zero = both-left b (every bs) t
+every-yes (b ∷ bs) t (suc i) = every-yes bs (both-right b (every bs) t) i
+
+-- two lists are equal
+abbrev pub same-list : List ℕ → List ℕ → Bool
+same-list [] [] = true
+same-list [] (y ∷ ys) = false
+same-list (x ∷ xs) [] = false
+same-list (x ∷ xs) (y ∷ ys) = both (eqb x y) (same-list xs ys)
+
+pub same-list-yes : (xs ys : List ℕ) → T (same-list xs ys) → xs ≡ ys
+same-list-yes [] [] t = refl
+same-list-yes [] (y ∷ ys) t = absurd t
+same-list-yes (x ∷ xs) [] t = absurd t
+same-list-yes (x ∷ xs) (y ∷ ys) t =
+    ap₂ _∷_ (eqb→eq x y (both-left (eqb x y) (same-list xs ys) t)) (same-list-yes xs ys (both-right (eqb x y) (same-list xs ys) t))
+
+-- every number is below p; past the end a list reads 0
+abbrev pub below : ℕ → List ℕ → Bool
+below p [] = true
+below p (x ∷ xs) = both (ltb x p) (below p xs)
+
+pub below-yes : (p : ℕ) → 0 < p → (xs : List ℕ) → T (below p xs) → (i : ℕ) → getD xs i 0 < p
+below-yes p pos [] t i = pos
+below-yes p pos (x ∷ xs) t zero = ltb→lt x p (both-left (ltb x p) (below p xs) t)
+below-yes p pos (x ∷ xs) t (suc i) = below-yes p pos xs (both-right (ltb x p) (below p xs) t) i

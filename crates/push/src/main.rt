@@ -1,0 +1,26 @@
+// Reads a point's number, eight bytes with the lowest first, and then a certificate from standard input, and prints the number of the point's image.
+use services::Image;
+
+fn print(image: Image) {
+    let Image::Affine(u, v) = image else {
+        let Image::Refused(number) = image else {
+            console::print_number(sagepliers::files::INFINITY);
+            return;
+        };
+        console::print_refused(number);
+        return;
+    };
+    console::print_number(sagepliers::point_number(u, v));
+}
+
+// Fewer than eight bytes hold no point, and no word of a certificate: question 2.
+fn main() {
+    let mut bytes = [0u8; 1583];
+    let n = console::read(&mut bytes);
+    if n < 8 {
+        console::print_refused(2);
+        return;
+    }
+    let point = sagepliers::files::number(&bytes);
+    print(sagepliers::files::push(&bytes[8..n], point));
+}

@@ -1,0 +1,5 @@
+pub mod Split
+pub mod Long
+pub mod Bytes
+pub mod Loading
+pub mod Numbers

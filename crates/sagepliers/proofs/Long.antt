@@ -1,0 +1,75 @@
+-- A sheet of more words than any sheet has: its first 393 words get the answer that all of them get, since questions 2 to 5 read the header alone and
+-- question 6 is a no.
+-- Assumes nothing.
+use mathlib.Core.Path.{_≡_, subst}
+use mathlib.Core.Logic.{_⊎_, inl, inr}
+use mathlib.Core.List.{List, [], _∷_, _++_}
+use Prim.Native.Nat.{ℕ}
+use native.Mathlib.Omega.{arith}
+use lib.ListN.{take}
+use Rattle.sheet.proofs.LongSheet.{front-yes, front-no, front-all}
+use Rattle.sheet.specs.declared.Form.{Form}
+use Rattle.sheet.specs.declared.Form.the-variants.{Question as question-form, Certificate, Kernel}
+use Rattle.sheet.specs.Asked.{asked}
+use Rattle.sheet.specs.FirstNo.{Questions, AllYes, FirstNo, no-before}
+use Rattle.services.specs.declared.Verdict.{Verdict}
+use Rattle.services.specs.declared.Verdict.the-variants as verdict
+use Rattle.services.specs.declared.Written.{Written}
+use Rattle.services.specs.declared.Written.the-variants as written
+use Rattle.services.specs.declared.Point.{Point}
+use Rattle.services.specs.declared.Image.{Image}
+use Rattle.services.specs.declared.Image.the-variants as image
+use Rattle.services.specs.Asked.{Solvable, Leading, Codomain, Given, check-asks}
+use Rattle.services.specs.Answer.{CheckRight, SolveRight, KernelRight, PushRight}
+use Rattle.services.specs.Judged.{rules-asks}
+use Rattle.sagepliers.proofs.Split.{no-split, all-split}
+
+-- the count of words that are kept
+abbrev pub kept : ℕ
+kept = 393
+
+-- the first no of 393 words is that of all of them
+asked-no : (form : Form) (ws : List ℕ) (n : ℕ) → FirstNo (asked form (take kept ws)) n → FirstNo (asked form ws) n
+asked-no form ws n h = front-no form ws kept (omega arith) n .0 h
+
+-- words of which 393 pass are no more than that
+whole : (form : Form) (ws : List ℕ) → AllYes (asked form (take kept ws)) → take kept ws ≡ ws
+whole form ws all = front-all form ws kept (omega arith) (front-yes form ws kept (omega arith) .0 all)
+
+-- with the questions of a service after those of the form
+long-no : (form : Form) (more : List ℕ → Questions) (ws : List ℕ) (n : ℕ)
+    → FirstNo (asked form (take kept ws) ++ more (take kept ws)) n → FirstNo (asked form ws ++ more ws) n
+long-no form more ws n h = go (no-split (asked form (take kept ws)) (more (take kept ws)) n h)
+  where
+    go : FirstNo (asked form (take kept ws)) n ⊎ (AllYes (asked form (take kept ws)) × FirstNo (more (take kept ws)) n) → FirstNo (asked form ws ++ more ws) n
+    go (inl k) = no-before (asked form ws) (more ws) n (asked-no form ws n k)
+    go (inr k) = subst (λ (us : List ℕ). FirstNo (asked form us ++ more us) n) (whole form ws (k .0)) h
+
+-- what holds of 393 words that pass holds of all of them
+long-all : (form : Form) (more : List ℕ → Questions) (P : List ℕ → Type 0) (ws : List ℕ)
+    → AllYes (asked form (take kept ws) ++ more (take kept ws)) → P (take kept ws) → P ws
+long-all form more P ws all h = subst P (whole form ws (all-split (asked form (take kept ws)) (more (take kept ws)) all .0)) h
+
+pub check-long : (ws : List ℕ) (r : Verdict) → CheckRight (take kept ws) r → CheckRight ws r
+check-long ws verdict.Passes h = long-all Certificate rules-asks (λ us. AllYes (check-asks us)) ws h h
+check-long ws (verdict.Refused n) h = long-no Certificate rules-asks ws n h
+
+pub push-long : (ws : List ℕ) (at : Point) (r : Image) → PushRight (take kept ws) at r → PushRight ws at r
+push-long ws at (image.Affine u v) h =
+    long-all Certificate (λ us. rules-asks us ++ (12, Given us at) ∷ []) (λ us. PushRight us at (image.Affine u v)) ws (h .0) h
+push-long ws at image.Infinity h = long-all Certificate (λ us. rules-asks us ++ (12, Given us at) ∷ []) (λ us. PushRight us at image.Infinity) ws (h .0) h
+push-long ws at (image.Refused n) h = long-no Certificate (λ us. rules-asks us ++ (12, Given us at) ∷ []) ws n h
+
+pub solve-long : (ws before after : List ℕ) (r : Written) → SolveRight (take kept ws) before after r → SolveRight ws before after r
+solve-long ws before after (written.Count c) h =
+    long-all question-form (λ us. (11, Solvable us) ∷ []) (λ us. SolveRight us before after (written.Count c)) ws (h .0 .1) h
+solve-long ws before after (written.Refused n) (inl h, same) = (inl h, same)
+solve-long ws before after (written.Refused n) (inr h, same) =
+    (inr (h .0, long-no question-form (λ us. (11, Solvable us) ∷ []) ws n (h .1)), same)
+
+pub kernel-long : (ws before after : List ℕ) (r : Written) → KernelRight (take kept ws) before after r → KernelRight ws before after r
+kernel-long ws before after (written.Count c) h =
+    long-all Kernel (λ us. (8, Leading us) ∷ (11, Codomain us) ∷ []) (λ us. KernelRight us before after (written.Count c)) ws (h .0 .1) h
+kernel-long ws before after (written.Refused n) (inl h, same) = (inl h, same)
+kernel-long ws before after (written.Refused n) (inr h, same) =
+    (inr (h .0, long-no Kernel (λ us. (8, Leading us) ∷ (11, Codomain us) ∷ []) ws n (h .1)), same)

@@ -1,0 +1,12 @@
+pub mod Accepted
+pub mod Judging
+pub mod Decided
+pub mod Answers
+pub mod Certified
+pub mod Theorems
+pub mod Elements
+pub mod Names
+pub mod Images
+pub mod KernelSheet
+pub mod Codomains
+pub mod MoreTheorems
