@@ -25,7 +25,7 @@ use Rattle.services.specs.Judged.{Judged, rules-ask, rules-asks}
 
 -- ── the values
 
-entry-small : (form : Form) (k : ℕ) (ws : List ℕ) → entry form k ws < 2 ^ 28
+pub entry-small : (form : Form) (k : ℕ) (ws : List ℕ) → entry form k ws < 2 ^ 28
 entry-small form k ws = go (holds k (header form)) (getD ws (position k (header form)) 0)
   where
     go : (t : Bool) (w : ℕ) → cond t (valueOf w) 0 < 2 ^ 28

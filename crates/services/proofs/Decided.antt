@@ -38,9 +38,5 @@ module _ (v : Values) (ready : Ready v) (g n : List ℕ) (n-length : length n �
         let m : Meets (Zmod (v .p)) (question v) (poly (v .p) g) = subst (Meets (Zmod (v .p)) (question v)) (only .only g′ meets) meets in
         fails (subst (R3 (Zmod (v .p)) (question v) (poly (v .p) g)) (sym (whole-numerator (only .r1 .degree))) (m .r3))
 
--- questions 3 to 5, as expansion asks for them
-pub permitted : (v : Values) → Ready v → Ready v
-permitted v ready = ready
-
 pub reduced-words : {p : ℕ} (xs : List ℕ) (m : ℕ) → p ≤ m → Reduced p xs → Reduced m xs
 reduced-words xs m le h i = omega (arith, h i)

@@ -1,5 +1,5 @@
--- What a customer can cite of kernel, push and name: where push goes, and that one answer is right and no other, for kernel the answer with every word
--- of the lent buffer.
+-- What a customer can cite of kernel, push and name: where push goes, that one answer is right and no other, for kernel the answer with every word
+-- of the lent buffer, and that what kernel writes passes check.
 -- Assumes nothing.
 use mathlib.Core.Path.{_≡_, refl, sym, _∙_, ap, ap₂, subst}
 use mathlib.Core.List.{List, map, _++_}
@@ -12,7 +12,7 @@ use Rattle.series.specs.Degree.{Below}
 use Rattle.zmod.specs.Zmod.{Elt, Zmod, mk, times, minus, mk-apart}
 use Rattle.zmod.specs.Prime.{Prime, prime-pos}
 use Rattle.zmod.specs.Residues.{poly, poly-past, Residues, residues-same, residues-unique}
-use Rattle.isogeny.specs.Curve.{OnCurve}
+use Rattle.isogeny.specs.Curve.{OnCurve, Nonsingular}
 use Rattle.isogeny.specs.Rules.{N, Meets, ℓ}
 use Rattle.isogeny.specs.Expansion.{power-sums}
 use Rattle.isogeny.specs.Kernel.{codomain-A, codomain-B}
@@ -24,7 +24,11 @@ use Rattle.sheet.specs.Reading.{valuesOf}
 use Rattle.sheet.specs.Certificate.{certificate}
 use Rattle.sheet.specs.FirstNo.{AllYes, first-no-unique, not-both}
 use Rattle.rules.specs.Question.{question, half}
-use Rattle.rules.specs.Ready.{ready}
+use Rattle.rules.specs.Ready.{Ready, ready}
+use Rattle.sheet.specs.Leaf.{Curves}
+use Rattle.sheet.proofs.Questions.{from3, from4, from7}
+use Rattle.services.proofs.Accepted.{entry-small}
+use Rattle.services.proofs.Certified.{filled-certified}
 use Rattle.services.specs.declared.Point.{Point}
 use Rattle.services.specs.declared.Point.the-variants as point
 use Rattle.services.specs.declared.Image.{Image}
@@ -33,7 +37,7 @@ use Rattle.services.specs.declared.Written.{Written}
 use Rattle.services.specs.declared.Written.the-variants as written
 use Rattle.services.specs.declared.Named.{Named}
 use Rattle.services.specs.declared.Named.the-variants as named
-use Rattle.services.specs.Asked.{prime, put, g, n, kernel-asks, push-asks, name-asks}
+use Rattle.services.specs.Asked.{prime, put, g, n, check-asks, kernel-asks, push-asks, name-asks}
 use Rattle.services.specs.Answer.{ToAffine, PushRight, KernelFilled, KernelRight, kernel-values, NameRight}
 
 -- ── push
@@ -155,3 +159,33 @@ kernel-unique ws before after after′ (written.Count c) (written.Refused k) h h
 kernel-unique ws before after after′ (written.Count c) (written.Count c′) h h′ =
     let same = one-certificate ws before (h .0) (h .1) (h′ .1) in
     (ap written.Count (same .0), same .1)
+
+kernel-curves : (ws : List ℕ) (ã b̃ σ : ℕ) → Curves Kernel (valuesOf Kernel ws)
+    → Nonsingular (Zmod (prime Kernel ws)) (mk (prime Kernel ws) ã) (mk (prime Kernel ws) b̃) → Curves Certificate (kernel-values ws ã b̃ σ)
+unfolding Curves
+kernel-curves ws ã b̃ σ domain codomain = (domain, codomain)
+
+-- What kernel writes passes check.
+pub kernel-certified : (ws before after : List ℕ) (c : ℕ) → KernelRight ws before after (written.Count c) → AllYes (check-asks (take c after))
+kernel-certified ws before after c (all, it) =
+    let three = all .1 .1 .0 in
+    let four = all .1 .1 .1 .0 in
+    let five = all .1 .1 .1 .1 .0 in
+    let r : Ready (valuesOf Kernel ws) = ready Kernel ws three four five in
+    filled-certified (kernel-values ws (it .ã) (it .b̃) (it .σ))
+    (record {
+      large = r .large;
+      small = r .small;
+      odd = r .odd;
+      least = r .least;
+      most = r .most;
+      degree-below = r .degree-below;
+      a-below = r .a-below;
+      b-below = r .b-below;
+      atilde-below = it .ã-below;
+      btilde-below = it .b̃-below;
+      sigma-below = it .σ-below;
+    })
+    (entry-small Kernel 1 ws) (from3 Kernel ws refl three) (from4 Kernel ws refl four)
+    (record { a = five .A; b = five .B; atilde = it .ã-below; btilde = it .b̃-below; sigma = it .σ-below })
+    (kernel-curves ws (it .ã) (it .b̃) (it .σ) (from7 Kernel ws refl (all .1 .1 .1 .1 .1 .1 .0)) (it .nonsingular)) before after c (it .filled)

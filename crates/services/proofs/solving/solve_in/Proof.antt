@@ -4,14 +4,14 @@ use borrow.Author.Needs.{needs}
 use native.Mathlib.Omega.{arith}
 use Rattle.services.proofs.Certified.{values-fit}
 use Rattle.services.proofs.Judging.{refuted, shown}
-use Rattle.services.proofs.Decided.{found, unmet, permitted, reduced-words}
+use Rattle.services.proofs.Decided.{found, unmet, reduced-words}
 use Rattle.services.proofs.solving.solve_in.Statement.{statement}
 use Rattle.services.proofs.solving.solve_in.Tie as tie
 
 candidate-requires : tie.Need-candidate-requires
 candidate-requires c κs =
     let start = c .before .before .before .before in
-    ((permitted (start .args .v) (start .pre .0 .0), start .pre .0 .2, start .pre .0 .3), start .pre .1 .0)
+    ((start .pre .0 .0, start .pre .0 .2, start .pre .0 .3), start .pre .1 .0)
 
 numerator-requires : tie.Need-numerator-requires
 numerator-requires c κs =
