@@ -1,6 +1,6 @@
 #!/bin/sh
 # Runs the tests of the independent implementation and, if SAGEPLIERS_LIB_DIR
-# holds libsagepliers.a, compares that library with it. Arguments go to the
+# is set, compares the libsagepliers.a in it with it. Arguments go to the
 # comparison (--quick, --count N, --threads N, --only TEXT).
 set -eu
 here=$(pwd)
@@ -17,8 +17,8 @@ fi
 SAGEPLIERS_LIB_DIR=$(cd "$here" && cd "$SAGEPLIERS_LIB_DIR" && pwd)
 export SAGEPLIERS_LIB_DIR
 if [ ! -f "$SAGEPLIERS_LIB_DIR/libsagepliers.a" ]; then
-    echo "no libsagepliers.a in $SAGEPLIERS_LIB_DIR: nothing compared"
-    exit 0
+    echo "no libsagepliers.a in $SAGEPLIERS_LIB_DIR" >&2
+    exit 1
 fi
 cargo build -q -j1 --release -p compare
 exec "$CARGO_TARGET_DIR/release/compare" "$@"
