@@ -3,4 +3,3 @@ pub mod Parts
 pub mod Causal
 pub mod Products
 pub mod Steps
-pub mod Only

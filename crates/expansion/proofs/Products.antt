@@ -15,7 +15,7 @@ module _ (R : CRing) where
   infixl 65 _⊕_
   infixl 70 _⊗_
   -- a coefficient by its terms
-  conv-terms : (a b f : Seq R) (n : ℕ) → ((i : ℕ) → i ≤ n → a i ⊗ b (n - i) ≡ f i) → conv R a b n ≡ sum R f (suc n)
+  pub conv-terms : (a b f : Seq R) (n : ℕ) → ((i : ℕ) → i ≤ n → a i ⊗ b (n - i) ≡ f i) → conv R a b n ≡ sum R f (suc n)
   conv-terms a b f n h = conv-sum R a b n ∙ sum-same R (λ i. a i ⊗ b (n - i)) f (suc n) (λ i l. h i (omega arith))
 
   -- the sum of s_i c_(k − i), i from 1 to k − 1: a is s₁ .. s_(k − 1)
@@ -28,14 +28,6 @@ module _ (R : CRing) where
       (λ i m. ap₂ _⊗_ (h i m ∙ ap s (omega arith)) (ap c (omega arith))))
       (ap (λ x. x ⊗ c (k - 1 - (k - 1))) z ∙ Ring.zero-mul R _)
       ∙ add-zero _
-
-  -- i from 1 to k: a is s from 1 on, to k at least, and b is c up to k − 1
-  pub newton-whole : (s c a b : Seq R) (k : ℕ) → 1 ≤ k → ((i : ℕ) → i < k → a i ≡ s (1 + i)) → ((i : ℕ) → i < k → b i ≡ c i)
-      → conv R a b (k - 1) ≡ sum-to R (λ i. s i ⊗ c (k - i)) k
-  newton-whole s c a b k l ha hb =
-      conv-terms a b (λ i. s (suc i) ⊗ c (k - suc i)) (k - 1)
-      (λ i m. ap₂ _⊗_ (ha i (omega arith) ∙ ap s (omega arith)) (hb (k - 1 - i) (omega arith) ∙ ap c (omega arith)))
-      ∙ ap (sum R (λ i. s (suc i) ⊗ c (k - suc i))) (omega arith)
 
   -- the sum of h_i h_(k − 1 − i), i from 1 to k − 2: a is h₁ .. h_(k − 2)
   pub square-part : (h a : Seq R) (k : ℕ) → 3 ≤ k → ((i : ℕ) → i < k - 2 → a i ≡ h (1 + i))

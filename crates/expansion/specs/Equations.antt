@@ -1,45 +1,22 @@
--- The equations of what solving computes, one for each place of a sequence, and words that solve them: the words before k of a slice solve the equations
+-- The equations of the power sums, one for each place of a sequence, and words that solve such equations: the words before k of a slice solve the equations
 -- before k, and one more word, stored at k, that at k. An equation at k reads the sequence up to k.
 -- Assumes nothing.
 use mathlib.Core.Path.{_≡_}
 use mathlib.Core.List.{List}
-use Prim.Native.Nat.{ℕ, _*_, _-_, _≤_, _<_}
+use Prim.Native.Nat.{ℕ, _<_}
 use lib.ListN.{set}
-use Rattle.ring.specs.Ring.{CRing, cast}
+use Rattle.ring.specs.Ring.{CRing}
 use Rattle.series.specs.Series.{Seq}
 use Rattle.series.specs.Reversal.{rev}
-use Rattle.zmod.specs.Zmod.{Zmod, mk, times}
+use Rattle.zmod.specs.Zmod.{Zmod}
 use Rattle.zmod.specs.Residues.{poly}
 use Rattle.slices.specs.Filling.{Filled}
-use Rattle.isogeny.specs.Rules.{Question}
-use Rattle.isogeny.specs.Expansion.{Newton, Recurs, from-sums, newton-step}
+use Rattle.isogeny.specs.Expansion.{newton-step}
 
 module _ (R : CRing) where
   -- s obeys Newton's identities, solved for s_k, where c is g reversed
   abbrev pub SumAt : ℕ → Seq R → Seq R → ℕ → Type 0
   SumAt d c s k = s k ≡ newton-step R d (rev R d c) k s
-
-  module _ (q : Question R) where
-    open Question q using (A, B, Ã, B̃, d, σ)
-    open CRing R using (𝟘, 𝟙, add, mul, neg)
-
-    -- h from the codomain
-    pub record HAt (h : Seq R) (k : ℕ) : Type 0 where
-      pub zero : k ≡ 0 → h 0 ≡ 𝟘
-      pub first : k ≡ 1 → mul (cast R 5) (h 1) ≡ add A (neg Ã)
-      pub second : k ≡ 2 → mul (cast R 7) (h 2) ≡ add B (neg B̃)
-      pub more : 3 ≤ k → Recurs R A B h k
-
-    -- s from h and σ
-    pub record SAt (h s : Seq R) (k : ℕ) : Type 0 where
-      pub zero : k ≡ 0 → s 0 ≡ cast R (2 * d)
-      pub one : k ≡ 1 → s 1 ≡ σ
-      pub more : 2 ≤ k → from-sums R A B s (k - 1) ≡ h (k - 1)
-
-  -- c, the coefficients of g from the leading one down, from s
-  pub record CAt (s c : Seq R) (k : ℕ) : Type 0 where
-    pub zero : k ≡ 0 → c 0 ≡ R .𝟙
-    pub more : 1 ≤ k → Newton R c s k
 
 -- ── words
 
@@ -57,8 +34,3 @@ module _ (p : ℕ) (E : Seq (Zmod p) → ℕ → Type 0) where
   pub record Solves (xs : List ℕ) (k r : ℕ) : Type 0 where
     pub below : r < p
     pub equation : E (poly p (set xs k r)) k
-
--- r is y / k
-pub record Quotient (p k y r : ℕ) : Type 0 where
-  pub below : r < p
-  pub product : times p (mk p k) (mk p r) ≡ mk p y

@@ -2,5 +2,4 @@ pub mod Question
 pub mod Ready
 pub mod Degrees
 pub mod Numerator
-pub mod Sides
 pub mod Words

@@ -1,0 +1,4 @@
+pub mod Causal
+pub mod Products
+pub mod Steps
+pub mod Only
