@@ -1,1 +1,2 @@
+pub mod Multiple
 pub mod Equations

@@ -9,9 +9,10 @@ ghost use Rattle.slices.specs.Filling.{Filled};
 ghost use Rattle.series.specs.Reversal.{rev};
 ghost use Rattle.zmod.specs.Zmod.{Zmod, mk, plus, times};
 ghost use Rattle.zmod.specs.Residues.{Residue, Reduced, poly, Residues};
-ghost use Rattle.isogeny.specs.Expansion.{expansion as expansion-of, power-sums, recurrence as recurrence-of, Recurs};
+ghost use Rattle.isogeny.specs.Expansion.{expansion as expansion-of, power-sums, recurrence as recurrence-of, Recurs, sum-to};
 ghost use Rattle.rules.specs.Question.{half, question};
 ghost use Rattle.rules.specs.Ready.{Ready};
+ghost use Rattle.expansion.specs.Multiple.{Multiple};
 ghost use Rattle.expansion.specs.Equations.{SumAt, ReducedTo, Solves};
 
 // Room for a polynomial. (As the result of a call its words stay out of the callers' proofs.)
@@ -45,6 +46,18 @@ pub fn reverse(a: &[u32], out: &mut [u32])
 
 // ── the power sums from g
 
+// 2k c_k
+fn newton_weight(c: &[u32], k: usize, p: u32) -> u32
+    requires { ⌜ (0 < p) × (k < 1024) ⌝ }
+    ensures { λ r. ⌜ Residue p (times p (mk p (2 * k)) (mk p (getD (now (c .entry)) k 0))) r ⌝ }
+{
+    if k < c.len() {
+        field::multiply(2 * (k as u32), c[k], p)
+    } else {
+        0
+    }
+}
+
 // s_k = -2k c_k - (the sum of s_i c_(k - i), i from 1 to k - 1), where c is g reversed.
 fn power_sum(v: Values, c: &[u32], s: &[u32], k: usize) -> u32
     requires { ⌜ Ready v ⌝ }
@@ -56,7 +69,7 @@ fn power_sum(v: Values, c: &[u32], s: &[u32], k: usize) -> u32
     if k == 0 {
         return field::reduce(field::wide(v.degree - 1), p);
     }
-    let w = field::multiply(2 * (k as u32), poly::word(c, k), p);
+    let w = newton_weight(c, k, p);
     let before = &s[1..k];
     field::negate(poly::coefficient(w, before, c, k - 1, p), p)
 }
@@ -96,39 +109,50 @@ pub fn power_sums(v: Values, g: &[u32], s: &mut [u32])
 
 // ── the expansion from the power sums
 
-// h_i = (2i + 1)s_(i+1) + (2i - 1)A s_(i-1) + (2i - 2)B s_(i-2), and h₀ = 0.
-fn expansion_at(v: Values, s: &[u32], i: usize) -> u32
+// h_i = (2i + 1)s_(i+1) + (2i - 1)A s_(i-1) + (2i - 2)B s_(i-2), where y = (2i - 1)A and z = (2i - 2)B.
+fn expansion_at(v: Values, s: &[u32], i: usize, y: u32, z: u32) -> u32
     requires { ⌜ Ready v ⌝ }
-    requires { ⌜ (i + 1 < length (now s)) × (length (now s) ≤ 1024) × Reduced (v .p) (now s) ⌝ }
+    requires { ⌜ (1 ≤ i) × (i + 1 < length (now s)) × (length (now s) ≤ 1024) × Reduced (v .p) (now s) ⌝ }
+    requires { ⌜ (Multiple (v .p) (2 * i - 1) (question v .A) y) × (Multiple (v .p) (2 * i - 2) (question v .B) z) ⌝ }
     ensures { λ r. ⌜ Residue (v .p) (expansion-of (Zmod (v .p)) (question v .A) (question v .B) (poly (v .p) (now (s .entry))) i) r ⌝ }
 {
-    let p = v.p;
-    if i == 0 {
-        return 0;
-    }
     let n = i as u32;
-    let x = s[i + 1];
-    let y = field::multiply(v.a, s[i - 1], p);
-    let z = field::multiply(v.b, s[poly::over(i, 2)], p);
-    weighted(2 * n + 1, x, 2 * n - 1, y, 2 * n - 2, z, p)
+    weighted(2 * n + 1, s[i + 1], y, s[i - 1], z, s[poly::over(i, 2)], v.p)
 }
 
-// h = the expansion of N/g², from the power sums s.
+// h = the expansion of N/g², from the power sums s. The multiples of A and B are added up, so that each word takes one remainder.
 pub fn expansion(v: Values, s: &[u32], h: &mut [u32])
     requires { ⌜ Ready v ⌝ }
-    requires { ⌜ (length (now h) < length (now s)) × (length (now s) ≤ 1024) × Reduced (v .p) (now s) ⌝ }
+    requires { ⌜ (0 < length (now h)) × (length (now h) < length (now s)) × (length (now s) ≤ 1024) × Reduced (v .p) (now s) ⌝ }
     ensures { λ r. ⌜ Residues (v .p) (expansion-of (Zmod (v .p)) (question v .A) (question v .B) (poly (v .p) (now (s .entry)))) (now (h .exit)) ⌝ }
 {
-    let mut i = 0;
+    let p = v.p;
+    let a = field::add(v.a, v.a, p);
+    let b = field::add(v.b, v.b, p);
+    h[0] = 0;
+    let mut i = 1;
+    let mut y = v.a;
+    let mut z = 0;
     while i < h.len() {
-        h[i] = expansion_at(v, s, i);
+        h[i] = expansion_at(v, s, i, y, z);
+        y = field::add(y, a, p);
+        z = field::add(z, b, p);
         i += 1;
     }
 }
 
 // ── the recurrence
 
-// Its right side at k: 3·(the sum of h_i h_(k-1-i), i from 1 to k - 2) - (k - 2)(2k - 3)A h_(k-2) - 2(k - 2)(k - 3)B h_(k-3).
+// The sum of h_i h_(k-1-i), i from 1 to k - 2.
+fn square_sum(h: &[u32], k: usize, p: u32) -> u32
+    requires { ⌜ (0 < p) × (p ≤ 2 ^ 28) × (3 ≤ k) × (k ≤ 1024) × (k ≤ length (now h)) × ReducedTo p (now h) k ⌝ }
+    ensures { λ r. ⌜ Residue p (sum-to (Zmod p) (λ i. times p (poly p (now (h .entry)) i) (poly p (now (h .entry)) (k - 1 - i))) (k - 2)) r ⌝ }
+{
+    let part = &h[1..k - 1];
+    poly::square_coefficient(part, k - 3, p)
+}
+
+// Its right side at k: 3·(that sum) - (k - 2)(2k - 3)A h_(k-2) - 2(k - 2)(k - 3)B h_(k-3).
 pub fn recurrence(v: Values, h: &[u32], k: usize) -> u32
     requires { ⌜ Ready v ⌝ }
     requires { ⌜ (3 ≤ k) × (k ≤ 1024) × (k ≤ length (now h)) × ReducedTo (v .p) (now h) k ⌝ }
@@ -136,23 +160,25 @@ pub fn recurrence(v: Values, h: &[u32], k: usize) -> u32
 {
     let p = v.p;
     let n = k as u32;
-    let e = k - 1;
-    let part = &h[1..e];
-    let x = poly::coefficient(0, part, part, k - 3, p);
+    let x = square_sum(h, k, p);
     let y = field::negate(field::multiply(v.a, h[k - 2], p), p);
     let z = field::negate(field::multiply(v.b, h[k - 3], p), p);
     weighted(3, x, (n - 2) * (2 * n - 3), y, 2 * (n - 2) * (n - 3), z, p)
 }
 
-// (k - 2)(2k + 3)h_k is the recurrence's right side.
-fn recurs_at(v: Values, h: &[u32], k: usize) -> bool
+// (k - 2)(2k + 3)h_k is the recurrence's right side, where y = (2k - 3)A and z = (2k - 6)B: all on one side, (k - 2)((2k + 3)h_k + y h_(k-2) + z h_(k-3))
+// less 3·(the sum) is 0.
+fn recurs_at(v: Values, h: &[u32], k: usize, y: u32, z: u32) -> bool
     requires { ⌜ Ready v ⌝ }
     requires { ⌜ (3 ≤ k) × (k < length (now h)) × (length (now h) ≤ 1024) × Reduced (v .p) (now h) ⌝ }
+    requires { ⌜ (Multiple (v .p) (2 * k - 3) (question v .A) y) × (Multiple (v .p) (2 * k - 6) (question v .B) z) ⌝ }
     ensures { λ r. ⌜ (r ≡ true) ↔ Recurs (Zmod (v .p)) (question v .A) (question v .B) (poly (v .p) (now (h .entry))) k ⌝ }
 {
+    let p = v.p;
     let n = k as u32;
-    let left = field::multiply((n - 2) * (2 * n + 3), h[k], v.p);
-    left == recurrence(v, h, k)
+    let u = weighted(2 * n + 3, h[k], y, h[k - 2], z, h[k - 3], p);
+    let x = field::negate(square_sum(h, k, p), p);
+    weighted(n - 2, u, 3, x, 0, 0, p) == 0
 }
 
 // Does h obey the recurrence wherever it can be read off its words?
@@ -161,11 +187,18 @@ pub fn recurs(v: Values, h: &[u32]) -> bool
     requires { ⌜ (length (now h) ≤ 1024) × Reduced (v .p) (now h) ⌝ }
     ensures { λ r. ⌜ (r ≡ true) ↔ ((k : ℕ) → 3 ≤ k → k < length (now (h .entry)) → Recurs (Zmod (v .p)) (question v .A) (question v .B) (poly (v .p) (now (h .entry))) k) ⌝ }
 {
+    let p = v.p;
+    let a = field::add(v.a, v.a, p);
+    let b = field::add(v.b, v.b, p);
     let mut k = 3;
+    let mut y = field::multiply(3, v.a, p);
+    let mut z = 0;
     while k < h.len() {
-        if !recurs_at(v, h, k) {
+        if !recurs_at(v, h, k, y, z) {
             return false;
         }
+        y = field::add(y, a, p);
+        z = field::add(z, b, p);
         k += 1;
     }
     true

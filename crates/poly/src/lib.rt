@@ -131,7 +131,7 @@ fn middle(a: &[u32], k: usize) -> u64
 }
 
 // The coefficient k of the square: the terms before the middle one, twice, and the middle one, 255 products at most.
-fn square_coefficient(a: &[u32], k: usize, p: u32) -> u32
+pub fn square_coefficient(a: &[u32], k: usize, p: u32) -> u32
     requires { ⌜ (0 < p) × (p ≤ 2 ^ 28) × (k < 2 ^ 63) × (Reduced p (now a)) ⌝ }
     ensures { λ r. ⌜ Residue p (conv (Zmod p) (poly p (now (a .entry))) (poly p (now (a .entry))) k) r ⌝ }
 {

@@ -3,11 +3,11 @@ use mathlib.Core.Path.{_≡_, ap, _∙_}
 use Prim.Native.Nat.{_-_, _*_}
 use native.Mathlib.Omega.{arith}
 use borrow.Author.Needs.{needs}
-use Rattle.expansion.proofs.Steps.{sum-first, sum-more}
 use Rattle.rules.specs.Question.{half}
-use Rattle.expansion.proofs.Parts.{part-reduced}
 use Rattle.zmod.specs.Residues.{residue-same}
-use Rattle.zmod.specs.Zmod.{mk, times}
+use Rattle.zmod.specs.Zmod.{mk}
+use Rattle.expansion.proofs.Parts.{part-reduced}
+use Rattle.expansion.proofs.Steps.{sum-first, sum-more}
 use Rattle.expansion.proofs.power_sum.Statement.{statement}
 use Rattle.expansion.proofs.power_sum.Tie as tie
 
@@ -29,17 +29,8 @@ returns c =
     sum-first p (half (a .v)) (a .c .now) (a .s .now) (a .k) (start .pre .1 .1 .0) (c .reduce .result) (c .before .before .before .if1 .taken)
     (residue-same (ap (mk p) (c .before .wide .ensures ∙ twice)) (c .reduce .ensures))
 
-cast-multiply : tie.Need-cast-multiply
-cast-multiply c = search needs
-
-mul-multiply : tie.Need-mul-multiply
-mul-multiply c = search needs
-
-word-requires : tie.Need-word-requires
-word-requires c κs = search needs
-
-multiply-requires : tie.Need-multiply-requires
-multiply-requires c κs = search needs
+newton-weight-requires : tie.Need-newton-weight-requires
+newton-weight-requires c κs = search needs
 
 sub-before : tie.Need-sub-before
 sub-before c = search needs
@@ -55,7 +46,7 @@ sub-coefficient c = search needs
 
 coefficient-requires : tie.Need-coefficient-requires
 coefficient-requires c κs =
-    let start = c .before .before .before .before .before .before in
+    let start = c .before .before .before .before .before in
     let a = start .args in (
       (omega arith, omega arith, omega arith),
       (part-reduced (a .v .p) (a .s .now) 1 (a .k - 1) (omega arith) (λ i l. start .pre .1 .1 .2 i (omega arith)), start .pre .1 .0 .1),
@@ -66,29 +57,11 @@ negate-requires c κs = search needs
 
 returns-2 : tie.Need-returns-2
 returns-2 c =
-    let start = c .before .before .before .before .before .before .before .before in
+    let start = c .before .before .before .before .before .before .before in
     let a = start .args in
     let p = a .v .p in
-    sum-more p (half (a .v)) (a .c .now) (a .s .now) (a .k) (start .pre .1 .1 .0) (start .pre .1 .0 .0) (omega arith) (c .before .before .before .multiply .result) (c .before .coefficient .result) (c .negate .result)
-    (residue-same (ap (λ n. times p (mk p (2 * a .k)) (mk p n)) (c .before .before .before .before .word .ensures)) (c .before .before .before .multiply .ensures))
-    (c .before .coefficient .ensures) (c .negate .ensures)
+    sum-more p (half (a .v)) (a .c .now) (a .s .now) (a .k) (start .pre .1 .1 .0) (start .pre .1 .0 .0) (omega arith) (c .before .before .before .newton-weight .result) (c .before .coefficient .result) (c .negate .result)
+    (c .before .before .before .newton-weight .ensures) (c .before .coefficient .ensures) (c .negate .ensures)
 
 pub power-sum-spec : {M : Type 1} → statement M
-power-sum-spec =
-    tie.close
-    (tie.spec
-    sub-wide
-    wide-requires
-    reduce-requires
-    returns
-    cast-multiply
-    mul-multiply
-    word-requires
-    multiply-requires
-    sub-before
-    part-before-start
-    part-before-end
-    sub-coefficient
-    coefficient-requires
-    negate-requires
-    returns-2)
+power-sum-spec = tie.close (tie.spec sub-wide wide-requires reduce-requires returns newton-weight-requires sub-before part-before-start part-before-end sub-coefficient coefficient-requires negate-requires returns-2)

@@ -4,34 +4,16 @@ use native.Mathlib.Omega.{arith}
 use borrow.Author.Needs.{needs}
 use Rattle.rules.specs.Question.{question}
 use Rattle.expansion.proofs.Steps.{small, recurrence-is}
-use Rattle.expansion.proofs.Parts.{part-reduced}
 use Rattle.expansion.proofs.recurrence.Statement.{statement}
 use Rattle.expansion.proofs.recurrence.Tie as tie
 
 cast-n : tie.Need-cast-n
 cast-n c = search needs
 
-sub-e : tie.Need-sub-e
-sub-e c = search needs
-
-sub-part : tie.Need-sub-part
-sub-part c = search needs
-
-part-part-start : tie.Need-part-part-start
-part-part-start c = search needs
-
-part-part-end : tie.Need-part-part-end
-part-part-end c = search needs
-
-sub-coefficient : tie.Need-sub-coefficient
-sub-coefficient c = search needs
-
-coefficient-requires : tie.Need-coefficient-requires
-coefficient-requires c κs =
-    let start = c .before .before in
-    let a = start .args in
-    let red = part-reduced (a .v .p) (a .h .now) 1 (a .k - 1 - 1) (omega arith) (λ i l. start .pre .1 .3 i (omega arith)) in
-    ((omega arith, omega arith, omega arith), (red, red))
+square-sum-requires : tie.Need-square-sum-requires
+square-sum-requires c κs =
+    let start = c .before in
+    (omega arith, omega arith, omega arith, omega arith, omega arith, start .pre .1 .3)
 
 sub-multiply : tie.Need-sub-multiply
 sub-multiply c = search needs
@@ -74,7 +56,7 @@ sub-weighted-2 c = search needs
 
 mul-weighted-2 : tie.Need-mul-weighted-2
 mul-weighted-2 c =
-    let k = c .before .before .before .before .before .before .before .before .before .args .k in
+    let k = c .before .before .before .before .before .before .before .before .args .k in
     omega (arith, small (k - 2) (2 * k - 3) (omega arith) (omega arith))
 
 sub-weighted-3 : tie.Need-sub-weighted-3
@@ -88,48 +70,19 @@ sub-weighted-4 c = search needs
 
 mul-weighted-4 : tie.Need-mul-weighted-4
 mul-weighted-4 c =
-    let k = c .before .before .before .before .before .before .before .before .before .args .k in
+    let k = c .before .before .before .before .before .before .before .before .args .k in
     omega (arith, small (2 * (k - 2)) (k - 3) (omega arith) (omega arith))
 
 weighted-requires : tie.Need-weighted-requires
 weighted-requires c κs =
-    omega (arith, c .before .before .before .before .before .before .coefficient .ensures .below, c .before .before .before .negate .ensures .below, c .negate2 .ensures .below)
+    omega (arith, c .before .before .before .before .before .before .square-sum .ensures .below, c .before .before .before .negate .ensures .below, c .negate2 .ensures .below)
 
 returns : tie.Need-returns
 returns c =
-    let a = c .before .before .before .before .before .before .before .before .before .before .args in
+    let a = c .before .before .before .before .before .before .before .before .before .args in
     recurrence-is (a .v .p) (question (a .v) .A) (question (a .v) .B) (a .h .now) (a .k) (omega arith)
-    (c .before .before .before .before .before .before .before .coefficient .result) (c .before .before .before .before .before .multiply .result) (c .before .before .before .before .negate .result) (c .before .before .multiply2 .result) (c .before .negate2 .result) (c .weighted .result)
-    (c .before .before .before .before .before .before .before .coefficient .ensures) (c .before .before .before .before .before .multiply .ensures) (c .before .before .before .before .negate .ensures) (c .before .before .multiply2 .ensures) (c .before .negate2 .ensures) (c .weighted .ensures)
+    (c .before .before .before .before .before .before .before .square-sum .result) (c .before .before .before .before .before .multiply .result) (c .before .before .before .before .negate .result) (c .before .before .multiply2 .result) (c .before .negate2 .result) (c .weighted .result)
+    (c .before .before .before .before .before .before .before .square-sum .ensures) (c .before .before .before .before .before .multiply .ensures) (c .before .before .before .before .negate .ensures) (c .before .before .multiply2 .ensures) (c .before .negate2 .ensures) (c .weighted .ensures)
 
 pub recurrence-spec : {M : Type 1} → statement M
-recurrence-spec =
-    tie.close
-    (tie.spec
-    cast-n
-    sub-e
-    sub-part
-    part-part-start
-    part-part-end
-    sub-coefficient
-    coefficient-requires
-    sub-multiply
-    mul-multiply
-    shared-slice-read-multiply
-    multiply-requires
-    negate-requires
-    sub-multiply-2
-    mul-multiply-2
-    shared-slice-read-multiply-2
-    multiply-requires-2
-    negate-requires-2
-    sub-weighted
-    mul-weighted
-    sub-weighted-2
-    mul-weighted-2
-    sub-weighted-3
-    mul-weighted-3
-    sub-weighted-4
-    mul-weighted-4
-    weighted-requires
-    returns)
+recurrence-spec = tie.close (tie.spec cast-n square-sum-requires sub-multiply mul-multiply shared-slice-read-multiply multiply-requires negate-requires sub-multiply-2 mul-multiply-2 shared-slice-read-multiply-2 multiply-requires-2 negate-requires-2 sub-weighted mul-weighted sub-weighted-2 mul-weighted-2 sub-weighted-3 mul-weighted-3 sub-weighted-4 mul-weighted-4 weighted-requires returns)

@@ -3,59 +3,71 @@ use Prim.Native.Nat.{_+_, _-_, _*_}
 use native.Mathlib.Omega.{arith}
 use borrow.Author.Needs.{needs}
 use Rattle.rules.specs.Question.{question}
-use Rattle.expansion.proofs.Steps.{small, left-is, same-residue}
+use Rattle.expansion.proofs.Steps.{recurs-is}
 use Rattle.expansion.proofs.recurs_at.Statement.{statement}
 use Rattle.expansion.proofs.recurs_at.Tie as tie
 
 cast-n : tie.Need-cast-n
 cast-n c = search needs
 
-sub-multiply : tie.Need-sub-multiply
-sub-multiply c = search needs
+mul-weighted : tie.Need-mul-weighted
+mul-weighted c = search needs
 
-mul-multiply : tie.Need-mul-multiply
-mul-multiply c = search needs
+add-weighted : tie.Need-add-weighted
+add-weighted c = search needs
 
-add-multiply : tie.Need-add-multiply
-add-multiply c = search needs
+mul-weighted-2 : tie.Need-mul-weighted-2
+mul-weighted-2 c = search needs
 
-mul-multiply-2 : tie.Need-mul-multiply-2
-mul-multiply-2 c =
-    let k = c .before .args .k in
-    omega (arith, small (k - 2) (2 * k + 3) (omega arith) (omega arith))
+shared-slice-read-weighted : tie.Need-shared-slice-read-weighted
+shared-slice-read-weighted c = search needs
 
-mul-multiply-3 : tie.Need-mul-multiply-3
-mul-multiply-3 c = search needs
+sub-weighted : tie.Need-sub-weighted
+sub-weighted c = search needs
 
-shared-slice-read-multiply : tie.Need-shared-slice-read-multiply
-shared-slice-read-multiply c = search needs
+mul-weighted-3 : tie.Need-mul-weighted-3
+mul-weighted-3 c = search needs
 
-multiply-requires : tie.Need-multiply-requires
-multiply-requires c κs = search needs
+shared-slice-read-weighted-2 : tie.Need-shared-slice-read-weighted-2
+shared-slice-read-weighted-2 c = search needs
 
-recurrence-requires : tie.Need-recurrence-requires
-recurrence-requires c κs =
-    let start = c .before .before .before in
-    (start .pre .0, (omega arith, omega arith, omega arith, λ j l. start .pre .1 .3 j))
+sub-weighted-2 : tie.Need-sub-weighted-2
+sub-weighted-2 c = search needs
+
+mul-weighted-4 : tie.Need-mul-weighted-4
+mul-weighted-4 c = search needs
+
+shared-slice-read-weighted-3 : tie.Need-shared-slice-read-weighted-3
+shared-slice-read-weighted-3 c = search needs
+
+weighted-requires : tie.Need-weighted-requires
+weighted-requires c κs =
+    let start = c .before .before .before .before in
+    let low = start .pre .1 .0 .3 in
+    let k = start .args .k in
+    omega (arith, low k, low (k - 2), low (k - 3))
+
+square-sum-requires : tie.Need-square-sum-requires
+square-sum-requires c κs =
+    let start = c .before .before .before .before .before in
+    (omega arith, omega arith, omega arith, omega arith, omega arith, λ i l. start .pre .1 .0 .3 i)
+
+negate-requires : tie.Need-negate-requires
+negate-requires c κs = search needs
+
+sub-weighted-3 : tie.Need-sub-weighted-3
+sub-weighted-3 c = search needs
+
+weighted-requires-2 : tie.Need-weighted-requires-2
+weighted-requires-2 c κs = omega (arith, c .before .before .weighted .ensures .below, c .negate .ensures .below)
 
 returns : tie.Need-returns
 returns c =
-    let a = c .before .before .before .before .args in
-    same-residue (c .before .multiply .result) (c .recurrence .result)
-    (left-is (a .v .p) (question (a .v) .A) (question (a .v) .B) (a .h .now) (a .k) (omega arith) (c .before .multiply .result) (c .before .multiply .ensures))
-    (c .recurrence .ensures)
+    let start = c .before .before .before .before .before .before .before .before in
+    let a = start .args in
+    recurs-is (a .v .p) (question (a .v) .A) (question (a .v) .B) (a .h .now) (a .k) (omega arith) (a .y) (a .z)
+    (c .before .before .before .weighted .result) (c .before .before .square-sum .result) (c .before .negate .result) (c .weighted2 .result) (omega arith) (start .pre .1 .1 .0) (start .pre .1 .1 .1)
+    (c .before .before .before .weighted .ensures) (c .before .before .square-sum .ensures) (c .before .negate .ensures) (c .weighted2 .ensures)
 
 pub recurs-at-spec : {M : Type 1} → statement M
-recurs-at-spec =
-    tie.close
-    (tie.spec
-    cast-n
-    sub-multiply
-    mul-multiply
-    add-multiply
-    mul-multiply-2
-    mul-multiply-3
-    shared-slice-read-multiply
-    multiply-requires
-    recurrence-requires
-    returns)
+recurs-at-spec = tie.close (tie.spec cast-n mul-weighted add-weighted mul-weighted-2 shared-slice-read-weighted sub-weighted mul-weighted-3 shared-slice-read-weighted-2 sub-weighted-2 mul-weighted-4 shared-slice-read-weighted-3 weighted-requires square-sum-requires negate-requires sub-weighted-3 weighted-requires-2 returns)
