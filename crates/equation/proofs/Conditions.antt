@@ -1,0 +1,104 @@
+-- From the words that code computes to R3: the conditions on the expansion read it up to 2ℓ − 1, and the words hold it so far.
+-- Assumes nothing.
+use mathlib.Core.Path.{_≡_, sym, _∙_, ap, subst}
+use mathlib.Core.Logic.{_↔_}
+use mathlib.Core.Bool.{Bool, true, false, false≢true}
+use mathlib.Core.List.{List}
+use Prim.Native.Nat.{ℕ, suc, _+_, _*_, _-_, _≤_, _<_}
+use native.Mathlib.Omega.{arith}
+use lib.ListN.{length, getD}
+use Rattle.ring.specs.Ring.{CRing, cast}
+use Rattle.series.specs.Series.{Seq}
+use Rattle.series.specs.Recursion.{Before}
+use Rattle.zmod.specs.Zmod.{Elt, Zmod, mk, plus, minus, times, cast-mk}
+use Rattle.zmod.specs.Prime.{Prime}
+use Rattle.zmod.specs.Residues.{Residue, Reduced, poly, poly-at, Residues, residue-same, residue-unique}
+use Rattle.isogeny.specs.Rules.{Question, ℓ, N, R1, R3}
+use Rattle.isogeny.specs.Expansion.{Short, Recurs, expansion, power-sums}
+use Rattle.isogeny.specs.Proof.Terms.{recurrence-same}
+use Rattle.isogeny.specs.Theorems.{fast}
+use Rattle.sheet.specs.declared.Values.{Values}
+use Rattle.rules.specs.Question.{half, question}
+use Rattle.rules.specs.Ready.{Ready}
+use Rattle.expansion.proofs.Causal.{expansion-same}
+
+-- ── the conditions read the expansion up to 2ℓ − 1
+
+module _ (R : CRing) (q : Question R) (d≥1 : 1 ≤ q .d) where
+  open Question q using (A, B)
+  open CRing R using (Car, mul)
+
+  pub short-same : (a b : Seq R) → Before Car (2 * ℓ R q) a b → Short R q a → Short R q b
+  short-same a b e x = record {
+    first = ap (mul (cast R 5)) (sym (e 1 (omega arith))) ∙ x .first;
+    second = ap (mul (cast R 7)) (sym (e 2 (omega arith))) ∙ x .second;
+    recurs = λ k l m.
+        ap (mul (mul (cast R (k - 2)) (cast R (2 * k + 3)))) (sym (e k (omega arith))) ∙ x .recurs k l m
+        ∙ recurrence-same R A B k l a b (λ i n. e i (omega arith));
+  }
+
+-- ── the conditions, tested
+
+module _ (v : Values) (h : List ℕ) where
+  abbrev p : ℕ
+  p = v .p
+
+  -- m h_i and a − b are one element exactly when their residues are one number
+  same : (m i a b x y : ℕ) → Residue p (times p (mk p m) (mk p (getD h i 0))) x → Residue p (plus p (mk p a) (minus p (mk p b))) y
+      → (x ≡ y) ↔ (times p (cast (Zmod p) m) (poly p h i) ≡ plus p (mk p a) (minus p (mk p b)))
+  same m i a b x y hx hy = (λ e. sym (is .class) ∙ ap (mk p) e ∙ hy .class, λ e. residue-unique (residue-same e is) hy)
+    where
+      is : Residue p (times p (cast (Zmod p) m) (poly p h i)) x
+      is = residue-same (ap (λ z. times p z (mk p (getD h i 0))) (sym (cast-mk p m)) ∙ ap (times p (cast (Zmod p) m)) (sym (poly-at p h i))) hx
+
+  module _ (x₁ y₁ : ℕ) (hx₁ : Residue p (times p (mk p 5) (mk p (getD h 1 0))) x₁) (hy₁ : Residue p (plus p (mk p (v .a)) (minus p (mk p (v .atilde)))) y₁) where
+    pub first-no : (x₁ ≡ y₁ → ⊥) → (false ≡ true) ↔ Short (Zmod p) (question v) (poly p h)
+    first-no other = (λ e. absurd (false≢true e), λ short. absurd (other (same 5 1 (v .a) (v .atilde) x₁ y₁ hx₁ hy₁ .1 (short .first))))
+
+    module _ (x₂ y₂ : ℕ) (hx₂ : Residue p (times p (mk p 7) (mk p (getD h 2 0))) x₂) (hy₂ : Residue p (plus p (mk p (v .b)) (minus p (mk p (v .btilde)))) y₂) where
+      pub second-no : (x₂ ≡ y₂ → ⊥) → (false ≡ true) ↔ Short (Zmod p) (question v) (poly p h)
+      second-no other = (λ e. absurd (false≢true e), λ short. absurd (other (same 7 2 (v .b) (v .btilde) x₂ y₂ hx₂ hy₂ .1 (short .second))))
+
+      pub all-yes : (r : Bool) → Ready v → length h ≡ 2 * v .degree → x₁ ≡ y₁ → x₂ ≡ y₂
+          → (r ≡ true) ↔ ((k : ℕ) → 3 ≤ k → k < length h → Recurs (Zmod p) (question v .A) (question v .B) (poly p h) k)
+          → (r ≡ true) ↔ Short (Zmod p) (question v) (poly p h)
+      all-yes r ready size e₁ e₂ more = (
+        λ t. record {
+          first = same 5 1 (v .a) (v .atilde) x₁ y₁ hx₁ hy₁ .0 e₁;
+          second = same 7 2 (v .b) (v .btilde) x₂ y₂ hx₂ hy₂ .0 e₂;
+          recurs = λ k l m. more .0 t k l (omega (arith, ready .odd));
+        },
+        λ short. more .1 (λ k l m. short .recurs k l (omega (arith, ready .odd))),
+      )
+
+-- ── from the conditions to R3
+
+module _ (v : Values) (ready : Ready v) (P : Prime (v .p)) (large : 3 * v .degree - 3 < v .p) (g s h : List ℕ)
+    (r1 : R1 (Zmod (v .p)) (question v) (poly (v .p) g)) (s-size : length s ≡ 2 * v .degree + 1) (h-size : length h ≡ 2 * v .degree)
+    (sums : Residues (v .p) (power-sums (Zmod (v .p)) (half v) (poly (v .p) g)) s)
+    (expanded : Residues (v .p) (expansion (Zmod (v .p)) (question v .A) (question v .B) (poly (v .p) s)) h) where
+  abbrev R : CRing
+  R = Zmod (v .p)
+
+  abbrev q : Question R
+  q = question v
+
+  whole : Before (Elt (v .p)) (2 * ℓ R q) (poly (v .p) h) (expansion R (q .A) (q .B) (power-sums R (half v) (poly (v .p) g)))
+  whole i l =
+      expanded .coefficients i (omega (arith, ready .odd))
+      ∙ expansion-same R (q .A) (q .B) i (poly (v .p) s) (power-sums R (half v) (poly (v .p) g)) (λ j m. sums .coefficients j (omega (arith, ready .odd)))
+
+  pub decided : (r : Bool) → (r ≡ true) ↔ Short R q (poly (v .p) h) → (r ≡ true) ↔ R3 R q (poly (v .p) g) (N R q (poly (v .p) g))
+  decided r test = (
+    λ t. by-theorem .1 (short-same R q (ready .least) (poly (v .p) h) _ whole (test .0 t)),
+    λ r3. test .1 (short-same R q (ready .least) _ (poly (v .p) h) (λ i l. sym (whole i l)) (by-theorem .0 r3)),
+  )
+    where
+      by-theorem : R3 R q (poly (v .p) g) (N R q (poly (v .p) g)) ↔ Short R q (expansion R (q .A) (q .B) (power-sums R (half v) (poly (v .p) g)))
+      by-theorem = fast P q (ready .least) (poly (v .p) g) r1 (omega (arith, ready .odd))
+
+-- R3 of the words of N is R3 of N
+pub of-words : (v : Values) (g n : List ℕ) (r : Bool) → poly (v .p) n ≡ N (Zmod (v .p)) (question v) (poly (v .p) g)
+    → (r ≡ true) ↔ R3 (Zmod (v .p)) (question v) (poly (v .p) g) (N (Zmod (v .p)) (question v) (poly (v .p) g))
+    → (r ≡ true) ↔ R3 (Zmod (v .p)) (question v) (poly (v .p) g) (poly (v .p) n)
+of-words v g n r e = subst (λ a. (r ≡ true) ↔ R3 (Zmod (v .p)) (question v) (poly (v .p) g) a) (sym e)
