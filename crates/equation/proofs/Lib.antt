@@ -1,3 +1,4 @@
+pub mod Cubic
 pub mod Steps
 pub mod Answers
 pub mod Conditions

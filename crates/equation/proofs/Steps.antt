@@ -9,13 +9,13 @@ use lib.ListN.{length}
 use Rattle.ring.specs.Ring.{cast}
 use Rattle.series.specs.Series.{conv, sums, scaled, ∂}
 use Rattle.zmod.specs.Zmod.{Zmod, mk, minus}
-use Rattle.zmod.specs.Residues.{poly, poly-past, Residues, residues-same, residues-poly}
+use Rattle.zmod.specs.Residues.{poly, poly-past, Residues, residues-same, residues-poly, residues-sums, residues-scaled}
 use Rattle.isogeny.specs.Rules.{W, f, left, right}
 use Rattle.sheet.specs.declared.Values.{Values}
 use Rattle.rules.specs.Question.{half, question}
 use Rattle.rules.specs.Degrees.{below-sums, below-scaled}
 use Rattle.rules.specs.Numerator.{scaled-minus}
-use Rattle.rules.specs.Words.{Whole, whole, whole-same, residues-more, residues-scaled}
+use Rattle.rules.specs.Words.{Whole, whole, whole-same}
 use Rattle.rules.proofs.Steps.{from-derivative, from-product}
 use Rattle.equation.specs.Sides.{factor, terms, crossed, right-is, W-is, W-below, left-is}
 
@@ -34,7 +34,7 @@ module _ (p : ℕ) where
       → Residues p (sums (Zmod p) (poly p o₂) (conv (Zmod p) (poly p n) (poly p t))) o₃
       → Residues p (sums (Zmod p) (scaled (Zmod p) (mk p b) (conv (Zmod p) (poly p h) (poly p s))) (conv (Zmod p) (poly p n) (poly p t))) o₃
   terms-steps n s h t o₁ o₂ o₃ b l₁ l₂ r₁ r₂ r₃ =
-      residues-more (conv (Zmod p) (poly p n) (poly p t)) o₃ l₂ (residues-scaled b o₂ l₁ r₁ r₂) r₃
+      residues-sums (conv (Zmod p) (poly p n) (poly p t)) (omega arith) (residues-scaled (mk p b) (omega arith) r₁ r₂) r₃
 
   pub cross-steps : (g n dg dn o₁ o₂ o₃ : List ℕ) (m : ℕ) → mk p m ≡ minus p (cast (Zmod p) 2) → length o₂ ≡ length o₁ → length o₃ ≡ length o₂
       → Residues p (conv (Zmod p) (poly p n) (poly p dg)) o₁ → Residues p (scaled (Zmod p) (mk p m) (poly p o₁)) o₂
@@ -43,7 +43,7 @@ module _ (p : ℕ) where
   unfolding crossed
   cross-steps g n dg dn o₁ o₂ o₃ m e l₁ l₂ r₁ r₂ r₃ =
       residues-same (ap (λ a. sums (Zmod p) a (conv (Zmod p) (poly p dn) (poly p g))) (scaled-minus (Zmod p) (mk p m) 2 _ e))
-      (residues-more (conv (Zmod p) (poly p dn) (poly p g)) o₃ l₂ (residues-scaled m o₂ l₁ r₁ r₂) r₃)
+      (residues-sums (conv (Zmod p) (poly p dn) (poly p g)) (omega arith) (residues-scaled (mk p m) (omega arith) r₁ r₂) r₃)
 
 module _ (v : Values) where
   abbrev p : ℕ

@@ -8,11 +8,19 @@ ghost use lib.ListN.{length, take};
 ghost use Rattle.series.specs.Series.{conv, sums, scaled};
 ghost use Rattle.zmod.specs.Zmod.{Zmod, mk};
 ghost use Rattle.zmod.specs.Residues.{Reduced, poly, Residues};
-ghost use Rattle.isogeny.specs.Rules.{R3, left, right};
+ghost use Rattle.isogeny.specs.Rules.{R3, f, left, right};
 ghost use Rattle.rules.specs.Question.{half, question};
 ghost use Rattle.rules.specs.Ready.{Ready};
 ghost use Rattle.rules.specs.Words.{Whole};
 ghost use Rattle.equation.specs.Sides.{factor, crossed};
+
+// f = x³ + Ax + B
+fn cubic_words(v: Values) -> [u32; 4]
+    requires { ⌜ Ready v ⌝ }
+    ensures { λ r. ⌜ Whole (v .p) (f (Zmod (v .p)) (question v)) r ⌝ }
+{
+    [v.b, v.a, 0, 1]
+}
 
 fn blank766() -> [u32; 766] {
     [0; 766]
@@ -98,7 +106,7 @@ fn left_side(v: Values, g: &[u32], n: &[u32], out: &mut [u32])
     let dn = rules::derivative255(n, i, v.p);
     let w = cross766(g, n, &dg[..d], &dn[..i], j, v.p);
     let ww = square766(&w[..j], k, v.p);
-    let cubic = rules::cubic_words(v);
+    let cubic = cubic_words(v);
     poly::product(&cubic, &ww[..k], out, v.p);
 }
 

@@ -25,23 +25,14 @@ use Rattle.expansion.proofs.Stores.{stored-before, stored-at}
 use Rattle.expansion.proofs.Parts.{part-at, part-past, rev-twice}
 use Rattle.expansion.proofs.Products.{newton-part, square-part, newton-step-at, newton-step-zero, expansion-above}
 
--- ── equality and weights
+-- ── equality, and a bound
 
 pub same-residue : {p : ℕ} {x y : Elt p} (l r : ℕ) → Residue p x l → Residue p y r → (eqb l r ≡ true) ↔ (x ≡ y)
 same-residue {p} l r hl hr =
     (λ e. sym (hl .class) ∙ ap (mk p) (eqb-true l r e) ∙ hr .class, λ e. eq-eqb l r (residue-unique (residue-same e hl) hr))
 
-pub weight-le : {l x : ℕ} → l < 2 ^ 32 → x < 2 ^ 28 → l * x ≤ 4294967296 * 268435455
-weight-le {l} {x} hl hx = N.mul-le-mul {n₁ = l} {m₁ = x} {n₂ = 4294967296} {m₂ = 268435455} (omega arith) (omega arith)
-
 pub small : (m n : ℕ) → m ≤ 2048 → n ≤ 2051 → m * n ≤ 2048 * 2051
 small m n hm hn = N.mul-le-mul {n₁ = m} {m₁ = n} {n₂ = 2048} {m₂ = 2051} hm hn
-
-pub weighted-is : (p l x m y n z : ℕ)
-    → mk p (l * x + m * y + n * z) ≡ plus p (plus p (times p (mk p l) (mk p x)) (times p (mk p m) (mk p y))) (times p (mk p n) (mk p z))
-weighted-is p l x m y n z =
-    mk-add p (l * x + m * y) (n * z)
-    ∙ ap₂ (plus p) (mk-add p (l * x) (m * y) ∙ ap₂ (plus p) (mk-mul p l x) (mk-mul p m y)) (mk-mul p n z)
 
 -- ── the power sums of g
 

@@ -25,10 +25,7 @@ pub fn weighted(l: u32, x: u32, m: u32, y: u32, n: u32, z: u32, p: u32) -> u32
     requires { ⌜ (0 < p) × (x < 2 ^ 28) × (y < 2 ^ 28) × (z < 2 ^ 28) ⌝ }
     ensures { λ r. ⌜ Residue p (plus p (plus p (times p (mk p l) (mk p x)) (times p (mk p m) (mk p y))) (times p (mk p n) (mk p z))) r ⌝ }
 {
-    field::reduce(
-        field::product(l, x) + field::product(m, y) + field::product(n, z),
-        p,
-    )
+    field::reduce(field::combination(l, x, m, y, n, z), p)
 }
 
 // out is a backwards.
@@ -117,7 +114,15 @@ fn expansion_at(v: Values, s: &[u32], i: usize, y: u32, z: u32) -> u32
     ensures { λ r. ⌜ Residue (v .p) (expansion-of (Zmod (v .p)) (question v .A) (question v .B) (poly (v .p) (now (s .entry))) i) r ⌝ }
 {
     let n = i as u32;
-    weighted(2 * n + 1, s[i + 1], y, s[i - 1], z, s[poly::over(i, 2)], v.p)
+    weighted(
+        2 * n + 1,
+        s[i + 1],
+        y,
+        s[i - 1],
+        z,
+        s[poly::over(i, 2)],
+        v.p,
+    )
 }
 
 // h = the expansion of N/g², from the power sums s. The multiples of A and B are added up, so that each word takes one remainder.

@@ -47,3 +47,7 @@ module _ (p a : ℕ) where
 
   pub negate-more : a < p → (a ≡ 0 → ⊥) → Residue p (minus p (mk p a)) (p - a)
   negate-more ha h = record { below = omega arith; class = mk-minus ha }
+
+-- a word times a word below 2^28
+pub weight-le : {l x : ℕ} → l < 2 ^ 32 → x < 2 ^ 28 → l * x ≤ 4294967296 * 268435455
+weight-le {l} {x} hl hx = N.mul-le-mul {n₁ = l} {m₁ = x} {n₂ = 4294967296} {m₂ = 268435455} (omega arith) (omega arith)

@@ -5,7 +5,7 @@ mod prime;
 
 pub use prime::is_prime;
 ghost use mathlib.Core.Path.{_≡_};
-ghost use Prim.Native.Nat.{_*_, _^_, _<_, _≤_};
+ghost use Prim.Native.Nat.{_+_, _*_, _^_, _<_, _≤_};
 ghost use Rattle.ring.specs.Ring.{pow};
 ghost use Rattle.slices.specs.Filling.{Filled};
 ghost use Rattle.zmod.specs.Zmod.{Zmod, mk, plus, minus, times};
@@ -24,6 +24,14 @@ pub fn product(a: u32, b: u32) -> u64
     ensures { λ r. ⌜ r ≡ a * b ⌝ }
 {
     (a as u64) * (b as u64)
+}
+
+// l x + m y + n z, before any remainder.
+pub fn combination(l: u32, x: u32, m: u32, y: u32, n: u32, z: u32) -> u64
+    requires { ⌜ (x < 2 ^ 28) × (y < 2 ^ 28) × (z < 2 ^ 28) ⌝ }
+    ensures { λ r. ⌜ (r ≡ l * x + m * y + n * z) × (r < 2 ^ 62) ⌝ }
+{
+    product(l, x) + product(m, y) + product(n, z)
 }
 
 // The residue of any number.

@@ -1,22 +1,26 @@
 -- What the slices hold after a run of calls: each call's result is a whole polynomial where the slice is long enough, and the polynomials are those of
 -- R2.
 -- Assumes nothing.
-use mathlib.Core.Path.{_≡_, sym, _∙_, ap, ap₂, subst}
+use mathlib.Core.Path.{_≡_, refl, sym, _∙_, ap, ap₂, subst}
 use mathlib.Core.List.{List, _++_}
-use Prim.Native.Nat.{ℕ, _+_, _*_, _≤_}
+use Prim.Native.Nat.{ℕ, suc, _+_, _*_, _-_, _≤_, _<_}
+use native.Mathlib.Decide.{decLt}
 use native.Mathlib.Omega.{arith}
-use lib.ListN.{length, take}
+use lib.ListN.{length, getD, take}
 use lib.Seq.{take-at}
 use Rattle.ring.specs.Ring.{cast}
-use Rattle.series.specs.Series.{Seq, conv, sums, scaled, ∂}
-use Rattle.zmod.specs.Zmod.{Zmod, mk, minus}
-use Rattle.zmod.specs.Residues.{poly, poly-past, Residues, residues-same, residues-poly}
-use Rattle.isogeny.specs.Rules.{N, f}
+use Rattle.ring.specs.Identity.{solve3}
+use Rattle.ring.specs.Identity.Ex.{num, :0, _:+_, _:*_, :-_}
+use Rattle.series.specs.Series.{Seq, conv, ∂, ∂-at}
+use Rattle.zmod.specs.Zmod.{Zmod, mk, plus, minus, times, mk-add, mk-mul, mk-combination, cast-mk}
+use Rattle.zmod.specs.Residues.{Residue, Reduced, poly, poly-at, poly-past, Residues, residue-same, residues-same}
+use Rattle.isogeny.specs.Rules.{N}
 use Rattle.sheet.specs.declared.Values.{Values}
 use Rattle.rules.specs.Question.{half, question}
-use Rattle.rules.specs.Degrees.{below-sums, below-scaled, below-∂, below-conv}
-use Rattle.rules.specs.Numerator.{line, slope, lowered, lowered-is, lowered-below, bent, joined, N-is}
-use Rattle.rules.specs.Words.{Whole, whole, whole-same, residues-more, residues-scaled}
+use Rattle.rules.specs.Degrees.{below-∂, below-conv}
+use Rattle.rules.specs.Numerator.{shifted, shifted-low, shifted-high, lowered, lowered-at, lowered-below, bent, joined, joined-at, N-is}
+use Rattle.rules.specs.Ready.{Ready}
+use Rattle.rules.specs.Words.{Whole, whole, whole-same}
 
 module _ (p : ℕ) where
   -- ── one call
@@ -38,37 +42,70 @@ module _ (p : ℕ) where
 
   -- ── R2
 
-  pub lower-steps : (t o₀ o₁ o₂ : List ℕ) (m m′ : ℕ) → mk p m ≡ minus p (cast (Zmod p) 4) → mk p m′ ≡ minus p (cast (Zmod p) 2) → length o₂ ≡ length o₁
-      → Residues p (sums (Zmod p) (poly p o₀) (scaled (Zmod p) (mk p m) (poly p t))) o₁ → Residues p (scaled (Zmod p) (mk p m′) (poly p o₁)) o₂
-      → Residues p (lowered (Zmod p) (poly p o₀) (poly p t)) o₂
-  lower-steps t o₀ o₁ o₂ m m′ e e′ l r₁ r₂ =
-      residues-same (lowered-is (Zmod p) (mk p m) (mk p m′) e e′ (poly p o₀) (poly p t)) (residues-scaled m′ o₂ l r₁ r₂)
+  -- a coefficient of −2(s′ − 4t), from 2(i + 1)(−s_(i+1)) + 8t_i
+  pub lower-is : (s t : List ℕ) (i a x r : ℕ) → Residue p (minus p (mk p (getD s (i + 1) 0))) a → x ≡ 2 * (i + 1) * a + 8 * getD t i 0 + 0 * 0
+      → Residue p (mk p x) r → Residue p (lowered (Zmod p) (∂ (Zmod p) (poly p s)) (poly p t) i) r
+  lower-is s t i a x r ha e =
+      residue-same
+      (ap (mk p) e ∙ mk-combination p (2 * (i + 1)) a 8 (getD t i 0) 0 0
+      ∙ ap₂ (plus p)
+      (ap₂ (plus p)
+      (ap₂ (times p) (mk-mul p 2 (i + 1) ∙ ap₂ (times p) (sym (cast-mk p 2)) (ap (mk p) (omega arith) ∙ sym (cast-mk p (suc i)))) (ha .class ∙ ap (minus p) (sym (poly-at p s (i + 1)) ∙ ap (poly p s) (omega arith))))
+      (ap₂ (times p) (sym (cast-mk p 8)) (sym (poly-at p t i))))
+      refl
+      ∙ solve3 (Zmod p) (λ c a t. num 2 :* c :* :- a :+ num 8 :* t :+ :0 :* :0) (λ c a t. :- num 2 :* (c :* a :+ :- num 4 :* t)) tt (cast (Zmod p) (suc i)) (poly p s (suc i)) (poly p t i)
+      ∙ ap (λ y. times p (minus p (cast (Zmod p) 2)) (plus p y (times p (minus p (cast (Zmod p) 4)) (poly p t i)))) (sym (∂-at (Zmod p) (poly p s) i))
+      ∙ sym (lowered-at (Zmod p) (∂ (Zmod p) (poly p s)) (poly p t) i))
 
-  pub bend-steps : (g s h hh o₁ o₂ : List ℕ) → length g ≡ length h + 1 → length hh + 1 ≡ 2 * length h → length s ≡ length o₁ + 1 → length o₁ ≡ length hh
-      → length o₂ ≡ length o₁ → Residues p (∂ (Zmod p) (poly p g)) h → Residues p (conv (Zmod p) (poly p h) (poly p h)) hh
-      → Residues p (∂ (Zmod p) (poly p s)) o₁ → Residues p (lowered (Zmod p) (poly p o₁) (poly p hh)) o₂ → Whole p (bent (Zmod p) (poly p g) (poly p s)) o₂
+  -- the word j places before k
+  module _ (a : List ℕ) (j k r : ℕ) (low : k < j → r ≡ 0) (high : j ≤ k → r ≡ getD a (k - j) 0) where
+    pub back-is : mk p r ≡ shifted (Zmod p) j (poly p a) k
+    back-is = go (decLt k j)
+      where
+        go : Dec (k < j) → mk p r ≡ shifted (Zmod p) j (poly p a) k
+        go (yes l) = ap (mk p) (low l) ∙ sym (shifted-low (Zmod p) j k (poly p a) l)
+        go (no l) = ap (mk p) (high (omega arith)) ∙ sym (poly-at p a (k - j)) ∙ sym (shifted-high (Zmod p) j k (poly p a) (omega arith))
+
+    pub back-below : 0 < p → Reduced p a → r < p
+    back-below pos h = go (decLt k j)
+      where
+        go : Dec (k < j) → r < p
+        go (yes l) = omega (arith, low l)
+        go (no l) = omega (arith, high (omega arith), h (k - j))
+
+  pub bend-steps : (g s h hh o : List ℕ) → length g ≡ length h + 1 → length hh + 1 ≡ 2 * length h → length s ≡ length o + 1 → length o ≡ length hh
+      → Residues p (∂ (Zmod p) (poly p g)) h → Residues p (conv (Zmod p) (poly p h) (poly p h)) hh
+      → Residues p (lowered (Zmod p) (∂ (Zmod p) (poly p s)) (poly p hh)) o → Whole p (bent (Zmod p) (poly p g) (poly p s)) o
   unfolding bent
-  bend-steps g s h hh o₁ o₂ l₁ l₂ l₃ l₄ l₅ r₁ r₂ r₃ r₄ =
+  bend-steps g s h hh o l₁ l₂ l₃ l₄ r₁ r₂ r₃ =
       whole-same
-      (ap₂ (lowered (Zmod p)) (from-derivative s o₁ (omega arith) r₃ .same)
-      (from-product h h hh (omega arith) r₂ .same ∙ ap (λ a. conv (Zmod p) a a) (from-derivative g h (omega arith) r₁ .same)))
-      (whole r₄ (lowered-below (Zmod p) (length o₂) (poly p o₁) (poly p hh) (λ i k. poly-past p o₁ i (omega arith)) (λ i k. poly-past p hh i (omega arith))))
+      (ap (lowered (Zmod p) (∂ (Zmod p) (poly p s))) (from-product h h hh (omega arith) r₂ .same ∙ ap (λ a. conv (Zmod p) a a) (from-derivative g h (omega arith) r₁ .same)))
+      (whole r₃ (lowered-below (Zmod p) (length o) (∂ (Zmod p) (poly p s)) (poly p hh) (below-∂ (Zmod p) (poly p s) (omega arith) (poly-past p s)) (λ i k. poly-past p hh i (omega arith))))
 
 module _ (v : Values) where
   abbrev p : ℕ
   p = v .p
 
-  pub join-steps : (s t e line₁ slope₁ cubic₁ o₁ o₂ o₃ : List ℕ) → length o₂ ≡ length o₁ → length o₃ ≡ length o₂
-      → Whole p (line (Zmod p) (question v)) line₁ → Whole p (slope (Zmod p) (question v)) slope₁ → Whole p (f (Zmod p) (question v)) cubic₁
-      → Residues p (conv (Zmod p) (poly p line₁) (poly p s)) o₁ → Residues p (sums (Zmod p) (poly p o₁) (conv (Zmod p) (poly p slope₁) (poly p t))) o₂
-      → Residues p (sums (Zmod p) (poly p o₂) (conv (Zmod p) (poly p cubic₁) (poly p e))) o₃
-      → Residues p (joined (Zmod p) (question v) (poly p s) (poly p t) (poly p e)) o₃
-  unfolding joined
-  join-steps s t e line₁ slope₁ cubic₁ o₁ o₂ o₃ l₁ l₂ w₁ w₂ w₃ r₁ r₂ r₃ =
-      residues-same
-      (ap₂ (λ a b. sums (Zmod p) a (conv (Zmod p) b (poly p e)))
-      (ap₂ (λ a b. sums (Zmod p) (conv (Zmod p) a (poly p s)) (conv (Zmod p) b (poly p t))) (w₁ .same) (w₂ .same)) (w₃ .same))
-      (residues-more (conv (Zmod p) (poly p cubic₁) (poly p e)) o₃ l₂ (residues-more (conv (Zmod p) (poly p slope₁) (poly p t)) o₂ l₁ r₁ r₂) r₃)
+  -- a coefficient of (ℓx − σ)s − (3x² + A)t + f e: m, n and o are −σ, −A and −3
+  pub join-is : Ready v → (s t e : List ℕ) (k m n o s₁ t₂ e₁ e₃ x y w r : ℕ) → Residue p (minus p (mk p (v .sigma))) m → Residue p (minus p (mk p (v .a))) n
+      → mk p o ≡ minus p (cast (Zmod p) 3) → mk p s₁ ≡ shifted (Zmod p) 1 (poly p s) k → mk p t₂ ≡ shifted (Zmod p) 2 (poly p t) k
+      → mk p e₁ ≡ shifted (Zmod p) 1 (poly p e) k → mk p e₃ ≡ shifted (Zmod p) 3 (poly p e) k
+      → x ≡ v .degree * s₁ + m * getD s k 0 + n * getD t k 0 → y ≡ o * t₂ + v .a * e₁ + v .b * getD e k 0 → w ≡ e₃
+      → Residue p (mk p (x + y + w)) r → Residue p (joined (Zmod p) (question v) (poly p s) (poly p t) (poly p e) k) r
+  join-is ready s t e k m n o s₁ t₂ e₁ e₃ x y w r hm hn ho hs₁ ht₂ he₁ he₃ ex ey ew =
+      residue-same
+      (mk-add p (x + y) w
+      ∙ ap₂ (plus p)
+      (mk-add p x y
+      ∙ ap₂ (plus p)
+      (ap (mk p) ex ∙ mk-combination p (v .degree) s₁ m (getD s k 0) n (getD t k 0)
+      ∙ ap₂ (plus p)
+      (ap₂ (plus p) (ap₂ (times p) (ap (mk p) (ready .odd) ∙ sym (cast-mk p (2 * half v + 1))) hs₁) (ap₂ (times p) (hm .class) (sym (poly-at p s k))))
+      (ap₂ (times p) (hn .class) (sym (poly-at p t k))))
+      (ap (mk p) ey ∙ mk-combination p o t₂ (v .a) e₁ (v .b) (getD e k 0)
+      ∙ ap₂ (plus p) (ap₂ (plus p) (ap₂ (times p) ho ht₂) (ap (times p (mk p (v .a))) he₁)) (ap (times p (mk p (v .b))) (sym (poly-at p e k)))))
+      (ap (mk p) ew ∙ he₃)
+      ∙ sym (joined-at (Zmod p) (question v) (poly p s) (poly p t) (poly p e) k))
 
   pub numerator-steps : (g s t e out : List ℕ) → length s + 1 ≡ 2 * length g → length s ≡ length t + 1
       → Residues p (conv (Zmod p) (poly p g) (poly p g)) s → Residues p (∂ (Zmod p) (poly p s)) t → Whole p (bent (Zmod p) (poly p g) (poly p t)) e

@@ -2,15 +2,15 @@
 -- N has at most ℓ + 1 coefficients.
 -- Assumes nothing.
 use mathlib.Core.Path.{_≡_, refl, sym, _∙_, ap, ap₂, subst, fun-ext}
-use Prim.Native.Nat.{ℕ, zero, suc, _+_, _*_, _-_, _≤_}
+use Prim.Native.Nat.{ℕ, zero, suc, _+_, _*_, _-_, _≤_, _<_}
 use native.Mathlib.Omega.{arith}
 use Rattle.ring.specs.Ring
 use Rattle.ring.specs.Ring.{CRing, cast, pow}
-use Rattle.ring.specs.Identity.{solve6}
+use Rattle.ring.specs.Identity.{solve6, solve8}
 use Rattle.ring.specs.Identity.Ex.{num, _:+_, _:-_, _:*_, :-_, _:^_}
-use Rattle.series.specs.Series.{Series, Seq, scaled, const, ∂, ∂-add, ∂-leibniz, conv-scalar}
+use Rattle.series.specs.Series.{Series, Seq, conv, scaled, const, head-then, ∂, ∂-add, ∂-leibniz, conv-const, conv-scalar}
 use Rattle.series.specs.Degree.{Below}
-use Rattle.series.specs.Indeterminate.{ind, cast-series}
+use Rattle.series.specs.Indeterminate.{ind, cast-series, conv-cast, conv-ind}
 use Rattle.series.specs.Reversal.{r-add, r-neg, r-mul, r-pow, r-up, r-const, r-cast, r-ind}
 use Rattle.isogeny.specs.Rules.{Question, ℓ, f, N}
 use Rattle.rules.specs.Degrees.{below-sums, below-∂, below-conv}
@@ -33,15 +33,37 @@ module _ (R : CRing) where
   scaled-minus m n a e =
       conv-scalar R m a ∙ ap (λ c. c ⊗ a) (ap (const R) e ∙ const-neg (cast R n) ∙ ap neg (sym (cast-series R n)))
 
+  -- a coefficient of −c a, of −n a, and of x^j a
+  const-minus-at : (c : R .Car) (a : Seq R) (i : ℕ) → (neg (const R c) ⊗ a) i ≡ R .mul (R .neg c) (a i)
+  const-minus-at c a i = ap (λ b. conv R b a i) (sym (const-neg c)) ∙ conv-const R (R .neg c) a i
+
+  minus-at : (n : ℕ) (a : Seq R) (i : ℕ) → (neg (cast (Series R) n) ⊗ a) i ≡ R .mul (R .neg (cast R n)) (a i)
+  minus-at n a i = ap (λ b. (neg b ⊗ a) i) (cast-series R n) ∙ const-minus-at (cast R n) a i
+
+  unfoldable pub shifted : ℕ → Seq R → Seq R
+  shifted zero a = a
+  shifted (suc j) a = head-then R (R .𝟘) (shifted j a)
+
+  pub shifted-low : (j k : ℕ) (a : Seq R) → k < j → shifted j a k ≡ R .𝟘
+  unfolding shifted
+  shifted-low zero k a l = absurd (omega arith)
+  shifted-low (suc j) zero a l = refl
+  shifted-low (suc j) (suc k) a l = shifted-low j k a (omega arith)
+
+  pub shifted-high : (j k : ℕ) (a : Seq R) → j ≤ k → shifted j a k ≡ a (k - j)
+  unfolding shifted
+  shifted-high zero k a l = ap a (omega arith)
+  shifted-high (suc j) zero a l = absurd (omega arith)
+  shifted-high (suc j) (suc k) a l = shifted-high j k a (omega arith) ∙ ap a (omega arith)
+
   -- ── −2(G″ − 4g′²), from G″ and g′², and from g and G′
 
   unfoldable pub lowered : Seq R → Seq R → Seq R
   lowered s t = neg (cast (Series R) 2) ⊗ (s ⊕ neg (cast (Series R) 4) ⊗ t)
 
-  pub lowered-is : (m m′ : R .Car) → m ≡ R .neg (cast R 4) → m′ ≡ R .neg (cast R 2) → (s t : Seq R)
-      → scaled R m′ (s ⊕ scaled R m t) ≡ lowered s t
+  pub lowered-at : (s t : Seq R) (i : ℕ) → lowered s t i ≡ R .mul (R .neg (cast R 2)) (R .add (s i) (R .mul (R .neg (cast R 4)) (t i)))
   unfolding lowered
-  lowered-is m m′ e e′ s t = ap (λ u. scaled R m′ (s ⊕ u)) (scaled-minus m 4 t e) ∙ scaled-minus m′ 2 (s ⊕ neg (cast (Series R) 4) ⊗ t) e′
+  lowered-at s t i = minus-at 2 (s ⊕ neg (cast (Series R) 4) ⊗ t) i ∙ ap (λ y. R .mul (R .neg (cast R 2)) (R .add (s i) y)) (minus-at 4 t i)
 
   pub lowered-below : (n : ℕ) (s t : Seq R) → Below R n s → Below R n t → Below R n (lowered s t)
   unfolding lowered
@@ -89,6 +111,29 @@ module _ (R : CRing) (q : Question R) where
   -- (ℓx − σ)G − (3x² + A)G′ + f e
   unfoldable pub joined : Seq R → Seq R → Seq R → Seq R
   joined s t e = line ⊗ s ⊕ slope ⊗ t ⊕ f R q ⊗ e
+
+  -- by its coefficients
+  pub joined-at : (s t e : Seq R) (k : ℕ) → joined s t e k
+      ≡ R .add (R .add (R .add (R .add (R .mul (cast R (ℓ R q)) (shifted R 1 s k)) (R .mul (R .neg σ) (s k))) (R .mul (R .neg A) (t k)))
+      (R .add (R .add (R .mul (R .neg (cast R 3)) (shifted R 2 t k)) (R .mul A (shifted R 1 e k))) (R .mul B (e k)))) (shifted R 3 e k)
+  unfolding joined line slope f shifted
+  joined-at s t e k =
+      ap (λ (a : Seq R). a k)
+      (solve8 (Series R)
+      (λ l x σ s A t B e. (l :* x :- σ) :* s :+ :- (num 3 :* x :^ 2 :+ A) :* t :+ (x :^ 3 :+ A :* x :+ B) :* e)
+      (λ l x σ s A t B e. l :* (x :* s) :+ :- σ :* s :+ :- A :* t :+ (:- num 3 :* (x :* (x :* t)) :+ A :* (x :* e) :+ B :* e) :+ x :* (x :* (x :* e))) tt
+      (# (ℓ R q)) x (κ σ) s (κ A) t (κ B) e)
+      ∙ ap₂ (R .add)
+      (ap₂ (R .add)
+      (ap₂ (R .add)
+      (ap₂ (R .add) (conv-cast R (ℓ R q) (x ⊗ s) k ∙ ap (λ a. R .mul (cast R (ℓ R q)) (a k)) (conv-ind R s)) (const-minus-at R σ s k))
+      (const-minus-at R A t k))
+      (ap₂ (R .add)
+      (ap₂ (R .add)
+      (minus-at R 3 (x ⊗ (x ⊗ t)) k ∙ ap (λ a. R .mul (R .neg (cast R 3)) (a k)) (conv-ind R (x ⊗ t) ∙ ap (head-then R (R .𝟘)) (conv-ind R t)))
+      (conv-const R A (x ⊗ e) k ∙ ap (λ a. R .mul A (a k)) (conv-ind R e)))
+      (conv-const R B e k)))
+      (ap (λ a. a k) (conv-ind R (x ⊗ (x ⊗ e)) ∙ ap (head-then R (R .𝟘)) (conv-ind R (x ⊗ e) ∙ ap (head-then R (R .𝟘)) (conv-ind R e))))
 
   pub N-is : (g : Seq R) → joined (g ⊗ g) (∂ R (g ⊗ g)) (bent R g (∂ R (g ⊗ g))) ≡ N R q g
   unfolding joined line slope bent lowered N

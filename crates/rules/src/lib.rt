@@ -3,15 +3,15 @@
 ghost use mathlib.Core.Path.{_≡_};
 ghost use mathlib.Core.Logic.{_↔_};
 ghost use mathlib.Core.Bool.{true};
-ghost use Prim.Native.Nat.{_+_, _*_, _^_, _<_, _≤_};
-ghost use lib.ListN.{length, take};
-ghost use Rattle.series.specs.Series.{conv, sums, scaled, ∂};
+ghost use Prim.Native.Nat.{_+_, _-_, _*_, _^_, _<_, _≤_};
+ghost use lib.ListN.{length, getD, take};
+ghost use Rattle.series.specs.Series.{conv, ∂};
 ghost use Rattle.zmod.specs.Zmod.{Zmod, mk, minus, times};
 ghost use Rattle.zmod.specs.Residues.{Residue, Reduced, poly, Residues};
-ghost use Rattle.isogeny.specs.Rules.{N, R1, f};
+ghost use Rattle.isogeny.specs.Rules.{N, R1};
 ghost use Rattle.rules.specs.Question.{half, question};
 ghost use Rattle.rules.specs.Ready.{Ready};
-ghost use Rattle.rules.specs.Numerator.{line, slope, lowered, bent, joined};
+ghost use Rattle.rules.specs.Numerator.{lowered, bent, joined};
 ghost use Rattle.rules.specs.Words.{Whole};
 use sheet::Values;
 
@@ -35,34 +35,6 @@ pub fn rule_one(v: Values, g: &[u32]) -> bool
         return false;
     }
     minus_twice(g[d - 1], v.p) == v.sigma
-}
-
-// ── the short polynomials
-
-// ℓx - σ
-fn line_words(v: Values) -> [u32; 2]
-    requires { ⌜ Ready v ⌝ }
-    ensures { λ r. ⌜ Whole (v .p) (line (Zmod (v .p)) (question v)) r ⌝ }
-{
-    let s = field::negate(v.sigma, v.p);
-    [s, v.degree]
-}
-
-// -(3x² + A)
-fn slope_words(v: Values) -> [u32; 3]
-    requires { ⌜ Ready v ⌝ }
-    ensures { λ r. ⌜ Whole (v .p) (slope (Zmod (v .p)) (question v)) r ⌝ }
-{
-    let s = field::negate(v.a, v.p);
-    [s, 0, v.p - 3]
-}
-
-// f = x³ + Ax + B
-pub fn cubic_words(v: Values) -> [u32; 4]
-    requires { ⌜ Ready v ⌝ }
-    ensures { λ r. ⌜ Whole (v .p) (f (Zmod (v .p)) (question v)) r ⌝ }
-{
-    [v.b, v.a, 0, 1]
 }
 
 // ── scratch
@@ -93,39 +65,88 @@ pub fn derivative255(a: &[u32], n: usize, p: u32) -> [u32; 255]
 
 // ── R2
 
-// out = -2(out - 4t)
-fn lower(t: &[u32], out: &mut [u32], p: u32)
-    requires { ⌜ (11 ≤ p) × (Reduced p (now out)) ⌝ }
-    ensures { λ _. ⌜ Residues p (lowered (Zmod p) (poly p (now (out .entry))) (poly p (now (t .entry)))) (now (out .exit)) ⌝ }
+// The coefficient i of -2(s′ - 4t).
+fn lower(s: &[u32], t: &[u32], i: usize, p: u32) -> u32
+    requires { ⌜ (11 ≤ p) × (p ≤ 2 ^ 28) × (Reduced p (now s)) × (Reduced p (now t)) × (i < 2 ^ 16) ⌝ }
+    ensures { λ r. ⌜ Residue p (lowered (Zmod p) (∂ (Zmod p) (poly p (now (s .entry)))) (poly p (now (t .entry))) i) r ⌝ }
 {
-    poly::add_scaled(out, t, p - 4, p);
-    poly::scale(out, p - 2, p);
+    let above = field::negate(poly::word(s, i + 1), p);
+    let n = (i as u32) + 1;
+    field::reduce(
+        field::combination(2 * n, above, 8, poly::word(t, i), 0, 0),
+        p,
+    )
+}
+
+// out = -2(s′ - 4t)
+fn lower_all(s: &[u32], t: &[u32], out: &mut [u32], p: u32)
+    requires { ⌜ (11 ≤ p) × (p ≤ 2 ^ 28) × (Reduced p (now s)) × (Reduced p (now t)) × (length (now out) ≤ 255) ⌝ }
+    ensures { λ _. ⌜ Residues p (lowered (Zmod p) (∂ (Zmod p) (poly p (now (s .entry)))) (poly p (now (t .entry)))) (now (out .exit)) ⌝ }
+{
+    let mut i = 0;
+    while i < out.len() {
+        out[i] = lower(s, t, i, p);
+        i += 1;
+    }
 }
 
 // The k coefficients of -2(s′ - 4g′²), where s is to be (g²)′; g′ has d.
 fn bend(g: &[u32], s: &[u32], d: usize, k: usize, p: u32) -> [u32; 255]
-    requires { ⌜ (11 ≤ p) × (p ≤ 2 ^ 28) × (Reduced p (now g)) ⌝ }
+    requires { ⌜ (11 ≤ p) × (p ≤ 2 ^ 28) × (Reduced p (now g)) × (Reduced p (now s)) ⌝ }
     requires { ⌜ (length (now g) ≡ d + 1) × (length (now s) ≡ k + 1) × (k + 1 ≡ 2 * d) × (k ≤ 255) ⌝ }
     ensures { λ r. ⌜ Whole p (bent (Zmod p) (poly p (now (g .entry))) (poly p (now (s .entry)))) (take k r) ⌝ }
 {
     let h = derivative255(g, d, p);
     let hh = square255(&h[..d], k, p);
-    let mut r = derivative255(s, k, p);
-    lower(&hh[..k], &mut r[..k], p);
+    let mut r = blank255();
+    lower_all(s, &hh[..k], &mut r[..k], p);
     r
 }
 
+// The word j places before k, 0 where there is none.
+fn back(a: &[u32], j: usize, k: usize) -> u32
+    ensures { λ r. ⌜ (k < j → r ≡ 0) × (j ≤ k → r ≡ getD (now (a .entry)) (k - j) 0) ⌝ }
+{
+    if k < j { 0 } else { poly::word(a, k - j) }
+}
+
+// The coefficient k of (ℓx - σ)s - (3x² + A)t + f e, with one remainder.
+fn join(v: Values, s: &[u32], t: &[u32], e: &[u32], k: usize) -> u32
+    requires { ⌜ (Ready v) × (Reduced (v .p) (now s)) × (Reduced (v .p) (now t)) × (Reduced (v .p) (now e)) ⌝ }
+    ensures { λ r. ⌜ Residue (v .p) (joined (Zmod (v .p)) (question v) (poly (v .p) (now (s .entry))) (poly (v .p) (now (t .entry))) (poly (v .p) (now (e .entry))) k) r ⌝ }
+{
+    let p = v.p;
+    let m = field::negate(v.sigma, p);
+    let n = field::negate(v.a, p);
+    let x = field::combination(
+        v.degree,
+        back(s, 1, k),
+        m,
+        poly::word(s, k),
+        n,
+        poly::word(t, k),
+    );
+    let y = field::combination(
+        p - 3,
+        back(t, 2, k),
+        v.a,
+        back(e, 1, k),
+        v.b,
+        poly::word(e, k),
+    );
+    field::reduce(x + y + field::wide(back(e, 3, k)), p)
+}
+
 // out = (ℓx - σ)s - (3x² + A)t + f e
-fn join(v: Values, s: &[u32], t: &[u32], e: &[u32], out: &mut [u32])
+fn join_all(v: Values, s: &[u32], t: &[u32], e: &[u32], out: &mut [u32])
     requires { ⌜ (Ready v) × (Reduced (v .p) (now s)) × (Reduced (v .p) (now t)) × (Reduced (v .p) (now e)) ⌝ }
     ensures { λ _. ⌜ Residues (v .p) (joined (Zmod (v .p)) (question v) (poly (v .p) (now (s .entry))) (poly (v .p) (now (t .entry))) (poly (v .p) (now (e .entry)))) (now (out .exit)) ⌝ }
 {
-    let line = line_words(v);
-    poly::product(&line, s, out, v.p);
-    let slope = slope_words(v);
-    poly::add_product(&slope, t, out, v.p);
-    let cubic = cubic_words(v);
-    poly::add_product(&cubic, e, out, v.p);
+    let mut k = 0;
+    while k < out.len() {
+        out[k] = join(v, s, t, e, k);
+        k += 1;
+    }
 }
 
 // The N that R2 gives.
@@ -141,5 +162,5 @@ pub fn numerator(v: Values, g: &[u32], out: &mut [u32])
     let s = square255(g, i, v.p);
     let t = derivative255(&s[..i], j, v.p);
     let e = bend(g, &t[..j], d, k, v.p);
-    join(v, &s[..i], &t[..j], &e[..k], out);
+    join_all(v, &s[..i], &t[..j], &e[..k], out);
 }

@@ -1,7 +1,7 @@
 -- Which terms of a sequence its equations read: those up to their place.
 -- Assumes nothing.
 use mathlib.Core.Path.{_≡_, sym, _∙_, ap}
-use Prim.Native.Nat.{ℕ, suc, _*_, _-_}
+use Prim.Native.Nat.{ℕ, suc, _+_, _*_, _-_}
 use native.Mathlib.Omega.{arith}
 use Rattle.ring.specs.Ring.{CRing, cast}
 use Rattle.series.specs.Series.{Seq, sum-same}

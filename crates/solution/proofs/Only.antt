@@ -63,6 +63,11 @@ pub answer : (v : Values) (h s c g : List ℕ) → Ready v → Prime (v .p) → 
     → Solved (v .p) (SAt (Zmod (v .p)) (question v) (poly (v .p) h)) s (half v + 1) → Solved (v .p) (CAt (Zmod (v .p)) (poly (v .p) s)) c (half v + 1)
     → length c ≡ half v + 1 → length g ≡ half v + 1 → Filled (λ i w. w ≡ getD c (length c - 1 - i) 0) g (length c) → Candidate v g
 answer v h s c g ok P small hs ss cs cl gl back = record {
+  h = poly (v .p) h;
+  s = poly (v .p) s;
+  c = poly (v .p) c;
+  computed = computed (question v) (ok .least) h s c g hs ss cs cl gl back;
+  coefficients = coefficients (question v) (ok .least) h s c g hs ss cs cl gl back;
   reduced =
       reversed-reduced c g (half v) cl gl back (v .p)
       (solved-all (v .p) (CAt (Zmod (v .p)) (poly (v .p) s)) (prime-pos P) c (half v + 1) (omega arith) cs);

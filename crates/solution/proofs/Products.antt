@@ -19,4 +19,3 @@ module _ (R : CRing) where
       conv-terms R a b (λ i. s (suc i) ⊗ c (k - suc i)) (k - 1)
       (λ i m. ap₂ _⊗_ (ha i (omega arith) ∙ ap s (omega arith)) (hb (k - 1 - i) (omega arith) ∙ ap c (omega arith)))
       ∙ ap (sum R (λ i. s (suc i) ⊗ c (k - suc i))) (omega arith)
-

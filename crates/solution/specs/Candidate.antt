@@ -7,11 +7,17 @@ use Rattle.series.specs.Series.{Seq}
 use Rattle.zmod.specs.Zmod.{Zmod}
 use Rattle.zmod.specs.Residues.{Reduced, poly}
 use Rattle.isogeny.specs.Rules.{R1, Meets}
+use Rattle.isogeny.specs.Solution.{Computed, Coefficients}
 use Rattle.sheet.specs.declared.Values.{Values}
 use Rattle.rules.specs.Question.{question}
 
--- the words of the one polynomial that can meet the rules
+-- the words of the polynomial that solving computes, which is the only one that can meet the rules
 pub record Candidate (v : Values) (g : List ℕ) : Type 0 where
+  pub h : Seq (Zmod (v .p))
+  pub s : Seq (Zmod (v .p))
+  pub c : Seq (Zmod (v .p))
+  pub computed : Computed (Zmod (v .p)) (question v) h s c
+  pub coefficients : Coefficients (Zmod (v .p)) (question v) (poly (v .p) g) c
   pub reduced : Reduced (v .p) g
   pub r1 : R1 (Zmod (v .p)) (question v) (poly (v .p) g)
   pub only : (g′ : Seq (Zmod (v .p))) → Meets (Zmod (v .p)) (question v) g′ → g′ ≡ poly (v .p) g

@@ -77,6 +77,10 @@ module _ (p : ℕ) where
   unfolding times
   mk-mul m n = rw (val-mk m, val-mk n) (mk-same _ _ (sym (mul-mod-left m (n % modulus p) (modulus p) ∙ mul-mod-right m n (modulus p))))
 
+  pub mk-combination : (l x m y n z : ℕ) → mk (l * x + m * y + n * z) ≡ plus (plus (times (mk l) (mk x)) (times (mk m) (mk y))) (times (mk n) (mk z))
+  mk-combination l x m y n z =
+      mk-add (l * x + m * y) (n * z) ∙ ap₂ plus (mk-add (l * x) (m * y) ∙ ap₂ plus (mk-mul l x) (mk-mul m y)) (mk-mul n z)
+
   -- what holds at every `mk n` holds at every element
   pub onto : (P : Elt → Type 0) → ((n : ℕ) → P (mk n)) → (x : Elt) → P x
   onto P h x = subst P (mk-val x) (h (val x))

@@ -1,62 +1,100 @@
 -- `rules::join` meets its contract. Assumes nothing.
+use mathlib.Core.Path.{_≡_, ap, ap₂, _∙_}
+use Prim.Native.Nat.{_+_, _-_, _*_, _<_}
 use native.Mathlib.Omega.{arith}
-use Rattle.rules.proofs.Steps.{join-steps}
 use borrow.Author.Needs.{needs}
+use Rattle.rules.specs.Words.{mk-less}
+use Rattle.rules.proofs.Steps.{back-is, back-below, join-is}
 use Rattle.rules.proofs.join.Statement.{statement}
 use Rattle.rules.proofs.join.Tie as tie
 
-line-words-requires : tie.Need-line-words-requires
-line-words-requires c κs = search needs
+negate-requires : tie.Need-negate-requires
+negate-requires c κs = search needs
 
-slice-aggregate-product : tie.Need-slice-aggregate-product
-slice-aggregate-product c = search needs
+negate-requires-2 : tie.Need-negate-requires-2
+negate-requires-2 c κs = search needs
 
-product-requires : tie.Need-product-requires
-product-requires c κs = search needs
+back-requires : tie.Need-back-requires
+back-requires c κs = search needs
 
-slope-words-requires : tie.Need-slope-words-requires
-slope-words-requires c κs = search needs
+word-requires : tie.Need-word-requires
+word-requires c κs = search needs
 
-slice-aggregate-add-product : tie.Need-slice-aggregate-add-product
-slice-aggregate-add-product c = search needs
+word-requires-2 : tie.Need-word-requires-2
+word-requires-2 c κs = search needs
 
-add-product-requires : tie.Need-add-product-requires
-add-product-requires c κs = search needs
+combination-requires : tie.Need-combination-requires
+combination-requires c κs =
+    let start = c .before .before .before .before .before .before .before .before in
+    let a = start .args in
+    let p = a .v .p in
+    let b = c .before .before .back in
+    let one : b .result < p = back-below p (a .s .now) 1 (a .k) (b .result) (b .ensures .0) (b .ensures .1) (omega arith) (start .pre .1) in
+    omega (arith, one, c .before .word .ensures, c .word2 .ensures, start .pre .1 (a .k), start .pre .2 (a .k))
 
-cubic-words-requires : tie.Need-cubic-words-requires
-cubic-words-requires c κs = search needs
+sub-combination : tie.Need-sub-combination
+sub-combination c = search needs
 
-slice-aggregate-add-product-2 : tie.Need-slice-aggregate-add-product-2
-slice-aggregate-add-product-2 c = search needs
+back-requires-2 : tie.Need-back-requires-2
+back-requires-2 c κs = search needs
 
-add-product-requires-2 : tie.Need-add-product-requires-2
-add-product-requires-2 c κs = search needs
+back-requires-3 : tie.Need-back-requires-3
+back-requires-3 c κs = search needs
 
-same-length : tie.Need-same-length
-same-length c = search needs
+word-requires-3 : tie.Need-word-requires-3
+word-requires-3 c κs = search needs
+
+combination-requires-2 : tie.Need-combination-requires-2
+combination-requires-2 c κs =
+    let start = c .before .before .before .before .before .before .before .before .before .before .before .before in
+    let a = start .args in
+    let p = a .v .p in
+    let b = c .before .before .back2 in
+    let b′ = c .before .back3 in
+    let one : b .result < p = back-below p (a .t .now) 2 (a .k) (b .result) (b .ensures .0) (b .ensures .1) (omega arith) (start .pre .2) in
+    let two : b′ .result < p = back-below p (a .e .now) 1 (a .k) (b′ .result) (b′ .ensures .0) (b′ .ensures .1) (omega arith) (start .pre .3) in
+    omega (arith, one, two, c .word3 .ensures, start .pre .3 (a .k))
+
+add-reduce : tie.Need-add-reduce
+add-reduce c =
+    omega (arith, c .before .before .before .before .combination .ensures .1, c .combination2 .ensures .1)
+
+back-requires-4 : tie.Need-back-requires-4
+back-requires-4 c κs = search needs
+
+wide-requires : tie.Need-wide-requires
+wide-requires c κs = search needs
+
+add-reduce-2 : tie.Need-add-reduce-2
+add-reduce-2 c =
+    let start = c .before .before .before .before .before .before .before .before .before .before .before .before .before .before .before in
+    let a = start .args in
+    let b = c .before .back4 in
+    let one : b .result < a .v .p = back-below (a .v .p) (a .e .now) 3 (a .k) (b .result) (b .ensures .0) (b .ensures .1) (omega arith) (start .pre .3) in
+    omega (arith, one, c .before .before .before .before .before .before .combination .ensures .1, c .before .before .combination2 .ensures .1, c .wide .ensures)
+
+reduce-requires : tie.Need-reduce-requires
+reduce-requires c κs = search needs
 
 returns : tie.Need-returns
 returns c =
-    let at = c .before .before .before .before .before .before .before .before .before .before .before .before .before .before .before .before .before .before .before .before .before .before .args in
-    let a = c .before .before .before .before .before .before .before .before .before .before .before .before .before .before .product in
-    let b = c .before .before .before .before .before .before .before .before .add-product in
-    let k = c .before .before .add-product2 in
-    join-steps (at .v) (at .s .now) (at .t .now) (at .e .now) (c .before .before .before .before .before .before .before .before .before .before .before .before .before .before .before .before .before .line-words .result) (c .before .before .before .before .before .before .before .before .before .before .before .slope-words .result) (c .before .before .before .before .before .cubic-words .result)
-    (a .last .1 .1 .0) (b .last .1 .1 .0) (k .last .1 .1 .0) (omega (arith, b .kept)) (omega (arith, k .kept))
-    (c .before .before .before .before .before .before .before .before .before .before .before .before .before .before .before .before .before .line-words .ensures) (c .before .before .before .before .before .before .before .before .before .before .before .slope-words .ensures) (c .before .before .before .before .before .cubic-words .ensures) (a .ensures) (b .ensures) (k .ensures)
+    let start = c .before .before .before .before .before .before .before .before .before .before .before .before .before .before .before .before in
+    let a = start .args in
+    let p = a .v .p in
+    let b = c .before .before .before .before .before .before .before .before .before .before .back in
+    let b2 = c .before .before .before .before .before .before .back2 in
+    let b3 = c .before .before .before .before .before .back3 in
+    let b4 = c .before .before .back4 in
+    join-is (a .v) (start .pre .0) (a .s .now) (a .t .now) (a .e .now) (a .k) (c .before .before .before .before .before .before .before .before .before .before .before .before .negate .result) (c .before .before .before .before .before .before .before .before .before .before .before .negate2 .result) (p - 3) (b .result) (b2 .result) (b3 .result) (b4 .result)
+    (c .before .before .before .before .before .before .before .combination .result) (c .before .before .before .combination2 .result) (c .before .wide .result) (c .reduce .result) (c .before .before .before .before .before .before .before .before .before .before .before .before .negate .ensures) (c .before .before .before .before .before .before .before .before .before .before .before .negate2 .ensures)
+    (mk-less {p = p} 3 (omega arith) (omega arith))
+    (back-is p (a .s .now) 1 (a .k) (b .result) (b .ensures .0) (b .ensures .1))
+    (back-is p (a .t .now) 2 (a .k) (b2 .result) (b2 .ensures .0) (b2 .ensures .1))
+    (back-is p (a .e .now) 1 (a .k) (b3 .result) (b3 .ensures .0) (b3 .ensures .1))
+    (back-is p (a .e .now) 3 (a .k) (b4 .result) (b4 .ensures .0) (b4 .ensures .1))
+    (c .before .before .before .before .before .before .before .combination .ensures .0 ∙ ap₂ (λ x y. a .v .degree * b .result + c .before .before .before .before .before .before .before .before .before .before .before .before .negate .result * x + c .before .before .before .before .before .before .before .before .before .before .before .negate2 .result * y) (c .before .before .before .before .before .before .before .before .before .word .ensures) (c .before .before .before .before .before .before .before .before .word2 .ensures))
+    (c .before .before .before .combination2 .ensures .0 ∙ ap (λ x. (p - 3) * b2 .result + a .v .a * b3 .result + a .v .b * x) (c .before .before .before .before .word3 .ensures))
+    (c .before .wide .ensures) (c .reduce .ensures)
 
 pub join-spec : {M : Type 1} → statement M
-join-spec =
-    tie.close
-    (tie.spec
-    line-words-requires
-    slice-aggregate-product
-    product-requires
-    slope-words-requires
-    slice-aggregate-add-product
-    add-product-requires
-    cubic-words-requires
-    slice-aggregate-add-product-2
-    add-product-requires-2
-    same-length
-    returns)
+join-spec = tie.close (tie.spec negate-requires negate-requires-2 back-requires word-requires word-requires-2 combination-requires sub-combination back-requires-2 back-requires-3 word-requires-3 combination-requires-2 add-reduce back-requires-4 wide-requires add-reduce-2 reduce-requires returns)

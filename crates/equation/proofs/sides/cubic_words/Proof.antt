@@ -1,9 +1,9 @@
--- `rules::cubic_words` meets its contract. Assumes nothing.
+-- `equation::sides::cubic_words` meets its contract. Assumes nothing.
 use native.Mathlib.Omega.{arith}
 use mathlib.Core.List.{[], _∷_}
-use Rattle.rules.specs.Words.{reduced-nil, reduced-cons, f-words}
-use Rattle.rules.proofs.cubic_words.Statement.{statement}
-use Rattle.rules.proofs.cubic_words.Tie as tie
+use Rattle.equation.proofs.Cubic.{reduced-nil, reduced-cons, f-words}
+use Rattle.equation.proofs.sides.cubic_words.Statement.{statement}
+use Rattle.equation.proofs.sides.cubic_words.Tie as tie
 
 returns : tie.Need-returns
 returns c =
