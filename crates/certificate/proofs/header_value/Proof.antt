@@ -1,12 +1,12 @@
--- `sheet::header_value` meets its contract.
+-- `certificate::header_value` meets its contract.
 -- Assumes nothing.
 use borrow.Author.Needs.{needs}
 use mathlib.Core.Path.{_≡_, sym, ap}
 use native.Mathlib.Omega.{arith}
-use Rattle.sheet.specs.Certificate.{valueAt}
-use Rattle.sheet.proofs.Writing.{the-last}
-use Rattle.sheet.proofs.header_value.Statement.{statement}
-use Rattle.sheet.proofs.header_value.Tie as tie
+use Rattle.certificate.specs.Certificate.{valueAt}
+use Rattle.certificate.proofs.Writing.{the-last}
+use Rattle.certificate.proofs.header_value.Statement.{statement}
+use Rattle.certificate.proofs.header_value.Tie as tie
 
 returns : tie.Need-returns
 returns c = sym (ap (valueAt (c .before .args .v)) (c .match .keys1))

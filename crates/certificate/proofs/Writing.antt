@@ -1,20 +1,20 @@
 -- The header of a certificate, word by word, as the writer stores it.
 -- Assumes nothing.
-use mathlib.Core.Path.{_≡_, refl, sym, _∙_, ap, ap₂, subst}
+use mathlib.Core.Path.{_≡_, refl, sym, _∙_, ap, ap₂}
 use mathlib.Core.List.{List, [], _∷_, _++_, map}
 use Prim.Native.Nat.{ℕ, zero, suc, _+_, _*_, _-_, _^_, _<_, _≤_}
 use native.Mathlib.Omega.{arith}
 use lib.Dec.{eqb, eqb→eq}
 use lib.ListN.{length, getD, set, drop, length-append, length-map}
 use lib.Seq.{paste}
 use Rattle.sheet.specs.declared.Form.the-variants.{Certificate}
 use Rattle.sheet.specs.declared.Values.{Values}
 use Rattle.sheet.specs.Word.{word}
 use Rattle.sheet.specs.Place.{placeOf}
-use Rattle.sheet.specs.Certificate.{headerWords, certificate, valueAt, ValuesFit, Writable, Written}
+use Rattle.certificate.specs.Certificate.{headerWords, certificate, valueAt, ValuesFit, Writable, Written}
 use Rattle.sheet.proofs.Table.{at}
 use Rattle.sheet.proofs.Places.{place-is}
-use Rattle.sheet.proofs.Copies.{Front, front-paste, front-one, front-length}
+use Rattle.certificate.proofs.Stores.{Front, front-paste, front-one, front-length}
 
 -- kind k stands at place k − 1 of a certificate
 pub kind-place : (k : ℕ) → 1 ≤ k → k < 8 → placeOf Certificate k 0 0 ≡ k - 1
@@ -105,13 +105,13 @@ module _ (v : Values) (g n before : List ℕ) (can : Writable v g n (length befo
       third-length =
           front-length before (headerWords v ++ map (word 8) g ++ map (word 9) n) front₃ (omega (arith, length₃, can .enough))
 
-      pub written : {e w : ℕ} → e ≡ 3 * length g + 7 → w ≡ word 15 0 → Written v g n before (set o₃ e w) (e + 1)
-      written {e} {w} at-end is-end = let whole : length (certificate v g n) ≡ e + 1 =
-          length-append (headerWords v ++ map (word 8) g ++ map (word 9) n) (word 15 0 ∷ []) ∙ omega (arith, length₃, at-end) in record {
+      pub written : {e w r : ℕ} → e ≡ 3 * length g + 7 → w ≡ word 15 0 → r ≡ e + 1 → Written v g n before (set o₃ e w) r
+      written {e} {w} {r} at-end is-end count-is = let whole : length (certificate v g n) ≡ r =
+          length-append (headerWords v ++ map (word 8) g ++ map (word 9) n) (word 15 0 ∷ []) ∙ omega (arith, length₃, at-end, count-is) in record {
             words =
                 ap (set o₃ e) is-end
                 ∙ front-one before (headerWords v ++ map (word 8) g ++ map (word 9) n) e (word 15 0) (at-end ∙ sym length₃)
                 (omega (arith, at-end, can .enough)) front₃
                 ∙ ap (λ k. certificate v g n ++ drop k before) whole;
-            count = omega (arith, at-end);
+            count = omega (arith, at-end, count-is);
           }

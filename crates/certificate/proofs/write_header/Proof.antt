@@ -1,4 +1,4 @@
--- `sheet::write_header` meets its contract. The invariant: the words before kind k are written.
+-- `certificate::write_header` meets its contract. The invariant: the words before kind k are written.
 -- Assumes nothing.
 use borrow.Author.Needs.{needs}
 use mathlib.Core.Path.{_≡_, refl, sym, ap, ap₂, _∙_}
@@ -6,12 +6,12 @@ use mathlib.Core.List.{List, _++_}
 use Prim.Native.Nat.{ℕ, _+_, _-_, _≤_, _<_}
 use native.Mathlib.Omega.{arith}
 use lib.ListN.{length, getD, set, take, drop, length-set}
 use Rattle.sheet.specs.Word.{word}
-use Rattle.sheet.specs.Certificate.{headerWords, valueAt}
-use Rattle.sheet.proofs.Copies.{front-more}
-use Rattle.sheet.proofs.Writing.{kind-place, value-fits, header-word}
-use Rattle.sheet.proofs.write_header.Statement.{statement}
-use Rattle.sheet.proofs.write_header.Tie as tie
+use Rattle.certificate.specs.Certificate.{headerWords, valueAt}
+use Rattle.certificate.proofs.Stores.{front-more}
+use Rattle.certificate.proofs.Writing.{kind-place, value-fits, header-word}
+use Rattle.certificate.proofs.write_header.Statement.{statement}
+use Rattle.certificate.proofs.write_header.Tie as tie
 
 abbrev Inv-loop : tie.InvT-loop
 Inv-loop v out₀ k₀ out k = (length out ≡ length out₀) × (1 ≤ k) × (k ≤ 8) × (out ≡ take (k - 1) (headerWords v) ++ drop (k - 1) out₀)

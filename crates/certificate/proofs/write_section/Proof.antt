@@ -1,4 +1,4 @@
--- `sheet::write_section` meets its contract. The invariant: i words are written.
+-- `certificate::write_section` meets its contract. The invariant: i words are written.
 -- Assumes nothing.
 use borrow.Author.Needs.{needs}
 use mathlib.Core.Path.{_≡_, sym, ap, ap₂, _∙_}
@@ -8,10 +8,10 @@ use native.Mathlib.Omega.{arith}
 use native.Mathlib.Numerals.{add-one}
 use lib.ListN.{length, getD, set, length-set, length-map, List·getD-map}
 use lib.Seq.{paste, paste-zero, paste-suc}
 use Rattle.sheet.specs.Word.{word}
-use Rattle.sheet.proofs.Copies.{section-more}
-use Rattle.sheet.proofs.write_section.Statement.{statement}
-use Rattle.sheet.proofs.write_section.Tie as tie
+use Rattle.certificate.proofs.Stores.{section-more}
+use Rattle.certificate.proofs.write_section.Statement.{statement}
+use Rattle.certificate.proofs.write_section.Tie as tie
 
 abbrev Inv-loop : tie.InvT-loop
 Inv-loop k xs from out₀ i₀ i-end out i = (length out ≡ length out₀) × (i ≤ length xs) × (out ≡ paste out₀ from (map (word k) xs) i)

@@ -1,24 +1,23 @@
 -- Reading back the words of a certificate gives what was written.
 -- Assumes nothing.
-use mathlib.Core.Path.{_≡_, refl, sym, _∙_, ap, ap₂, subst}
+use mathlib.Core.Path.{_≡_, refl, sym, _∙_, ap, ap₂}
 use mathlib.Core.List.{List, [], _∷_, _++_, map, append-assoc}
-use Prim.Native.Nat.{ℕ, zero, suc, _+_, _*_, _-_, _/_, _%_, _^_, _<_, _≤_}
-use native.Mathlib.Decide.{decLt}
+use Prim.Native.Nat.{ℕ, zero, suc, _+_, _*_, _-_, _/_, _^_, _<_, _≤_}
 use native.Mathlib.Omega.{arith}
-use lib.ListN.{length, getD, take, drop, replicate, length-append, length-map, length-drop, List·getD-map, List·getD-append, List·getD-eq-default}
-use lib.Seq.{getD-drop, take-at, drop-at, drop-drop, getD-append-add, getD-at}
+use lib.ListN.{length, getD, take, drop, replicate, length-append, length-map, List·getD-map, List·getD-append}
+use lib.Seq.{getD-drop, take-at, drop-at, drop-drop, getD-at}
 use Rattle.zmod.specs.Residues.{Reduced}
 use Rattle.sheet.specs.declared.Form.the-variants.{Certificate}
 use Rattle.sheet.specs.declared.Values.{Values}
 use Rattle.sheet.specs.Word.{kindOf, valueOf, word}
-use Rattle.sheet.specs.Form.{entry, half, gOf, nOf}
+use Rattle.sheet.specs.Form.{half, gOf, nOf}
 use Rattle.sheet.specs.FirstNo.{AllYes}
-use Rattle.sheet.specs.Asked.{Asked2, Asked6, asked}
-use Rattle.sheet.specs.Leaf.{PrimeAllowed, DegreeAllowed, ValuesBelow, Curves}
+use Rattle.sheet.specs.Asked.{PrimeAllowed, Asked2, Asked6, asked}
+use Rattle.sheet.specs.Leaf.{DegreeAllowed, ValuesBelow, Curves}
 use Rattle.sheet.specs.Reading.{valuesOf}
-use Rattle.sheet.specs.Certificate.{headerWords, certificate, ValuesFit, Written}
+use Rattle.certificate.specs.Certificate.{certificate, ValuesFit, Written}
 use Rattle.sheet.proofs.Fields.{same}
 use Rattle.sheet.proofs.Questions.{all-yes}
 
 -- ── one word
 

@@ -1,13 +1,13 @@
--- `sheet::write` meets its contract.
+-- `certificate::write` meets its contract.
 -- Assumes nothing.
 use borrow.Author.Needs.{needs}
 use mathlib.Core.Path.{_≡_, _∙_}
 use Prim.Native.Nat.{_+_, _*_, _-_, _≤_}
 use native.Mathlib.Omega.{arith}
 use lib.ListN.{length, length-set}
-use Rattle.sheet.proofs.Writing.{g-at, n-at, end-at, first-length, second-length, third-length, written}
-use Rattle.sheet.proofs.write.Statement.{statement}
-use Rattle.sheet.proofs.write.Tie as tie
+use Rattle.certificate.proofs.Writing.{g-at, n-at, end-at, first-length, second-length, third-length, written}
+use Rattle.certificate.proofs.write.Statement.{statement}
+use Rattle.certificate.proofs.write.Tie as tie
 
 sub-d : tie.Need-sub-d
 sub-d c = search needs
@@ -61,7 +61,7 @@ same-length c =
     simp length-set l
 
 returns : tie.Need-returns
-returns c = written (c .before .before .before .before .before .before .before .before .before .before .before .before .before .before .before .before .before .before .before .args .v) (c .before .before .before .before .before .before .before .before .before .before .before .before .before .before .before .before .before .before .before .args .g .now) (c .before .before .before .before .before .before .before .before .before .before .before .before .before .before .before .before .before .before .before .args .n .now) (c .before .before .before .before .before .before .before .before .before .before .before .before .before .before .before .before .before .before .before .args .out .now) (c .before .before .before .before .before .before .before .before .before .before .before .before .before .before .before .before .before .before .before .pre) (c .before .before .before .before .before .before .before .before .before .before .before .before .before .before .write-header .ensures) (c .before .before .before .before .before .before .before .before .before .before .before .place .ensures ∙ g-at (length (c .before .before .before .before .before .before .before .before .before .before .before .before .before .before .before .before .before .before .before .args .g .now) - 1) 0) (c .before .before .before .before .before .before .before .before .before .write-section .ensures) (c .before .before .before .before .before .before .place2 .ensures ∙ n-at (length (c .before .before .before .before .before .before .before .before .before .before .before .before .before .before .before .before .before .before .before .args .g .now) - 1) 0 ∙ omega (arith, c .before .before .before .before .before .before .before .before .before .before .before .before .before .before .before .before .before .before .before .pre .some)) (c .before .before .before .before .write-section2 .ensures) (c .before .place3 .ensures ∙ end-at (length (c .before .before .before .before .before .before .before .before .before .before .before .before .before .before .before .before .before .before .before .args .g .now) - 1) 0 ∙ omega (arith, c .before .before .before .before .before .before .before .before .before .before .before .before .before .before .before .before .before .before .before .pre .some)) (c .word-of .ensures)
+returns c = written (c .before .before .before .before .before .before .before .before .before .before .before .before .before .before .before .before .before .before .before .args .v) (c .before .before .before .before .before .before .before .before .before .before .before .before .before .before .before .before .before .before .before .args .g .now) (c .before .before .before .before .before .before .before .before .before .before .before .before .before .before .before .before .before .before .before .args .n .now) (c .before .before .before .before .before .before .before .before .before .before .before .before .before .before .before .before .before .before .before .args .out .now) (c .before .before .before .before .before .before .before .before .before .before .before .before .before .before .before .before .before .before .before .pre) (c .before .before .before .before .before .before .before .before .before .before .before .before .before .before .write-header .ensures) (c .before .before .before .before .before .before .before .before .before .before .before .place .ensures ∙ g-at (length (c .before .before .before .before .before .before .before .before .before .before .before .before .before .before .before .before .before .before .before .args .g .now) - 1) 0) (c .before .before .before .before .before .before .before .before .before .write-section .ensures) (c .before .before .before .before .before .before .place2 .ensures ∙ n-at (length (c .before .before .before .before .before .before .before .before .before .before .before .before .before .before .before .before .before .before .before .args .g .now) - 1) 0 ∙ omega (arith, c .before .before .before .before .before .before .before .before .before .before .before .before .before .before .before .before .before .before .before .pre .some)) (c .before .before .before .before .write-section2 .ensures) (c .before .place3 .ensures ∙ end-at (length (c .before .before .before .before .before .before .before .before .before .before .before .before .before .before .before .before .before .before .before .args .g .now) - 1) 0 ∙ omega (arith, c .before .before .before .before .before .before .before .before .before .before .before .before .before .before .before .before .before .before .before .pre .some)) (c .word-of .ensures) (omega arith)
 
 pub write-spec : {M : Type 1} → statement M
 write-spec =
