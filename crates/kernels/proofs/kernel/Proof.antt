@@ -12,7 +12,7 @@ use Rattle.kernels.proofs.kernel.Tie as tie
 returns : tie.Need-returns
 returns c =
     let start = c .before .before .before in
-    (kernel-short (start .args .ws .now) (start .args .answer .now) (c .if1 .taken), refl)
+    (kernel-short (start .args .ws .now) (start .args .answer .now) (omega (arith, c .if1 .taken)), refl)
 
 read-requires : tie.Need-read-requires
 read-requires c κs = search needs
@@ -38,7 +38,7 @@ returns-2 c =
     let read = c .before .before .before in
     let start = read .before .before .before .before in
     let ws = start .args .ws .now in
-    (kernel-unread ws (start .args .answer .now) (read .before .if1 .left) (told .0 .0) (subst (Right Kernel ws) (told .1) (read .read .ensures)), refl)
+    (kernel-unread ws (start .args .answer .now) (omega (arith, read .before .if1 .left)) (told .0 .0) (subst (Right Kernel ws) (told .1) (read .read .ensures)), refl)
 
 same-length : tie.Need-same-length
 same-length c = search needs

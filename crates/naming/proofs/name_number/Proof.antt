@@ -19,13 +19,13 @@ returns-2 : tie.Need-returns-2
 returns-2 c =
     let one = c .before in
     let start = one .before .before in
-    a-large (start .args .p) (start .args .a) (start .args .b) (shown (one .before .prime-allowed .ensures) (one .if1 .left)) (c .if2 .taken)
+    a-large (start .args .p) (start .args .a) (start .args .b) (shown (one .before .prime-allowed .ensures) (one .if1 .left)) (omega (arith, c .if2 .taken))
 
 returns-3 : tie.Need-returns-3
 returns-3 c =
     let one = c .before .before in
     let start = one .before .before in
-    b-large (start .args .p) (start .args .a) (start .args .b) (shown (one .before .prime-allowed .ensures) (one .if1 .left)) (c .if3 .taken)
+    b-large (start .args .p) (start .args .a) (start .args .b) (shown (one .before .prime-allowed .ensures) (one .if1 .left)) (omega (arith, c .if3 .taken))
 
 nonsingular-requires : tie.Need-nonsingular-requires
 nonsingular-requires c κs =
@@ -38,7 +38,7 @@ returns-4 c =
     let three = c .before .before in
     let one = three .before .before in
     let start = one .before .before in
-    singular (start .args .p) (start .args .a) (start .args .b) (shown (one .before .prime-allowed .ensures) (one .if1 .left)) (three .before .if2 .left) (three .if3 .left)
+    singular (start .args .p) (start .args .a) (start .args .b) (shown (one .before .prime-allowed .ensures) (one .if1 .left)) (omega (arith, three .before .if2 .left)) (omega (arith, three .if3 .left))
     (refuted (c .before .nonsingular .ensures) (c .if4 .taken))
 
 returns-5 : tie.Need-returns-5
@@ -46,7 +46,7 @@ returns-5 c =
     let three = c .before .before in
     let one = three .before .before in
     let start = one .before .before in
-    named (start .args .p) (start .args .a) (start .args .b) (shown (one .before .prime-allowed .ensures) (one .if1 .left)) (three .before .if2 .left) (three .if3 .left)
+    named (start .args .p) (start .args .a) (start .args .b) (shown (one .before .prime-allowed .ensures) (one .if1 .left)) (omega (arith, three .before .if2 .left)) (omega (arith, three .if3 .left))
     (shown (c .before .nonsingular .ensures) (c .if4 .left))
 
 pub name-number-spec : {M : Type 1} → statement M

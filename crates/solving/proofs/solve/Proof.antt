@@ -13,7 +13,7 @@ use Rattle.solving.proofs.solve.Tie as tie
 returns : tie.Need-returns
 returns c =
     let start = c .before .before .before in
-    (solve-short (start .args .ws .now) (start .args .answer .now) (c .if1 .taken), refl)
+    (solve-short (start .args .ws .now) (start .args .answer .now) (omega (arith, c .if1 .taken)), refl)
 
 read-requires : tie.Need-read-requires
 read-requires c κs = search needs
@@ -38,7 +38,7 @@ returns-2 c =
     let read = c .before .before .before in
     let start = read .before .before .before .before in
     let ws = start .args .ws .now in
-    (solve-unread ws (start .args .answer .now) (read .before .if1 .left) (told .0 .0) (subst (Right Question ws) (told .1) (read .read .ensures)), refl)
+    (solve-unread ws (start .args .answer .now) (omega (arith, read .before .if1 .left)) (told .0 .0) (subst (Right Question ws) (told .1) (read .read .ensures)), refl)
 
 same-length : tie.Need-same-length
 same-length c = search needs
@@ -52,7 +52,7 @@ returns-3 c =
     let ws = start .args .ws .now in
     let answer = start .args .answer .now in
     let right = subst (Right Question ws) (told .1) (read .read .ensures) in
-    solve-right ws answer (read .before .if1 .left) (right .0) (values .solve-values .last .1 .0) (values .solve-values .result)
+    solve-right ws answer (omega (arith, read .before .if1 .left)) (right .0) (values .solve-values .last .1 .0) (values .solve-values .result)
     (subst (λ v. Solved v answer (values .solve-values .last .1 .0) (values .solve-values .result)) (right .1) (values .solve-values .ensures))
 
 pub solve-spec : {M : Type 1} → statement M
