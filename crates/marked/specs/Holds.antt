@@ -1,15 +1,15 @@
 -- Whether a row of the table holds, by computing: `test` is a boolean that the checker computes, and a row that passes it holds.
 -- Assumes nothing.
-use mathlib.Core.Path.{_≡_, refl, sym, _∙_, ap, subst}
+use mathlib.Core.Path.{_≡_, refl, sym, ap, subst}
 use mathlib.Core.Bool.{Bool, true, false, not}
 use mathlib.Core.Logic.{inl, inr}
 use mathlib.Core.List.{List, [], _∷_, _++_}
-use Prim.Native.Nat.{ℕ, _+_, _*_, _-_, _<_, _≤_}
+use Prim.Native.Nat.{ℕ, _+_, _*_, _<_, _≤_}
 use native.Mathlib.Omega.{arith}
 use lib.Dec.{T, eqb, eqb→eq, ltb, ltb→lt}
 use lib.ListN.{length, drop}
 use Rattle.ring.specs.Test.{both, both-left, both-right}
-use Rattle.zmod.specs.Zmod.{Elt, Zmod, mk, minus, times, cast-mk}
+use Rattle.zmod.specs.Zmod.{Elt, Zmod, mk}
 use Rattle.zmod.specs.Prime.{prime-pos}
 use Rattle.zmod.specs.Residues.{poly}
 use Rattle.isogeny.specs.Curve.{Nonsingular}
@@ -20,16 +20,16 @@ use Rattle.sheet.specs.declared.Values.{Values}
 use Rattle.sheet.specs.Form.{gOf, nOf}
 use Rattle.sheet.specs.Asked.{asked}
 use Rattle.sheet.specs.Reading.{valuesOf}
-use Rattle.sheet.specs.Certificate.{certificate}
+use Rattle.certificate.specs.Certificate.{certificate}
 use Rattle.sheet.specs.FirstNo.{Questions, AllYes, FirstNo, all-all, no-after}
-use Rattle.rules.specs.Question.{question, half}
-use Rattle.services.specs.declared.Written.the-variants as written
-use Rattle.services.specs.declared.Point.{Point}
-use Rattle.services.specs.declared.Point.the-variants as point
-use Rattle.services.specs.declared.Image.{Image}
-use Rattle.services.specs.declared.Image.the-variants as image
-use Rattle.services.specs.Asked.{prime, put, g, n, enough, check-asks, push-asks, Solvable, Codomain, Leading, Given}
-use Rattle.services.specs.Answer.{SolveRight, KernelRight, PushRight, Filled, kernel-values}
+use Rattle.rules.specs.Question.{half}
+use Rattle.answers.specs.declared.Written.the-variants as written
+use Rattle.answers.specs.declared.Point.{Point}
+use Rattle.answers.specs.declared.Point.the-variants as point
+use Rattle.answers.specs.declared.Image.{Image}
+use Rattle.answers.specs.declared.Image.the-variants as image
+use Rattle.answers.specs.Asked.{prime, put, g, n, enough, check-asks, push-asks, Solvable, Codomain, Leading, Given}
+use Rattle.answers.specs.Answer.{SolveRight, KernelRight, PushRight, Filled, kernel-values}
 use Rattle.marked.specs.Tests.{every, Every, every-yes, same-list, same-list-yes, below, below-yes}
 use Rattle.marked.specs.Rules.{R1-test, R1-by-computing, R2-test, R2-by-computing, R2-refuted, R3-test, R3-by-computing, R3-refuted, meets-test, meets-by-computing, none-test, none-by-computing, nonsingular-test, nonsingular-by-computing, on-curve-test, on-curve-by-computing, image-test, image-by-computing, vanishes-test, vanishes-by-computing}
 use Rattle.marked.specs.Sheets.{asked-test, asked-by-computing, prime-by-computing, least-by-computing}
@@ -239,10 +239,7 @@ module _ (v : Values) (g₀ n : List ℕ) where
       nonsingular-by-computing pos (v .atilde) (v .btilde) (t 4)
       in
       let fill : Every (fill-tests completed γ₀ n v g₀) = every-yes (fill-tests completed γ₀ n v g₀) (t 5) in
-      let meets : Meets (Zmod p) (with-sigma (mk p (v .sigma))) (poly p γ₀) = meets-by-computing completed γ₀ n pos (fill 0) in
-      let sigma : mk p (v .sigma) ≡ minus p (times p (mk p 2) (poly p γ₀ (half completed - 1))) =
-      meets .r1 .sigma ∙ ap (λ c. minus p (times p c (poly p γ₀ (half completed - 1)))) (cast-mk p 2)
-      in (
+      let meets : Meets (Zmod p) (with-sigma (mk p (v .sigma))) (poly p γ₀) = meets-by-computing completed γ₀ n pos (fill 0) in (
         (
           room,
           all-all (asked Kernel sheet) ((8, Leading sheet) ∷ (11, Codomain sheet) ∷ []) (asked-by-computing Kernel sheet (t 0)) (
@@ -251,8 +248,7 @@ module _ (v : Values) (g₀ n : List ℕ) where
               record {
                 Ã = mk p (v .atilde);
                 B̃ = mk p (v .btilde);
-                nonsingular = curve;
-                meets = subst (λ s. Meets (Zmod p) (with-sigma s) (poly p γ₀)) sigma meets;
+                passes = (curve, subst (λ s. R3 (Zmod p) (with-sigma s) (poly p γ₀) (N (Zmod p) (with-sigma s) (poly p γ₀))) (meets .r1 .sigma) (meets .r3));
               },
               tt,
             ),

@@ -9,14 +9,14 @@ use Rattle.zmod.specs.Residues.{poly}
 use Rattle.isogeny.specs.Rules.{R3}
 use Rattle.sheet.specs.declared.Values.{Values}
 use Rattle.sheet.specs.Word.{word}
-use Rattle.sheet.specs.Certificate.{certificate}
+use Rattle.certificate.specs.Certificate.{certificate}
 use Rattle.rules.specs.Question.{question, half}
-use Rattle.services.specs.declared.Verdict.the-variants as verdict
-use Rattle.services.specs.declared.Written.the-variants as written
-use Rattle.services.specs.declared.Point.{Point}
-use Rattle.services.specs.declared.Image.{Image}
-use Rattle.services.specs.Asked.{enough}
-use Rattle.services.specs.Answer.{CheckRight, SolveRight, KernelRight, PushRight}
+use Rattle.answers.specs.declared.Verdict.the-variants as verdict
+use Rattle.answers.specs.declared.Written.the-variants as written
+use Rattle.answers.specs.declared.Point.{Point}
+use Rattle.answers.specs.declared.Image.{Image}
+use Rattle.answers.specs.Asked.{enough}
+use Rattle.answers.specs.Answer.{CheckRight, SolveRight, KernelRight, PushRight}
 
 -- "Q" lists p, A, B, Ã, B̃, ℓ, σ
 abbrev pub Q : ℕ → ℕ → ℕ → ℕ → ℕ → ℕ → ℕ → Values

@@ -3,7 +3,7 @@
 use mathlib.Core.Path.{_≡_, _∙_, ap, subst}
 use mathlib.Core.Bool.{Bool}
 use mathlib.Core.List.{List, [], _∷_, map}
-use Prim.Native.Nat.{ℕ, _*_, _-_, _%_, _<_, _≤_}
+use Prim.Native.Nat.{ℕ, _*_, _-_, _%_, _^_, _<_, _≤_}
 use native.Mathlib.Omega.{arith}
 use lib.Dec.{T, eqb, eqb→eq, leb, leb→le, ltb, ltb→lt}
 use lib.ListN.{length, getD, take, drop, List·getD-map}
@@ -60,7 +60,7 @@ module _ (form : Form) (ws : List ℕ) where
       ∷ eqb (ℓ % 2) 1 ∷ leb 3 ℓ ∷ leb ℓ 255 ∷ ltb (2 * ℓ - 1) p
       ∷ below p values
       ∷ same-list (map kindOf rest) (body form (half form ws)) ∷ below p (map valueOf rest) ∷ eqb (valueOf (getD ws (length ws - 1) 0)) 0
-      ∷ curves form ws ∷ []
+      ∷ curves form ws ∷ ltb p (2 ^ 28) ∷ []
 
   abbrev pub asked-test : Bool
   asked-test = every tests
@@ -90,7 +90,7 @@ module _ (form : Form) (ws : List ℕ) where
       let small : (i : ℕ) → getD values i 0 < p = below-yes p pos values (s 7) in (
         same-list-yes _ _ (s 0),
         (
-          record { prime = prime-by-computing t; least = least-by-computing t },
+          record { prime = prime-by-computing t; least = least-by-computing t; most = ltb→lt p (2 ^ 28) (s 12) },
           (
             record {
               odd = eqb→eq (ℓ % 2) 1 (s 3);

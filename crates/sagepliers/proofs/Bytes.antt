@@ -8,15 +8,15 @@ use native.Mathlib.Omega.{arith}
 use lib.ListN.{length, take}
 use Rattle.sheet.specs.Word.{wordsOf}
 use Rattle.sheet.specs.FirstNo.{Questions, AllYes, FirstNo, no-before, no-after, all-all}
-use Rattle.services.specs.declared.Verdict.{Verdict}
-use Rattle.services.specs.declared.Verdict.the-variants as verdict
-use Rattle.services.specs.declared.Written.{Written}
-use Rattle.services.specs.declared.Written.the-variants as written
-use Rattle.services.specs.declared.Point.{Point}
-use Rattle.services.specs.declared.Image.{Image}
-use Rattle.services.specs.declared.Image.the-variants as image
-use Rattle.services.specs.Asked.{Room, check-asks, Given}
-use Rattle.services.specs.Answer.{CheckRight, SolveRight, KernelRight, PushRight}
+use Rattle.answers.specs.declared.Verdict.{Verdict}
+use Rattle.answers.specs.declared.Verdict.the-variants as verdict
+use Rattle.answers.specs.declared.Written.{Written}
+use Rattle.answers.specs.declared.Written.the-variants as written
+use Rattle.answers.specs.declared.Point.{Point}
+use Rattle.answers.specs.declared.Image.{Image}
+use Rattle.answers.specs.declared.Image.the-variants as image
+use Rattle.answers.specs.Asked.{Room, check-asks, Given}
+use Rattle.answers.specs.Answer.{CheckRight, SolveRight, KernelRight, PushRight}
 use Rattle.sagepliers.specs.Entry.{Whole, bytes-ask, pointOf, push-number-asks, CheckAnswer, PushAnswer, SolveAnswer, KernelAnswer}
 use Rattle.sagepliers.proofs.Split.{no-split, all-split}
 

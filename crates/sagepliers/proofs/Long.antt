@@ -12,16 +12,16 @@ use Rattle.sheet.specs.declared.Form.{Form}
 use Rattle.sheet.specs.declared.Form.the-variants.{Question as question-form, Certificate, Kernel}
 use Rattle.sheet.specs.Asked.{asked}
 use Rattle.sheet.specs.FirstNo.{Questions, AllYes, FirstNo, no-before}
-use Rattle.services.specs.declared.Verdict.{Verdict}
-use Rattle.services.specs.declared.Verdict.the-variants as verdict
-use Rattle.services.specs.declared.Written.{Written}
-use Rattle.services.specs.declared.Written.the-variants as written
-use Rattle.services.specs.declared.Point.{Point}
-use Rattle.services.specs.declared.Image.{Image}
-use Rattle.services.specs.declared.Image.the-variants as image
-use Rattle.services.specs.Asked.{Solvable, Leading, Codomain, Given, check-asks}
-use Rattle.services.specs.Answer.{CheckRight, SolveRight, KernelRight, PushRight}
-use Rattle.services.specs.Judged.{rules-asks}
+use Rattle.answers.specs.declared.Verdict.{Verdict}
+use Rattle.answers.specs.declared.Verdict.the-variants as verdict
+use Rattle.answers.specs.declared.Written.{Written}
+use Rattle.answers.specs.declared.Written.the-variants as written
+use Rattle.answers.specs.declared.Point.{Point}
+use Rattle.answers.specs.declared.Image.{Image}
+use Rattle.answers.specs.declared.Image.the-variants as image
+use Rattle.answers.specs.Asked.{Solvable, Leading, Codomain, Given, check-asks}
+use Rattle.answers.specs.Answer.{CheckRight, SolveRight, KernelRight, PushRight}
+use Rattle.checking.specs.RulesAsked.{rules-asks}
 use Rattle.sagepliers.proofs.Split.{no-split, all-split}
 
 -- the count of words that are kept

@@ -7,9 +7,9 @@ use Prim.Native.Nat.{_^_}
 use native.Mathlib.Omega.{arith}
 use types.Run.{OneOf}
 use denote.Enum.Declared.{tagOf}
-use Rattle.services.proofs.Image as declared
-use Rattle.services.specs.declared.Image.{Image}
-use Rattle.services.specs.declared.Image.the-variants.{Affine, Infinity, Refused}
+use Rattle.answers.proofs.Image as declared
+use Rattle.answers.specs.declared.Image.{Image}
+use Rattle.answers.specs.declared.Image.the-variants.{Affine, Infinity, Refused}
 use Rattle.sagepliers.specs.Entry.{imageNumber}
 
 pub last-is-infinity : (i : Image) → OneOf (1 ∷ 2 ∷ []) (tagOf declared.the-type i) → OneOf (0 ∷ 1 ∷ []) (tagOf declared.the-type i) → 2 ^ 56 ≡ imageNumber i

@@ -13,18 +13,18 @@ use Rattle.sheet.specs.Word.{wordsOf}
 use Rattle.sheet.specs.Asked.{asked}
 use Rattle.sheet.specs.Reading.{valuesOf}
 use Rattle.sheet.specs.FirstNo.{Questions, AllYes, FirstNo}
-use Rattle.services.specs.declared.Verdict.{Verdict}
-use Rattle.services.specs.declared.Verdict.the-variants as verdict
-use Rattle.services.specs.declared.Written.{Written}
-use Rattle.services.specs.declared.Written.the-variants as written
-use Rattle.services.specs.declared.Point.{Point}
-use Rattle.services.specs.declared.Point.the-variants as point
-use Rattle.services.specs.declared.Image.{Image}
-use Rattle.services.specs.declared.Image.the-variants as image
-use Rattle.services.specs.declared.Named.{Named}
-use Rattle.services.specs.declared.Named.the-variants as named
-use Rattle.services.specs.Asked.{Room, check-asks, Solvable, Leading, Codomain, Given}
-use Rattle.services.specs.Answer.{Goes, Filled, KernelFilled, SolveRight, KernelRight, NameRight}
+use Rattle.answers.specs.declared.Verdict.{Verdict}
+use Rattle.answers.specs.declared.Verdict.the-variants as verdict
+use Rattle.answers.specs.declared.Written.{Written}
+use Rattle.answers.specs.declared.Written.the-variants as written
+use Rattle.answers.specs.declared.Point.{Point}
+use Rattle.answers.specs.declared.Point.the-variants as point
+use Rattle.answers.specs.declared.Image.{Image}
+use Rattle.answers.specs.declared.Image.the-variants as image
+use Rattle.answers.specs.declared.Named.{Named}
+use Rattle.answers.specs.declared.Named.the-variants as named
+use Rattle.answers.specs.Asked.{Room, check-asks, Solvable, Leading, Codomain, Given}
+use Rattle.answers.specs.Answer.{Goes, Filled, KernelFilled, SolveRight, KernelRight, NameRight}
 
 -- "A file or byte slice whose byte count is no multiple of four gets 'no'" from question 2
 abbrev pub Whole : List ℕ → Type 0

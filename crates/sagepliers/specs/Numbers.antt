@@ -9,15 +9,15 @@ use native.Mathlib.Omega.{arith}
 use borrow.Author.Tests.{lt-ltb, le-ltb, ne-eqb}
 use lib.Dec.{ltb, eqb}
 use Rattle.sheet.specs.Word.{wordsOf}
-use Rattle.services.specs.declared.Written.{Written}
-use Rattle.services.specs.declared.Written.the-variants as written
-use Rattle.services.specs.declared.Point.{Point}
-use Rattle.services.specs.declared.Point.the-variants as point
-use Rattle.services.specs.declared.Image.{Image}
-use Rattle.services.specs.declared.Image.the-variants as image
-use Rattle.services.specs.declared.Named.{Named}
-use Rattle.services.specs.declared.Named.the-variants as named
-use Rattle.services.specs.Answer.{Goes, SolveRight, KernelRight, NameRight}
+use Rattle.answers.specs.declared.Written.{Written}
+use Rattle.answers.specs.declared.Written.the-variants as written
+use Rattle.answers.specs.declared.Point.{Point}
+use Rattle.answers.specs.declared.Point.the-variants as point
+use Rattle.answers.specs.declared.Image.{Image}
+use Rattle.answers.specs.declared.Image.the-variants as image
+use Rattle.answers.specs.declared.Named.{Named}
+use Rattle.answers.specs.declared.Named.the-variants as named
+use Rattle.answers.specs.Answer.{Goes, SolveRight, KernelRight, NameRight}
 use Rattle.sagepliers.specs.Entry.{pointOf, imageNumber, writtenNumber, nameNumber, PushAnswer, PushNumber, SolveNumber, KernelNumber, NameNumber}
 
 abbrev pub writtenOf : ℕ → Written

@@ -1,6 +1,3 @@
-pub mod Asked
-pub mod Answer
-pub mod Judged
-pub mod Solved
-pub mod Pushed
-pub mod Kernels
+pub mod Certified
+pub mod Theorems
+pub mod MoreTheorems

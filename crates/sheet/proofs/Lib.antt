@@ -9,7 +9,5 @@ pub mod Body
 pub mod Domains
 pub mod Questions
 pub mod Copies
-pub mod Writing
 pub mod Accepted
 pub mod LongSheet
-pub mod RoundTrip

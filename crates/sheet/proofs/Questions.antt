@@ -8,16 +8,16 @@ use Rattle.sheet.specs.declared.Form.{Form}
 use Rattle.sheet.specs.declared.Form.the-variants.{Question, Certificate, Kernel}
 use Rattle.sheet.specs.declared.Values.{Values}
 use Rattle.sheet.specs.FirstNo.{FirstNo, AllYes}
-use Rattle.sheet.specs.Asked.{Asked2, Asked3, Asked4, Asked5, Asked6, Asked7, asked}
-use Rattle.sheet.specs.Leaf.{PrimeAllowed, DegreeAllowed, ValuesBelow, Curves}
+use Rattle.sheet.specs.Asked.{PrimeAllowed, Asked2, Asked3, Asked4, Asked5, Asked6, Asked7, asked}
+use Rattle.sheet.specs.Leaf.{DegreeAllowed, ValuesBelow, Curves}
 use Rattle.sheet.specs.Reading.{valuesOf}
 
 module _ (form : Form) (ws : List ℕ) {v : Values} (e : v ≡ valuesOf form ws) where
   pub to3 : PrimeAllowed (v .p) → Asked3 form ws
-  to3 h = let k = subst (λ v. PrimeAllowed (v .p)) e h in record { prime = k .prime; least = k .least }
+  to3 h = subst (λ v. PrimeAllowed (v .p)) e h
 
   pub from3 : Asked3 form ws → PrimeAllowed (v .p)
-  from3 h = subst (λ v. PrimeAllowed (v .p)) (sym e) (record { prime = h .prime; least = h .least })
+  from3 h = subst (λ v. PrimeAllowed (v .p)) (sym e) h
 
   pub to4 : DegreeAllowed (v .degree) (v .p) → Asked4 form ws
   to4 h =

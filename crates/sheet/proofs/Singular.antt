@@ -13,10 +13,10 @@ use Rattle.zmod.specs.Residues.{Residue, residue-unique}
 use Rattle.isogeny.specs.Curve.{discriminant}
 
 module _ (R : CRing) (x : R .Car) where
-  squared : R .mul x x ≡ pow R x 2
+  pub squared : R .mul x x ≡ pow R x 2
   squared = sym (pow-suc R x 1 ∙ ap (R .mul x) (pow-suc R x 0 ∙ ap (R .mul x) (pow-zero R x) ∙ R .mul-one x))
 
-  cubed : R .mul (R .mul x x) x ≡ pow R x 3
+  pub cubed : R .mul (R .mul x x) x ≡ pow R x 3
   cubed = R .mul-comm (R .mul x x) x ∙ ap (R .mul x) squared ∙ sym (pow-suc R x 2)
 
 module _ (p a b : ℕ) {a₂ a₃ b₂ u v r : ℕ} (sq : Residue p (times p (mk p a) (mk p a)) a₂) (cu : Residue p (times p (mk p a₂) (mk p a)) a₃)

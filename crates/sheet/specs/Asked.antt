@@ -2,7 +2,7 @@
 -- Assumes nothing.
 use mathlib.Core.Path.{_≡_}
 use mathlib.Core.List.{List, [], _∷_, map}
-use Prim.Native.Nat.{ℕ, _+_, _*_, _-_, _%_, _<_, _≤_}
+use Prim.Native.Nat.{ℕ, _+_, _*_, _-_, _%_, _^_, _<_, _≤_}
 use lib.ListN.{length, getD, take, drop}
 use Rattle.zmod.specs.Zmod.{Zmod, mk}
 use Rattle.zmod.specs.Prime.{Prime}
@@ -12,6 +12,12 @@ use Rattle.sheet.specs.declared.Form.the-variants.{Question, Certificate
 use Rattle.sheet.specs.Word.{kindOf, valueOf}
 use Rattle.sheet.specs.Form.{header, body, entry, half}
 use Rattle.sheet.specs.FirstNo.{Questions}
+
+-- 3. "Is p a prime from 11 to 2^28 − 1?"
+pub record PrimeAllowed (p : ℕ) : Type 0 where
+  pub prime : Prime p
+  pub least : 11 ≤ p
+  pub most : p < 2 ^ 28
 
 module _ (form : Form) (ws : List ℕ) where
   abbrev p : ℕ
@@ -24,10 +30,8 @@ module _ (form : Form) (ws : List ℕ) where
   unfoldable pub Asked2 : Type 0
   Asked2 = map kindOf (take (length (header form)) ws) ≡ header form
 
-  -- 3. "Is p a prime from 11 to 2^28 − 1?"
-  pub record Asked3 : Type 0 where
-    pub prime : Prime p
-    pub least : 11 ≤ p
+  abbrev pub Asked3 : Type 0
+  Asked3 = PrimeAllowed p
 
   -- 4. "Is ℓ odd, from 3 to 255, with 2ℓ − 1 < p?"
   pub record Asked4 : Type 0 where

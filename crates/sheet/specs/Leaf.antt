@@ -6,7 +6,6 @@ use mathlib.Core.List.{List}
 use Prim.Native.Nat.{ℕ, _*_, _-_, _%_, _<_, _≤_}
 use lib.ListN.{length, getD}
 use Rattle.zmod.specs.Zmod.{Zmod, mk}
-use Rattle.zmod.specs.Prime.{Prime}
 use Rattle.isogeny.specs.Curve.{Nonsingular}
 use Rattle.sheet.specs.declared.Form.{Form}
 use Rattle.sheet.specs.declared.Form.the-variants.{Question, Certificate, Kernel}
@@ -17,11 +16,6 @@ use Rattle.sheet.specs.Form.{header, position, holds}
 -- if the header has a word of kind k, the sheet has it there
 unfoldable pub Stands : Form → ℕ → List ℕ → Type 0
 Stands form k ws = holds k (header form) ≡ true → (position k (header form) < length ws) × (kindOf (getD ws (position k (header form)) 0) ≡ k)
-
--- "Is p a prime from 11 to 2^28 − 1?"; a word's value is below 2^28
-pub record PrimeAllowed (p : ℕ) : Type 0 where
-  pub prime : Prime p
-  pub least : 11 ≤ p
 
 -- "Is ℓ odd, from 3 to 255, with 2ℓ − 1 < p?"
 pub record DegreeAllowed (ℓ p : ℕ) : Type 0 where

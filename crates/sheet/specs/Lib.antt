@@ -5,4 +5,3 @@ pub mod FirstNo
 pub mod Asked
 pub mod Reading
 pub mod Leaf
-pub mod Certificate

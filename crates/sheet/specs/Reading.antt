@@ -23,11 +23,6 @@ valuesOf form ws = record {
   sigma = entry form 7 ws;
 }
 
--- the paper's number of an answer: 0 for an accepted sheet
-abbrev pub numberOf : Reading → ℕ
-numberOf (Accepted v) = 0
-numberOf (Refused n) = n
-
 -- the answer that is right for a sheet
 abbrev pub Right : Form → List ℕ → Reading → Type 0
 Right form ws (Accepted v) = AllYes (asked form ws) × (v ≡ valuesOf form ws)

@@ -25,7 +25,7 @@ add-if1 : tie.Need-add-if1
 add-if1 c = omega (arith, end-small (c .before .half-of .result) 0 (c .before .before .before .before .args .form), c .before .half-of .ensures .1, c .place .ensures)
 
 returns : tie.Need-returns
-returns c = says-no (λ a. c .if1 .taken (exact-count (c .before .before .before .before .before .args .form) (c .before .before .before .before .before .args .ws .now) (c .before .before .before .entry-of .ensures .0) (c .before .before .half-of .ensures .0) (c .before .place .ensures) refl refl a))
+returns c = says-no (λ a. omega (arith, c .if1 .taken, exact-count (c .before .before .before .before .before .args .form) (c .before .before .before .before .before .args .ws .now) (c .before .before .before .entry-of .ensures .0) (c .before .before .half-of .ensures .0) (c .before .place .ensures) refl refl a))
 
 mul-if2 : tie.Need-mul-if2
 mul-if2 c = search needs
@@ -34,7 +34,7 @@ shared-slice-read-if2 : tie.Need-shared-slice-read-if2
 shared-slice-read-if2 c = search needs
 
 returns-2 : tie.Need-returns-2
-returns-2 c = says-no (λ a. c .if2 .taken (exact-end (c .before .before .before .before .before .before .before .args .form) (c .before .before .before .before .before .before .before .args .ws .now) (c .before .before .before .before .before .entry-of .ensures .0) (c .before .before .before .before .half-of .ensures .0) (c .before .before .before .place .ensures) refl refl a))
+returns-2 c = says-no (λ a. omega (arith, c .if2 .taken, exact-end (c .before .before .before .before .before .before .before .args .form) (c .before .before .before .before .before .before .before .args .ws .now) (c .before .before .before .before .before .entry-of .ensures .0) (c .before .before .before .before .half-of .ensures .0) (c .before .before .before .place .ensures) refl refl a))
 
 place-requires-2 : tie.Need-place-requires-2
 place-requires-2 c κs = search needs
@@ -55,7 +55,7 @@ section-requires-2 c κs = search needs
 
 returns-4 : tie.Need-returns-4
 returns-4 c = (
-  λ t. exact-all (c .before .before .before .before .before .before .before .before .before .before .before .before .args .form) (c .before .before .before .before .before .before .before .before .before .before .before .before .args .ws .now) (c .before .before .before .before .before .before .before .before .before .before .entry-of .ensures .0) (c .before .before .before .before .before .before .before .before .before .half-of .ensures .0) (c .before .before .before .before .before .before .before .before .place .ensures) (c .before .before .before .before .place2 .ensures) (c .before .before .before .place3 .ensures) (c .before .before .before .before .before .before .before .if1 .left) (c .before .before .before .before .before .if2 .left) (was-yes (c .before .before .section .ensures) (not-false _ (c .before .if3 .left))) (was-yes (c .section2 .ensures) t),
+  λ t. exact-all (c .before .before .before .before .before .before .before .before .before .before .before .before .args .form) (c .before .before .before .before .before .before .before .before .before .before .before .before .args .ws .now) (c .before .before .before .before .before .before .before .before .before .before .entry-of .ensures .0) (c .before .before .before .before .before .before .before .before .before .half-of .ensures .0) (c .before .before .before .before .before .before .before .before .place .ensures) (c .before .before .before .before .place2 .ensures) (c .before .before .before .place3 .ensures) (omega (arith, c .before .before .before .before .before .before .before .if1 .left)) (omega (arith, c .before .before .before .before .before .if2 .left)) (was-yes (c .before .before .section .ensures) (not-false _ (c .before .if3 .left))) (was-yes (c .section2 .ensures) t),
   λ a. c .section2 .ensures .1 (exact-n (c .before .before .before .before .before .before .before .before .before .before .before .before .args .form) (c .before .before .before .before .before .before .before .before .before .before .before .before .args .ws .now) (c .before .before .before .before .before .before .before .before .before .before .entry-of .ensures .0) (c .before .before .before .before .before .before .before .before .before .half-of .ensures .0) (c .before .before .before .before .before .before .before .before .place .ensures) (c .before .before .before .before .place2 .ensures) (c .before .before .before .place3 .ensures) a),
 )
 

@@ -1,0 +1,4 @@
+pub mod Judging
+pub mod Accepted
+pub mod Numerators
+pub mod Fits

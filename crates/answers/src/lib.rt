@@ -1,0 +1,40 @@
+// What the services answer, and room for coefficients of every degree. What a right answer is stands in specs/.
+
+// What check answers.
+pub enum Verdict {
+    Passes,
+    Refused(u32),
+}
+
+// What solve and kernel answer: the count of the words written, or the number.
+pub enum Written {
+    Count(u32),
+    Refused(u32),
+}
+
+// A point of a curve.
+pub enum Point {
+    Affine(u32, u32),
+    Infinity,
+}
+
+// What push answers: a point of the codomain, or the number.
+pub enum Image {
+    Affine(u32, u32),
+    Infinity,
+    Refused(u32),
+}
+
+// What name answers: the j-value, or the number.
+pub enum Named {
+    Value(u32),
+    Refused(u32),
+}
+
+pub fn blank128() -> [u32; 128] {
+    [0; 128]
+}
+
+pub fn blank256() -> [u32; 256] {
+    [0; 256]
+}

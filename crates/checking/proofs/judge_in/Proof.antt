@@ -1,0 +1,72 @@
+-- `checking::judge_in` meets its contract. Assumes nothing.
+use Prim.Native.Nat.{_+_}
+use lib.ListN.{length}
+use borrow.Author.Needs.{needs}
+use native.Mathlib.Omega.{arith}
+use Rattle.checking.proofs.Coefficients.{Fit, fit, length-of}
+use Rattle.checking.proofs.judge_in.Statement.{statement}
+use Rattle.checking.proofs.judge_in.Tie as tie
+
+coefficients-requires : tie.Need-coefficients-requires
+coefficients-requires c κs =
+    let start = c .before .before .before .before .before in
+    let of = start .pre .1 .0 in
+    omega (arith, length-of (start .args .ws .now) (start .args .v) (start .args .d) (of .0) (of .1) (start .pre .1 .1 .0))
+
+add-coefficients : tie.Need-add-coefficients
+add-coefficients c = search needs
+
+coefficients-requires-2 : tie.Need-coefficients-requires-2
+coefficients-requires-2 c κs =
+    let start = c .before .before .before .before .before .before .before .before .before in
+    let of = start .pre .1 .0 in
+    omega (arith, length-of (start .args .ws .now) (start .args .v) (start .args .d) (of .0) (of .1) (start .pre .1 .1 .0))
+
+-- what was read out
+fitted : (c : tie.After-coefficients2)
+    → Fit (c .before .before .before .before .before .before .before .before .before .before .args .ws .now)
+    (c .before .before .before .before .before .before .before .before .before .before .args .v)
+    (c .before .before .before .before .coefficients .last .1 .1 .0) (c .coefficients2 .last .1 .1 .0)
+fitted c =
+    let first = c .before .before .before .before in
+    let start = first .before .before .before .before .before .before in
+    let of = start .pre .1 .0 in
+    fit (start .args .ws .now) (start .args .v) (start .args .d) (of .0) (of .1) (start .pre .1 .1 .0)
+    (first .coefficients .last .1 .1 .0) (c .coefficients2 .last .1 .1 .0)
+    (length (start .args .g .now)) (length (start .args .n .now)) (start .args .d + 8) (omega arith) (omega arith) (omega arith)
+    (first .coefficients .ensures) (c .coefficients2 .ensures)
+
+rules-number-requires : tie.Need-rules-number-requires
+rules-number-requires c κs =
+    let second = c .before .before .before .before .before in
+    let start = second .before .before .before .before .before .before .before .before .before .before in
+    let h = fitted second in
+    (start .pre .0, ((h .g-length, h .n-length, omega arith), (h .g-reduced, h .n-reduced)))
+
+same-length : tie.Need-same-length
+same-length c = search needs
+
+same-length-2 : tie.Need-same-length-2
+same-length-2 c = search needs
+
+same-length-3 : tie.Need-same-length-3
+same-length-3 c = search needs
+
+returns : tie.Need-returns
+returns c =
+    let number = c .before .before in
+    let second = number .before .before .before .before .before .before in
+    fitted second .judged (number .rules-number .result) (number .rules-number .ensures)
+
+pub judge-in-spec : {M : Type 1} → statement M
+judge-in-spec =
+    tie.close
+    (tie.spec
+    coefficients-requires
+    add-coefficients
+    coefficients-requires-2
+    rules-number-requires
+    same-length
+    same-length-2
+    same-length-3
+    returns)

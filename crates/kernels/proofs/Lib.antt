@@ -1,0 +1,2 @@
+pub mod KernelSheet
+pub mod Codomains

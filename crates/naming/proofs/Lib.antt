@@ -1,0 +1,2 @@
+pub mod JValues
+pub mod Names

@@ -1,0 +1,147 @@
+// Question 12, and the image of a point of the domain under the g and N of a certificate.
+use answers::Image;
+use answers::Point;
+use sheet::Form;
+use sheet::Reading;
+use sheet::Values;
+ghost use mathlib.Core.Path.{_≡_};
+ghost use mathlib.Core.Bool.{true};
+ghost use mathlib.Core.Logic.{_↔_};
+ghost use Prim.Native.Nat.{_+_, _*_, _^_, _<_, _≤_};
+ghost use lib.ListN.{length};
+ghost use Rattle.ring.specs.Ring.{cast, pow};
+ghost use Rattle.series.specs.Series.{∂};
+ghost use Rattle.series.specs.Value.{value};
+ghost use Rattle.zmod.specs.Zmod.{Zmod, mk, plus, times, minus};
+ghost use Rattle.zmod.specs.Prime.{Prime};
+ghost use Rattle.zmod.specs.Residues.{Residue, poly};
+ghost use Rattle.rules.specs.Question.{half};
+ghost use Rattle.rules.specs.Ready.{Ready};
+ghost use Rattle.sheet.specs.declared.Form.the-variants.{Certificate};
+ghost use Rattle.sheet.specs.Asked.{asked};
+ghost use Rattle.sheet.specs.FirstNo.{AllYes};
+ghost use Rattle.sheet.specs.Form.{gOf, nOf};
+ghost use Rattle.sheet.specs.Reading.{valuesOf};
+ghost use Rattle.answers.specs.Asked.{check-asks};
+ghost use Rattle.answers.specs.Answer.{PushRight};
+ghost use Rattle.pushing.specs.Pushed.{Within, Pushed};
+
+// x³ + a x + b
+fn cubic(a: u32, b: u32, x: u32, p: u32) -> u32
+    requires { ⌜ (a < p) × (b < p) × (p ≤ 2 ^ 28) ⌝ }
+    ensures { λ r. ⌜ Residue p (plus p (plus p (pow (Zmod p) (mk p x) 3) (times p (mk p a) (mk p x))) (mk p b)) r ⌝ }
+{
+    let square = field::multiply(x, x, p);
+    let slope = field::add(square, a, p);
+    field::add(field::multiply(slope, x, p), b, p)
+}
+
+// Question 12 of an affine point.
+fn within(v: Values, x: u32, y: u32) -> bool
+    requires { ⌜ Ready v ⌝ }
+    ensures { λ r. ⌜ (r ≡ true) ↔ Within v x y ⌝ }
+{
+    let p = v.p;
+    if p <= x {
+        return false;
+    }
+    if p <= y {
+        return false;
+    }
+    field::multiply(y, y, p) == cubic(v.a, v.b, x, p)
+}
+
+// N′(x) g(x) - 2 N(x) g′(x), from the values of g and N at x.
+fn slope(g: &[u32], n: &[u32], gx: u32, nx: u32, x: u32, p: u32) -> u32
+    requires { ⌜ (0 < p) × (p ≤ 2 ^ 28) × (length (now g) ≤ 2 ^ 32) × (length (now n) ≤ 2 ^ 32) ⌝ }
+    ensures { λ r. ⌜ Residue p (plus p (times p (value (Zmod p) (length (now (n .entry))) (∂ (Zmod p) (poly p (now (n .entry)))) (mk p x)) (mk p gx)) (minus p (times p (times p (cast (Zmod p) 2) (mk p nx)) (value (Zmod p) (length (now (g .entry))) (∂ (Zmod p) (poly p (now (g .entry)))) (mk p x))))) r ⌝ }
+{
+    let left = field::multiply(poly::evaluate_derivative(n, x, p), gx, p);
+    let twice = field::multiply(2, nx, p);
+    let right = field::multiply(twice, poly::evaluate_derivative(g, x, p), p);
+    field::subtract(left, right, p)
+}
+
+// Where the point (x, y) goes: one inverse serves for both quotients.
+fn image(v: Values, g: &[u32], n: &[u32], x: u32, y: u32) -> Image
+    requires { ⌜ (Ready v) × Prime (v .p) ⌝ }
+    requires { ⌜ (length (now g) ≡ half v + 1) × (length (now n) ≡ 2 * half v + 2) ⌝ }
+    ensures { λ r. ⌜ Pushed v (now (g .entry)) (now (n .entry)) x y r ⌝ }
+{
+    let p = v.p;
+    let gx = poly::evaluate(g, x, p);
+    if gx == 0 {
+        return Image::Infinity;
+    }
+    let nx = poly::evaluate(n, x, p);
+    let w = slope(g, n, gx, nx, x, p);
+    let i = field::inverse(gx, p);
+    let square = field::multiply(i, i, p);
+    let cube = field::multiply(square, i, p);
+    let u = field::multiply(nx, square, p);
+    let t = field::multiply(w, cube, p);
+    Image::Affine(u, field::multiply(y, t, p))
+}
+
+// The same with the coefficients read from the sheet.
+fn image_in(v: Values, ws: &[u32], d: usize, g: &mut [u32], n: &mut [u32], x: u32, y: u32) -> Image
+    requires { ⌜ (Ready v) × Prime (v .p) ⌝ }
+    requires { ⌜ (v ≡ valuesOf Certificate (now ws)) × (d ≡ half v) ⌝ }
+    requires { ⌜ AllYes (asked Certificate (now ws)) ⌝ }
+    requires { ⌜ (length (now g) ≡ d + 1) × (length (now n) ≡ 2 * d + 2) ⌝ }
+    ensures { λ r. ⌜ Pushed (valuesOf Certificate (now (ws .entry))) (gOf Certificate (now (ws .entry))) (nOf Certificate (now (ws .entry))) x y r ⌝ }
+{
+    sheet::coefficients(ws, 7, g);
+    sheet::coefficients(ws, d + 8, n);
+    image(v, g, n, x, y)
+}
+
+fn image_of(v: Values, ws: &[u32], x: u32, y: u32) -> Image
+    requires { ⌜ (Ready v) × Prime (v .p) ⌝ }
+    requires { ⌜ v ≡ valuesOf Certificate (now ws) ⌝ }
+    requires { ⌜ AllYes (asked Certificate (now ws)) ⌝ }
+    ensures { λ r. ⌜ Pushed (valuesOf Certificate (now (ws .entry))) (gOf Certificate (now (ws .entry))) (nOf Certificate (now (ws .entry))) x y r ⌝ }
+{
+    let l = v.degree as usize;
+    let d = (l - 1) / 2;
+    let mut g = answers::blank128();
+    let mut n = answers::blank256();
+    image_in(v, ws, d, &mut g[..d + 1], &mut n[..2 * d + 2], x, y)
+}
+
+// Question 12 and the image, for a certificate that passes.
+fn push_passed(v: Values, ws: &[u32], point: Point) -> Image
+    requires { ⌜ (Ready v) × Prime (v .p) ⌝ }
+    requires { ⌜ v ≡ valuesOf Certificate (now ws) ⌝ }
+    requires { ⌜ AllYes (asked Certificate (now ws)) ⌝ }
+    requires { ⌜ AllYes (check-asks (now ws)) ⌝ }
+    ensures { λ r. ⌜ PushRight (now (ws .entry)) point r ⌝ }
+{
+    match point {
+        Point::Infinity => Image::Infinity,
+        Point::Affine(x, y) => {
+            if within(v, x, y) {
+                image_of(v, ws, x, y)
+            } else {
+                Image::Refused(12)
+            }
+        }
+    }
+}
+
+pub fn push(ws: &[u32], point: Point) -> Image
+    ensures { λ r. ⌜ PushRight (now (ws .entry)) point r ⌝ }
+{
+    let read = sheet::read(Form::Certificate, ws);
+    match read {
+        Reading::Refused(k) => Image::Refused(k),
+        Reading::Accepted(v) => {
+            let number = checking::judge(v, ws);
+            if number == 0 {
+                push_passed(v, ws, point)
+            } else {
+                Image::Refused(number)
+            }
+        }
+    }
+}
