@@ -9,6 +9,7 @@ ghost use mathlib.Core.Logic.{_↔_};
 ghost use Prim.Native.Nat.{_+_, _*_};
 ghost use lib.ListN.{length};
 ghost use Rattle.zmod.specs.Zmod.{Zmod};
+ghost use Rattle.zmod.specs.Prime.{Prime};
 ghost use Rattle.zmod.specs.Residues.{Reduced, poly};
 ghost use Rattle.isogeny.specs.Rules.{N};
 ghost use Rattle.rules.specs.Question.{question, half};
@@ -34,7 +35,7 @@ fn same_numerator_in(v: Values, g: &[u32], n: &[u32], room: &mut [u32]) -> bool
 
 // The number of the first of questions 8 to 10 that g and N do not pass, or 0.
 fn rules_number(v: Values, g: &[u32], n: &[u32], room: &mut [u32]) -> u32
-    requires { ⌜ Ready v ⌝ }
+    requires { ⌜ (Ready v) × Prime (v .p) ⌝ }
     requires { ⌜ (length (now g) ≡ half v + 1) × (length (now n) ≡ 2 * half v + 2) × (length (now room) ≡ 2 * half v + 2) ⌝ }
     requires { ⌜ (Reduced (v .p) (now g)) × (Reduced (v .p) (now n)) ⌝ }
     ensures { λ r. ⌜ Judged (rules-ask v (now (g .entry)) (now (n .entry))) r ⌝ }
@@ -45,7 +46,7 @@ fn rules_number(v: Values, g: &[u32], n: &[u32], room: &mut [u32]) -> u32
     if !same_numerator_in(v, g, n, room) {
         return 9;
     }
-    if !rules::rule_three(v, g, n) {
+    if !equation::rule_three(v, g, n) {
         return 10;
     }
     0

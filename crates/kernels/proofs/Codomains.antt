@@ -33,13 +33,10 @@ use Rattle.answers.specs.declared.Written.the-variants.{Count, Refused}
 use Rattle.answers.specs.Asked.{enough, Leading, Passing, Codomain, kernel-asks}
 use Rattle.answers.specs.Answer.{KernelRight}
 use Rattle.kernels.specs.Kernels.{with, Completed, Done, Finished}
+use Rattle.expansion.proofs.Causal.{expansion-same}
 use Rattle.answers.proofs.Numerators.{whole-numerator-of}
 
 -- ── the values, from four power sums and h₁ and h₂
-
-from-sums-same : (R : CRing) (A B : R .Car) (s t : Seq R) (i : ℕ) → s (i + 1) ≡ t (i + 1) → s (i - 1) ≡ t (i - 1) → s (i - 2) ≡ t (i - 2)
-    → from-sums R A B s i ≡ from-sums R A B t i
-from-sums-same R A B s t i e₁ e₂ e₃ = ap₂ (R .add) (ap₂ (R .add) (ap (R .mul _) e₁) (ap (R .mul _) e₂)) (ap (R .mul _) e₃)
 
 module _ (v : Values) (g s h : List ℕ) (g-length : length g ≡ half v + 1) (least : 1 ≤ half v) (s-length : length s ≡ 4) (h-length : length h ≡ 3)
     (sums : Residues (v .p) (power-sums (Zmod (v .p)) (half v) (poly (v .p) g)) s)
@@ -56,12 +53,12 @@ module _ (v : Values) (g s h : List ℕ) (g-length : length g ≡ half v + 1) (l
   first : mk p (getD h 1 0) ≡ from-sums (Zmod p) (mk p (v .a)) (mk p (v .b)) ps 1
   first =
       sym (poly-at p h 1) ∙ expanded .coefficients 1 (omega arith)
-      ∙ from-sums-same (Zmod p) (mk p (v .a)) (mk p (v .b)) (poly p s) ps 1 (sum-at 2 (omega arith)) (sum-at 0 (omega arith)) (sum-at 0 (omega arith))
+      ∙ expansion-same (Zmod p) (mk p (v .a)) (mk p (v .b)) 1 (poly p s) ps (λ i l. sum-at i (omega arith))
 
   second : mk p (getD h 2 0) ≡ from-sums (Zmod p) (mk p (v .a)) (mk p (v .b)) ps 2
   second =
       sym (poly-at p h 2) ∙ expanded .coefficients 2 (omega arith)
-      ∙ from-sums-same (Zmod p) (mk p (v .a)) (mk p (v .b)) (poly p s) ps 2 (sum-at 3 (omega arith)) (sum-at 1 (omega arith)) (sum-at 0 (omega arith))
+      ∙ expansion-same (Zmod p) (mk p (v .a)) (mk p (v .b)) 2 (poly p s) ps (λ i l. sum-at i (omega arith))
 
   pub completes : {ã b̃ t σ : ℕ} → Residue p (plus p (mk p (v .a)) (minus p (times p (mk p 5) (mk p (getD h 1 0))))) ã
       → Residue p (plus p (mk p (v .b)) (minus p (times p (mk p 7) (mk p (getD h 2 0))))) b̃

@@ -12,7 +12,7 @@ ghost use Rattle.zmod.specs.Zmod.{Zmod, mk, plus, times, minus};
 ghost use Rattle.zmod.specs.Prime.{Prime};
 ghost use Rattle.zmod.specs.Residues.{Residue, Reduced, Residues, poly};
 ghost use Rattle.isogeny.specs.Curve.{Nonsingular};
-ghost use Rattle.isogeny.specs.Rules.{N, R3};
+ghost use Rattle.isogeny.specs.Rules.{N, R1, R3};
 ghost use Rattle.rules.specs.Question.{question, half};
 ghost use Rattle.rules.specs.Ready.{Ready};
 ghost use Rattle.sheet.specs.declared.Form.the-variants.{Kernel};
@@ -66,7 +66,7 @@ fn completed(v: Values, g: &[u32]) -> Values
 
 // Whether the codomain of v is a curve, and meets R3 with g and R2's n.
 fn passes(v: Values, g: &[u32], n: &[u32]) -> bool
-    requires { ⌜ (Ready v) × (length (now g) ≡ half v + 1) × (Reduced (v .p) (now g)) ⌝ }
+    requires { ⌜ (Ready v) × (length (now g) ≡ half v + 1) × (Reduced (v .p) (now g)) × Prime (v .p) × R1 (Zmod (v .p)) (question v) (poly (v .p) (now g)) ⌝ }
     requires { ⌜ length (now n) ≡ 2 * half v + 2 ⌝ }
     requires { ⌜ Residues (v .p) (N (Zmod (v .p)) (question v) (poly (v .p) (now g))) (now n) ⌝ }
     ensures { λ r. ⌜ (r ≡ true) ↔ (Nonsingular (Zmod (v .p)) (question v .Ã) (question v .B̃) × R3 (Zmod (v .p)) (question v) (poly (v .p) (now (g .entry))) (N (Zmod (v .p)) (question v) (poly (v .p) (now (g .entry))))) ⌝ }
@@ -74,7 +74,7 @@ fn passes(v: Values, g: &[u32], n: &[u32]) -> bool
     if !sheet::nonsingular(v.atilde, v.btilde, v.p) {
         return false;
     }
-    rules::rule_three(v, g, n)
+    equation::rule_three(v, g, n)
 }
 
 // Questions 8 and 11, and the certificate.

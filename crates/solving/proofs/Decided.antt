@@ -12,7 +12,7 @@ use Rattle.sheet.specs.declared.Values.{Values}
 use Rattle.rules.specs.Question.{question, half}
 use Rattle.rules.specs.Ready.{Ready}
 use Rattle.answers.proofs.Numerators.{whole-numerator}
-use Rattle.expansion.specs.Candidate.{Candidate}
+use Rattle.solution.specs.Candidate.{Candidate}
 
 module _ (v : Values) (ready : Ready v) (g n : List ℕ) (n-length : length n ≡ 2 * half v + 2)
     (n-is : Residues (v .p) (N (Zmod (v .p)) (question v) (poly (v .p) g)) n) (only : Candidate v g) where

@@ -18,9 +18,9 @@ fn solve_in(v: Values, g: &mut [u32], n: &mut [u32], answer: &mut [u32]) -> Writ
     requires { ⌜ (length (now g) ≡ half v + 1) × (length (now n) ≡ 2 * half v + 2) × (392 ≤ length (now answer)) ⌝ }
     ensures { λ r. ⌜ Solved v (now (answer .entry)) (now (answer .exit)) r ⌝ }
 {
-    expansion::candidate(v, g);
+    solution::candidate(v, g);
     rules::numerator(v, g, n);
-    if !rules::rule_three(v, g, n) {
+    if !equation::rule_three(v, g, n) {
         return Written::Refused(11);
     }
     let words = certificate::write(v, g, n, answer);

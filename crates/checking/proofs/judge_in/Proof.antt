@@ -1,8 +1,10 @@
 -- `checking::judge_in` meets its contract. Assumes nothing.
+use mathlib.Core.Path.{sym, subst}
 use Prim.Native.Nat.{_+_}
 use lib.ListN.{length}
 use borrow.Author.Needs.{needs}
 use native.Mathlib.Omega.{arith}
+use Rattle.zmod.specs.Prime.{Prime}
 use Rattle.checking.proofs.Coefficients.{Fit, fit, length-of}
 use Rattle.checking.proofs.judge_in.Statement.{statement}
 use Rattle.checking.proofs.judge_in.Tie as tie
@@ -41,7 +43,8 @@ rules-number-requires c κs =
     let second = c .before .before .before .before .before in
     let start = second .before .before .before .before .before .before .before .before .before .before in
     let h = fitted second in
-    (start .pre .0, ((h .g-length, h .n-length, omega arith), (h .g-reduced, h .n-reduced)))
+    let prime : Prime (start .args .v .p) = subst (λ v. Prime (v .p)) (sym (start .pre .1 .0 .0)) (start .pre .1 .1 .0 .1 .0 .prime) in
+    ((start .pre .0, prime), ((h .g-length, h .n-length, omega arith), (h .g-reduced, h .n-reduced)))
 
 same-length : tie.Need-same-length
 same-length c = search needs

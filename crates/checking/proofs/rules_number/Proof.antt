@@ -26,7 +26,11 @@ returns-2 c =
     inr (eqb-false 9 0 refl, inr (shown (one .before .rule-one .ensures) (one .if1 .left), inl (refl, refuted (numerator .same-numerator-in .ensures) (c .if2 .taken))))
 
 rule-three-requires : tie.Need-rule-three-requires
-rule-three-requires c κs = search needs
+rule-three-requires c κs =
+    let numerator = c .before .before .before in
+    let one = numerator .before .before in
+    let start = one .before .before .before .before .before in
+    (start .pre .0, ((start .pre .1 .0 .0, start .pre .1 .1 .0, shown (one .before .rule-one .ensures) (one .if1 .left)), (start .pre .1 .0 .1, start .pre .1 .1 .1, shown (numerator .same-numerator-in .ensures) (c .if2 .left))))
 
 same-length-2 : tie.Need-same-length-2
 same-length-2 c = search needs

@@ -12,7 +12,7 @@ expansion-requires : tie.Need-expansion-requires
 expansion-requires c κs =
     let sums = c .before .before .before .before in
     let start = sums .before .before .before .before .before in
-    (start .pre .0 .0, (omega arith, omega arith, sums .power-sums .ensures .reduced))
+    (start .pre .0 .0, (omega arith, omega arith, omega arith, sums .power-sums .ensures .reduced))
 
 sub-second : tie.Need-sub-second
 sub-second c = search needs

@@ -54,7 +54,7 @@ passes-requires c κs =
     let completed = numerator .before .before in
     let start = completed .before .before .before .before .before .before in
     let f = known completed in
-    ((f .ready, start .pre .1 .0 .0 ∙ ap (λ k. k + 1) (sym (f .same-half)), f .reduced), (omega (arith, f .same-half), numerator .numerator .ensures))
+    ((f .ready, start .pre .1 .0 .0 ∙ ap (λ k. k + 1) (sym (f .same-half)), f .reduced, f .prime, f .r1), (omega (arith, f .same-half), numerator .numerator .ensures))
 
 same-length : tie.Need-same-length
 same-length c = search needs

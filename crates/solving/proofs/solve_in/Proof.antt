@@ -1,5 +1,9 @@
 -- `solving::solve_in` meets its contract. Assumes nothing.
-use mathlib.Core.Path.{refl}
+use mathlib.Core.Path.{_≡_, refl}
+use Prim.Native.Nat.{_+_, _*_}
+use lib.ListN.{length}
+use Rattle.rules.specs.Question.{half}
+use Rattle.answers.proofs.Numerators.{whole-numerator}
 use borrow.Author.Needs.{needs}
 use native.Mathlib.Omega.{arith}
 use Rattle.answers.proofs.Fits.{values-fit}
@@ -25,7 +29,13 @@ rule-three-requires c κs =
     let numerator = c .before .before .before .before in
     let candidate = numerator .before .before .before .before .before in
     let start = candidate .before .before .before .before .before in
-    ((start .pre .0 .0, omega arith, candidate .candidate .ensures .reduced), (omega arith, numerator .numerator .ensures .reduced))
+    let g = candidate .candidate .last .1 .0 in
+    let n = numerator .numerator .last .1 .1 .0 in
+    let long : length n ≡ 2 * half (start .args .v) + 2 = omega arith in (
+      (start .pre .0 .0, start .pre .0 .2),
+      ((omega arith, candidate .candidate .ensures .reduced, candidate .candidate .ensures .r1),
+      (long, numerator .numerator .ensures .reduced, whole-numerator (start .args .v) (start .pre .0 .0) g n long (numerator .numerator .ensures) (candidate .candidate .ensures .r1 .degree))),
+    )
 
 same-length : tie.Need-same-length
 same-length c = search needs
