@@ -1,13 +1,11 @@
 -- The values and coefficients of a question are values of words.
 -- Assumes nothing.
 use mathlib.Core.List.{List}
-use Prim.Native.Nat.{ℕ, _≤_}
+use Prim.Native.Nat.{ℕ, _≤_, _^_, _<_}
 use native.Mathlib.Omega.{arith}
 use Rattle.zmod.specs.Residues.{Reduced}
 use Rattle.sheet.specs.declared.Values.{Values}
 use Rattle.rules.specs.Ready.{Ready}
-use Prim.Native.Nat.{ℕ, _^_, _≤_, _<_}
-use Rattle.zmod.specs.Residues.{Reduced}
 use Rattle.certificate.specs.Certificate.{ValuesFit}
 
 pub values-fit : (v : Values) → Ready v → v .p < 2 ^ 28 → ValuesFit v

@@ -1,4 +1,4 @@
-// What the services answer, and room for coefficients of every degree. What a right answer is stands in specs/.
+// What the services answer, and room for coefficients of every degree. specs/ says which answer is right.
 
 // What check answers.
 pub enum Verdict {
@@ -31,10 +31,12 @@ pub enum Named {
     Refused(u32),
 }
 
+// Room for the coefficients of g, of which there are 128 at most.
 pub fn blank128() -> [u32; 128] {
     [0; 128]
 }
 
+// Room for the coefficients of N, of which there are 256 at most.
 pub fn blank256() -> [u32; 256] {
     [0; 256]
 }

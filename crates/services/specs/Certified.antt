@@ -12,10 +12,9 @@ use Rattle.isogeny.specs.Rules.{N, R3}
 use Rattle.sheet.specs.declared.Form.the-variants.{Certificate}
 use Rattle.sheet.specs.declared.Values.{Values}
 use Rattle.sheet.specs.Form.{gOf, nOf}
-use Rattle.sheet.specs.Asked.{asked}
+use Rattle.sheet.specs.Asked.{asked, PrimeAllowed}
 use Rattle.certificate.specs.Certificate.{certificate, ValuesFit}
 use Rattle.sheet.specs.FirstNo.{AllYes, all-all}
-use Rattle.sheet.specs.Asked.{PrimeAllowed}
 use Rattle.sheet.specs.Leaf.{DegreeAllowed, ValuesBelow, Curves}
 use Rattle.certificate.proofs.RoundTrip.{values-back, g-back, n-back, count-back, all-back}
 use Rattle.rules.specs.Question.{question}

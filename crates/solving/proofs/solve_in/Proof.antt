@@ -6,10 +6,9 @@ use Rattle.rules.specs.Question.{half}
 use Rattle.answers.proofs.Numerators.{whole-numerator}
 use borrow.Author.Needs.{needs}
 use native.Mathlib.Omega.{arith}
-use Rattle.answers.proofs.Fits.{values-fit}
+use Rattle.answers.proofs.Fits.{values-fit, reduced-words}
 use Rattle.answers.proofs.Judging.{refuted, shown}
 use Rattle.solving.proofs.Decided.{found, unmet}
-use Rattle.answers.proofs.Fits.{reduced-words}
 use Rattle.solving.proofs.solve_in.Statement.{statement}
 use Rattle.solving.proofs.solve_in.Tie as tie
 
