@@ -9,7 +9,7 @@
 #   make uninstall           remove all of them
 #   make check-package       test the package, in a temporary directory
 #
-# Variables: PREFIX (absolute, without blanks), DESTDIR (put in front of every path, for packagers), LIBDIR, BINDIR, INCLUDEDIR, DOCDIR; LIBRARY, a built
+# Variables: PREFIX (absolute, no blanks), DESTDIR (put in front of every path, for packagers), LIBDIR, BINDIR, INCLUDEDIR, DOCDIR; LIBRARY, a built
 # libsagepliers.a, and BIN, a directory of built programs, which are then taken as they are; RT, the command rt; VERSION.
 
 VERSION = 0.1.0
@@ -55,11 +55,11 @@ rebuild:
 
 install: install-library install-programs install-tools
 
-# The pkg-config file holds the paths as they are, so they must be absolute, and pkg-config splits at blanks.
+# The pkg-config file holds the paths as they are, so they must be absolute and without what pkg-config or the filling in would read as something else.
 paths:
 	@for path in "$(PREFIX)" "$(LIBDIR)" "$(INCLUDEDIR)" "$(BINDIR)" "$(DOCDIR)"; do \
 		case "$$path" in \
-		*[[:space:]]*) echo "make: '$$path' has a blank in it" >&2; exit 1;; \
+		*[[:space:]\|\&\\\"\'\$$\#]*) echo "make: the path '$$path' has a blank or one of | & \\ \" ' # in it" >&2; exit 1;; \
 		/*) ;; \
 		*) echo "make: '$$path' is no absolute path" >&2; exit 1;; \
 		esac; \

@@ -59,17 +59,17 @@ sheet() {
 
 # ---- the library itself
 
-step "the library has the five entries, no state, and no call but memcpy and memset"
+step "the library has the five entries, no state, and calls nothing but functions on memory"
 nm -g --defined-only "$lib/libsagepliers.a" | awk '$2 == "T" { print $3 }' | sort >"$work/entries"
 printf 'sagepliers_%s\n' check kernel name push solve >"$work/wanted"
 cmp "$work/entries" "$work/wanted" || fail "the entries are not the five of the header"
 nm -u "$lib/libsagepliers.a" | awk '$1 == "U" { print $2 }' | sort -u >"$work/uses"
-for used in $(cat "$work/uses"); do
+while read -r used; do
     case $used in
     memcpy | memset | memmove | memcmp | bcmp) ;;
     *) fail "the library uses $used" ;;
     esac
-done
+done <"$work/uses"
 # Writable memory of any size would be state. A section is a line "[n] name type address offset size entry flags ..".
 readelf -SW "$lib/libsagepliers.a" | sed -n 's/^ *\[ *[0-9]*\] //p' >"$work/sections"
 grep -q sagepliers_check "$work/sections" || fail "readelf shows no sections"
@@ -101,10 +101,45 @@ if make RT=false LIBRARY="$work/none.a" PREFIX="$work/no" install-library >"$wor
 grep -q "there is no $work/none.a" "$work/log" || { cat "$work/log"; fail "no plain word about the missing LIBRARY"; }
 if make RT=false BIN="$work" PREFIX="$work/no" install-programs >"$work/log" 2>&1; then fail "programs that are not there were installed"; fi
 grep -q "there is no $work/answer" "$work/log" || { cat "$work/log"; fail "no plain word about the missing programs"; }
-for prefix in relative/path "$work/with blank"; do
+for prefix in relative/path "$work/with blank" "$work/a&b" "$work/a|b"; do
     if install install-library PREFIX="$prefix" >"$work/log" 2>&1; then fail "PREFIX=$prefix was taken"; fi
+    grep -q "^make: .*$(basename "$prefix")" "$work/log" || { cat "$work/log"; fail "no plain word about PREFIX=$prefix"; }
 done
-[ ! -e "$work/no" ] && [ ! -e relative ] || fail "a refused install left something"
+for left in "$work/no" relative; do
+    [ ! -e "$left" ] || fail "a refused install left $left"
+done
+
+step "make builds with rt what is missing, and only that"
+# A copy without target/, and in place of rt a script that notes its words and makes empty files where rt would build.
+mkdir "$work/copy"
+cp -R Makefile sagepliers.pc.in include tools docs examples "$work/copy"
+cat >"$work/copy/rt" <<'SH'
+#!/bin/sh
+echo "$*" >>calls
+case $* in
+"staticlib sagepliers") mkdir -p target/staticlib && : >target/staticlib/libsagepliers.a ;;
+"check answer kernel verify push") mkdir -p target/bin && for name in answer kernel verify push; do : >target/bin/$name; done ;;
+*) exit 1 ;;
+esac
+SH
+chmod +x "$work/copy/rt"
+(
+    cd "$work/copy"
+    make RT=false PREFIX="$work/no" install >log 2>&1 && fail "make installs though rt failed"
+    [ ! -e "$work/no/lib" ] || fail "make installed though rt failed"
+    make RT=./rt >log 2>&1 || { cat log; fail "make"; }
+    printf '%s\n' 'staticlib sagepliers' 'check answer kernel verify push' >wanted
+    diff wanted calls || fail "make called rt with other words"
+    make RT=./rt all >log 2>&1 || { cat log; fail "make, once more"; }
+    diff wanted calls || fail "make built again what is built"
+    rm target/bin/verify
+    make RT=./rt >log 2>&1 || { cat log; fail "make, with a program missing"; }
+    echo 'check answer kernel verify push' >>wanted
+    diff wanted calls || fail "make did not build the missing program"
+    make RT=./rt rebuild >log 2>&1 || { cat log; fail "make rebuild"; }
+    printf '%s\n' 'staticlib sagepliers' 'check answer kernel verify push' >>wanted
+    diff wanted calls || fail "make rebuild did not ask rt"
+) || exit 1
 
 step "install for the hosts"
 prefix=$work/prefix
@@ -166,7 +201,22 @@ runs() {
     done
 }
 
-# refused NUMBER WORDS..: the certificate is refused with the number, and the words "refused with NUMBER:" come with a meaning.
+# What the question with a number is about, in a word of document 01.
+about() {
+    case $1 in
+    2) echo 'each of its kind' ;;
+    3) echo 'prime from 11 to 2^28 - 1' ;;
+    4) echo 'odd, from 3 to 255' ;;
+    5) echo 'below p' ;;
+    6) echo 'exactly those of a certificate' ;;
+    7) echo 'singular' ;;
+    8) echo 'R1' ;;
+    9) echo 'R2' ;;
+    10) echo 'R3' ;;
+    esac
+}
+
+# refused NUMBER WORDS..: the certificate is refused with the number, and the line says what the question is about.
 refused() {
     number=$1
     shift
@@ -179,7 +229,7 @@ refused_file() {
         got=0
         "./host_$build" "$2" 1008 1 >out 2>err || got=$?
         [ "$got" -eq 1 ] || { cat out err; fail "host_$build on a sheet that gets $1 ended with $got"; }
-        grep -q "^the certificate is refused with $1: [a-zA-Z]" out || { cat out; fail "host_$build: not refused with $1"; }
+        grep -q "^the certificate is refused with $1: .*$(about "$1")" out || { cat out; fail "host_$build: not refused with $1"; }
         [ "$(wc -l <out)" -eq 1 ] || { cat out; fail "host_$build pushed a point through a refused certificate"; }
     done
 }
@@ -245,7 +295,8 @@ fi
 if [ -c /dev/full ]; then
     got=0
     ./host_plain first.bin 1008 1 >/dev/full 2>err || got=$?
-    [ "$got" -eq 2 ] && grep -q 'cannot write' err || fail "host does not see that its answer cannot be written"
+    [ "$got" -eq 2 ] || fail "host does not see that its answer cannot be written"
+    grep -q 'cannot write' err || { cat err; fail "host does not say that its answer cannot be written"; }
 else
     echo "package: there is no /dev/full: the full disk is left out"
 fi
