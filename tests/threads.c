@@ -73,6 +73,15 @@ static const struct row rows[] = {
 
 enum { ROWS = sizeof rows / sizeof rows[0] };
 
+/* A long one, called once by each thread for the sake of the stack: multiplication by 15 on y^2 = x^3 + x + 3 over 268435399 has degree 225, codomain
+ * (15^4, 3 * 15^6) once it is normalized, and sigma 0, as the division polynomial has no second term; so there is an answer, of 3 * 112 + 11 words. */
+enum { P = 268435399, M4 = 15 * 15 * 15 * 15 };
+static const struct row large = {
+    "solve degree 225", SOLVE,
+    {0x10000000 + P, 0x20000001, 0x30000003, 0x40000000 + M4, 0x50000000 + (uint32_t)(UINT64_C(3) * 225 * M4 % P), 0x60000000 + 225, 0x70000000, 0xf0000000},
+    8, SAGEPLIERS_ROOM, 0, 347, {0x80000000, 0x80000001}, 118, 2,
+};
+
 /* The buffers of one caller, and what its last call gave. The guard words lie behind the room that the entry is told of. */
 struct buffers {
     uint32_t sheet[MOST_WORDS];
@@ -122,7 +131,7 @@ static int same(const struct row *row, const struct buffers *one, const struct b
     return memcmp(one->answer, other->answer, (size_t)one->result * sizeof(uint32_t)) == 0;
 }
 
-static struct buffers before[ROWS];
+static struct buffers before[ROWS], before_large;
 static pthread_barrier_t together;
 static long rounds = 10000;
 
@@ -134,21 +143,30 @@ struct thread {
     const struct row *differs;
 };
 
+/* Makes one call of a thread, and returns whether it gave what it should. */
+static int agrees(struct thread *thread, const struct row *row, int shared, const struct buffers *earlier)
+{
+    uint32_t pattern = 0xa5a50000u + (uint32_t)thread->number;
+    call(row, shared, &thread->own, pattern);
+    thread->calls++;
+    if (as_printed(row, &thread->own, pattern) && same(row, &thread->own, earlier))
+        return 1;
+    thread->differs = row;
+    return 0;
+}
+
 /* The second thread takes the rows backwards, so that different entries run beside each other. */
 static void *run(void *given)
 {
     struct thread *thread = given;
     pthread_barrier_wait(&together);
+    if (!agrees(thread, &large, 0, &before_large))
+        return NULL;
     for (long round = 0; round < rounds; round++) {
         for (size_t i = 0; i < ROWS; i++) {
             size_t k = thread->number == 0 ? i : ROWS - 1 - i;
-            uint32_t pattern = 0xa5a50000u + (uint32_t)thread->number;
-            call(&rows[k], round % 2 == 1, &thread->own, pattern);
-            thread->calls++;
-            if (!as_printed(&rows[k], &thread->own, pattern) || !same(&rows[k], &thread->own, &before[k])) {
-                thread->differs = &rows[k];
+            if (!agrees(thread, &rows[k], round % 2 == 1, &before[k]))
                 return NULL;
-            }
         }
     }
     return NULL;
@@ -179,6 +197,11 @@ int main(int argc, char **argv)
             failed = 1;
         }
     }
+    call(&large, 0, &before_large, 0x5a5a5a5au);
+    if (!as_printed(&large, &before_large, 0x5a5a5a5au)) {
+        printf("one thread: %s: not the multiplication by 15\n", large.name);
+        failed = 1;
+    }
     if (failed)
         return 1;
 
@@ -204,10 +227,10 @@ int main(int argc, char **argv)
     }
     if (failed)
         return 1;
-    if (calls != (unsigned long)rounds * ROWS * THREADS) {
+    if (calls != ((unsigned long)rounds * ROWS + 1) * THREADS) {
         printf("%lu calls were made\n", calls);
         return 1;
     }
-    printf("%d threads, %d rows, %lu calls: all as printed and as in one thread\n", THREADS, (int)ROWS, calls);
+    printf("%d threads, %d rows and one of degree 225, %lu calls: all as expected and as in one thread\n", THREADS, (int)ROWS, calls);
     return 0;
 }
