@@ -20,13 +20,19 @@
  *   12  the point is one of the domain (push)
  * No input is undefined behaviour as long as the pointers are as said below: every sequence of bytes or words gets its answer.
  *
- * Pointers. A pointer with its count names that many elements in memory that is valid for the whole call: to read, and for `answer` also to write.
- * It is aligned for its type (4 bytes for uint32_t) and not NULL, also where the count is 0, and the elements take at most PTRDIFF_MAX bytes.
- * `answer` overlaps no other argument. During the call nobody else writes to the arguments, and nobody else reads `answer`. Nothing is kept: the
- * memory belongs to the caller again as soon as the call returns.
+ * Lifetimes. A pointer with its count names that many elements in memory that is valid for the whole call: to read, and for `answer` also to write.
+ * A pointer is not NULL, also where the count is 0, and the elements take at most PTRDIFF_MAX bytes. Nothing is kept and nothing is allocated: the memory
+ * belongs to the caller again as soon as the call returns, and there is nothing to free. What `answer` holds before the call makes no difference to what
+ * is written.
  *
- * Threads. The entries have no state, allocate nothing and do no input or output; calls in several threads at once do not disturb each other. Each
- * uses a bounded amount of stack and ends on every input.
+ * Alignment. A pointer is aligned for its type: 4 bytes for uint32_t. Bytes may start anywhere, so a file that was read or mapped can be handed on
+ * as it is; bytes are not to be cast to uint32_t, for the sake of alignment and of the order of bytes.
+ *
+ * Aliasing. `answer` and the sheet must not overlap, not even in part and not even where the sheet will be refused: solving in place is not possible.
+ * During the call nobody else writes to the arguments, and nobody else reads `answer`.
+ *
+ * Threads. The entries have no state and do no input or output. Calls in parallel on distinct buffers are safe, with no lock and no initialization;
+ * calls may share a sheet, which they only read, but each needs an answer of its own. Each call ends on every input, and 64 KiB of stack are enough for it.
  */
 #ifndef SAGEPLIERS_H
 #define SAGEPLIERS_H

@@ -1,0 +1,407 @@
+#!/bin/sh
+# Tests the C package: installs it into a temporary directory, builds hosts against what was installed, and runs them on the rows of document 01.
+#
+#     SAGEPLIERS_LIB_DIR=directory/of/libsagepliers.a [SAGEPLIERS_BIN_DIR=directory/of/programs] tests/package.sh
+#
+# Any step that fails ends the script with status 1 and says which. Needs a C and a C++ compiler (CC, CXX), make, nm and readelf; pkg-config
+# (PKG_CONFIG), or pkg_config.sh of this directory takes its place. Expectations come from document 01 alone: its printed words and rows, and the
+# order of its questions.
+set -eu
+here=$(pwd)
+root=$(cd "$(dirname "$0")/.." && pwd)
+CC=${CC:-gcc}
+CXX=${CXX:-g++}
+PKG_CONFIG=${PKG_CONFIG:-pkg-config}
+strict='-Wall -Wextra -Wpedantic -Wconversion -Werror'
+
+fail() {
+    echo "package.sh: FAILED: $*" >&2
+    exit 1
+}
+
+step() {
+    echo "package: $*"
+}
+
+work=$(mktemp -d)
+trap 'rm -rf "$work"' EXIT
+trap 'exit 1' HUP INT TERM
+
+# Directories that are given relative are meant from where the script was called.
+[ -n "${SAGEPLIERS_LIB_DIR:-}" ] || fail "SAGEPLIERS_LIB_DIR is not set"
+lib=$(cd "$here" && cd "$SAGEPLIERS_LIB_DIR" && pwd) || fail "there is no directory $SAGEPLIERS_LIB_DIR"
+[ -f "$lib/libsagepliers.a" ] || fail "no libsagepliers.a in $lib"
+bin=
+if [ -n "${SAGEPLIERS_BIN_DIR:-}" ]; then
+    bin=$(cd "$here" && cd "$SAGEPLIERS_BIN_DIR" && pwd) || fail "there is no directory $SAGEPLIERS_BIN_DIR"
+    for name in answer kernel verify push; do
+        [ -x "$bin/$name" ] || fail "no program $name in $bin"
+    done
+fi
+for tool in "$CC" "$CXX" make nm readelf cmp; do
+    command -v "$tool" >/dev/null || fail "$tool is missing"
+done
+cd "$root"
+
+# RT=false: nothing that is built already may be built again.
+install() {
+    make --no-print-directory RT=false LIBRARY="$lib/libsagepliers.a" ${bin:+BIN="$bin"} "$@"
+}
+
+# Bytes of words given in hexadecimal, lowest byte first.
+sheet() {
+    for word in "$@"; do
+        w=$((0x$word))
+        # shellcheck disable=SC2059
+        printf "$(printf '\\%03o\\%03o\\%03o\\%03o' $((w & 255)) $((w >> 8 & 255)) $((w >> 16 & 255)) $((w >> 24)))"
+    done
+}
+
+# ---- the library itself
+
+step "the library has the five entries, no state, and calls nothing but functions on memory"
+nm -g --defined-only "$lib/libsagepliers.a" | awk '$2 == "T" { print $3 }' | sort >"$work/entries"
+printf 'sagepliers_%s\n' check kernel name push solve >"$work/wanted"
+cmp "$work/entries" "$work/wanted" || fail "the entries are not the five of the header"
+nm -u "$lib/libsagepliers.a" | awk '$1 == "U" { print $2 }' | sort -u >"$work/uses"
+while read -r used; do
+    case $used in
+    memcpy | memset | memmove | memcmp | bcmp) ;;
+    *) fail "the library uses $used" ;;
+    esac
+done <"$work/uses"
+# Writable memory of any size would be state. A section is a line "[n] name type address offset size entry flags ..".
+readelf -SW "$lib/libsagepliers.a" | sed -n 's/^ *\[ *[0-9]*\] //p' >"$work/sections"
+grep -q sagepliers_check "$work/sections" || fail "readelf shows no sections"
+awk '$1 != "Name" && $5 !~ /^0*$/ && $7 ~ /W/ { print $1; found = 1 } END { exit found }' "$work/sections" || fail "the library has writable memory"
+
+# ---- install
+
+step "install and uninstall under DESTDIR"
+stage=$work/stage
+install install-library install-tools ${bin:+install-programs} DESTDIR="$stage" PREFIX=/opt/somewhere >"$work/log" 2>&1 || { cat "$work/log"; fail "install"; }
+(cd "$stage" && find . -type f | sort) >"$work/installed"
+{
+    echo ./opt/somewhere/lib/libsagepliers.a
+    echo ./opt/somewhere/lib/pkgconfig/sagepliers.pc
+    echo ./opt/somewhere/include/sagepliers.h
+    echo ./opt/somewhere/bin/sagepliers-sheets
+    echo ./opt/somewhere/share/doc/sagepliers/TUTORIAL.md
+    echo ./opt/somewhere/share/doc/sagepliers/examples/host.c
+    [ -z "$bin" ] || printf './opt/somewhere/bin/sagepliers-%s\n' answer kernel verify push
+} | sort >"$work/wanted"
+diff "$work/wanted" "$work/installed" || fail "the installed files are not those wanted"
+if grep -rn -e '@' -e "$work" "$stage/opt/somewhere/lib/pkgconfig/sagepliers.pc"; then fail "the pkg-config file names DESTDIR or has a gap"; fi
+install uninstall DESTDIR="$stage" PREFIX=/opt/somewhere >"$work/log" 2>&1 || { cat "$work/log"; fail "uninstall"; }
+[ -z "$(find "$stage" -type f)" ] || fail "uninstall left files behind"
+[ ! -d "$stage/opt/somewhere/share/doc/sagepliers" ] || fail "uninstall left its directory behind"
+
+step "make refuses what it cannot do"
+if make RT=false LIBRARY="$work/none.a" PREFIX="$work/no" install-library >"$work/log" 2>&1; then fail "a LIBRARY that is not there was installed"; fi
+grep -q "there is no $work/none.a" "$work/log" || { cat "$work/log"; fail "no plain word about the missing LIBRARY"; }
+if make RT=false BIN="$work" PREFIX="$work/no" install-programs >"$work/log" 2>&1; then fail "programs that are not there were installed"; fi
+grep -q "there is no $work/answer" "$work/log" || { cat "$work/log"; fail "no plain word about the missing programs"; }
+for prefix in relative/path "$work/with blank" "$work/a&b" "$work/a|b"; do
+    if install install-library PREFIX="$prefix" >"$work/log" 2>&1; then fail "PREFIX=$prefix was taken"; fi
+    grep -q "^make: .*$(basename "$prefix")" "$work/log" || { cat "$work/log"; fail "no plain word about PREFIX=$prefix"; }
+done
+for left in "$work/no" relative; do
+    [ ! -e "$left" ] || fail "a refused install left $left"
+done
+
+step "make builds with rt what is missing, and only that"
+# A copy without target/, and in place of rt a script that notes its words and makes empty files where rt would build.
+mkdir "$work/copy"
+cp -R Makefile sagepliers.pc.in include tools docs examples "$work/copy"
+cat >"$work/copy/rt" <<'SH'
+#!/bin/sh
+echo "$*" >>calls
+case $* in
+"staticlib sagepliers") mkdir -p target/staticlib && : >target/staticlib/libsagepliers.a ;;
+"check answer kernel verify push") mkdir -p target/bin && for name in answer kernel verify push; do : >target/bin/$name; done ;;
+*) exit 1 ;;
+esac
+SH
+chmod +x "$work/copy/rt"
+(
+    cd "$work/copy"
+    make RT=false PREFIX="$work/no" install >log 2>&1 && fail "make installs though rt failed"
+    [ ! -e "$work/no/lib" ] || fail "make installed though rt failed"
+    make RT=./rt >log 2>&1 || { cat log; fail "make"; }
+    printf '%s\n' 'staticlib sagepliers' 'check answer kernel verify push' >wanted
+    diff wanted calls || fail "make called rt with other words"
+    make RT=./rt all >log 2>&1 || { cat log; fail "make, once more"; }
+    diff wanted calls || fail "make built again what is built"
+    rm target/bin/verify
+    make RT=./rt >log 2>&1 || { cat log; fail "make, with a program missing"; }
+    echo 'check answer kernel verify push' >>wanted
+    diff wanted calls || fail "make did not build the missing program"
+    make RT=./rt rebuild >log 2>&1 || { cat log; fail "make rebuild"; }
+    printf '%s\n' 'staticlib sagepliers' 'check answer kernel verify push' >>wanted
+    diff wanted calls || fail "make rebuild did not ask rt"
+) || exit 1
+
+step "install for the hosts"
+prefix=$work/prefix
+install install-library install-tools PREFIX="$prefix" >"$work/log" 2>&1 || { cat "$work/log"; fail "install"; }
+cmp "$lib/libsagepliers.a" "$prefix/lib/libsagepliers.a" || fail "another library was installed"
+
+# ---- what pkg-config says
+
+if ! command -v "$PKG_CONFIG" >/dev/null; then
+    echo "package: THERE IS NO $PKG_CONFIG: tests/pkg_config.sh reads the file in its place"
+    PKG_CONFIG=$root/tests/pkg_config.sh
+fi
+flags=$(PKG_CONFIG_PATH="$prefix/lib/pkgconfig" "$PKG_CONFIG" --static --cflags --libs sagepliers) || fail "pkg-config does not take the file"
+step "flags: $flags"
+case $flags in
+*"-I$prefix/include"*"-L$prefix/lib"*-lsagepliers*) ;;
+*) fail "the flags do not name the installed package" ;;
+esac
+
+# ---- the example host, plain and under sanitizers
+
+# The hosts are built outside the repository, so that only what is installed is found.
+cd "$work"
+host=$prefix/share/doc/sagepliers/examples/host.c
+# shellcheck disable=SC2086
+{
+    $CC -std=c11 -O2 $strict "$host" $flags -o host_plain || fail "host.c does not build"
+    $CC -std=c11 -g -O1 $strict -fsanitize=address,undefined -fno-sanitize-recover=all "$host" $flags -o host_sanitized ||
+        fail "host.c does not build with sanitizers"
+}
+
+header='100003f1 20000001 30000003 40000109 5000036d 60000003 7000002e'
+first="$header 800003da 80000001 900003b5 900002a6 900003c3 90000001 f0000000"
+# p = 11: (0, 1) to (0, 6), g = x, N = x^3 + 4
+over_11='1000000b 20000000 30000001 40000000 50000006 60000003 70000000 80000000 80000001 90000004 90000000 90000000 90000001 f0000000'
+# shellcheck disable=SC2086
+{
+    sheet $header f0000000 >question.bin
+    sheet $first >first.bin
+    sheet $over_11 >over_11.bin
+}
+
+# runs STATUS TEXT ARGUMENTS..: every host prints exactly the text, on standard output if the status is 0 or 1, and ends with the status.
+runs() {
+    status=$1
+    printf '%s\n' "$2" >expected
+    shift 2
+    for build in plain sanitized; do
+        got=0
+        "./host_$build" "$@" >out 2>err || got=$?
+        [ "$got" -eq "$status" ] || { cat out err; fail "host_$build $* ended with $got, not $status"; }
+        if [ "$status" -lt 2 ]; then
+            [ ! -s err ] || { cat err; fail "host_$build $* wrote to standard error"; }
+            diff expected out || fail "host_$build $* printed something else"
+        else
+            [ ! -s out ] || { cat out; fail "host_$build $* wrote an answer"; }
+            grep -q -F -e "$(cat expected)" err || { cat err; fail "host_$build $* does not say: $(cat expected)"; }
+        fi
+    done
+}
+
+# What the question with a number is about, in a word of document 01.
+about() {
+    case $1 in
+    2) echo 'each of its kind' ;;
+    3) echo 'prime from 11 to 2^28 - 1' ;;
+    4) echo 'odd, from 3 to 255' ;;
+    5) echo 'below p' ;;
+    6) echo 'exactly those of a certificate' ;;
+    7) echo 'singular' ;;
+    8) echo 'R1' ;;
+    9) echo 'R2' ;;
+    10) echo 'R3' ;;
+    esac
+}
+
+# refused NUMBER WORDS..: the certificate is refused with the number, and the line says what the question is about.
+refused() {
+    number=$1
+    shift
+    sheet "$@" >damaged.bin
+    refused_file "$number" damaged.bin
+}
+
+refused_file() {
+    for build in plain sanitized; do
+        got=0
+        "./host_$build" "$2" 1008 1 >out 2>err || got=$?
+        [ "$got" -eq 1 ] || { cat out err; fail "host_$build on a sheet that gets $1 ended with $got"; }
+        grep -q "^the certificate is refused with $1: .*$(about "$1")" out || { cat out; fail "host_$build: not refused with $1"; }
+        [ "$(wc -l <out)" -eq 1 ] || { cat out; fail "host_$build pushed a point through a refused certificate"; }
+    done
+}
+
+step "host: document 01's certificates and points"
+runs 0 'the certificate passes' first.bin
+runs 0 'the certificate passes
+(1008, 1) goes to (617, 44)
+infinity goes to infinity' first.bin 1008 1 infinity
+runs 0 'the certificate passes
+(2, 3) goes to (3, 0)
+(0, 1) goes to infinity' over_11.bin 2 3 0 1
+# 12: (1008, 2) is not on the curve, and 1009 is not below p.
+runs 1 'the certificate passes
+(1008, 2) is refused with 12: the point is not one of the domain
+(1009, 1) is refused with 12: the point is not one of the domain
+(1008, 1) goes to (617, 44)' first.bin 1008 2 1009 1 1008 1
+
+step "host: refused certificates, by document 01's questions"
+g='800003da 80000001'
+n='900003b5 900002a6 900003c3 90000001'
+# shellcheck disable=SC2086
+{
+    refused 2 200003f1 20000001 30000003 40000109 5000036d 60000003 7000002e $g $n f0000000 # the first word of another kind
+    refused 2 100003f1 20000001 30000003 40000109 5000036d 60000003                        # no seven words
+    refused 3 100003e9 20000001 30000003 40000109 5000036d 60000003 7000002e $g $n f0000000 # p = 1001
+    refused 4 100003f1 20000001 30000003 40000109 5000036d 60000006 7000002e $g $n f0000000 # l = 6
+    refused 5 100003f1 200003f1 30000003 40000109 5000036d 60000003 7000002e $g $n f0000000 # A = p
+    refused 6 $header $g $n                                                                # no end
+    refused 6 $header $g $n f0000001                                                       # an end with value 1
+    refused 6 $header $g $n f0000000 f0000000                                              # a word after the end
+    refused 6 $header 800003f1 80000001 $n f0000000                                        # a coefficient p
+    refused 6 $header f0000000                                                             # a question is no certificate
+    refused 7 100003f1 20000000 30000000 40000109 5000036d 60000003 7000002e $g $n f0000000 # A = B = 0
+    refused 8 $header 800003da 80000002 $n f0000000                                        # g with leading 2
+    refused 9 1000000b 20000000 30000001 40000000 50000001 60000003 70000002 8000000a 80000001 90000000 90000001 90000009 90000001 f0000000
+    refused 10 1000000b 20000000 30000001 40000000 50000007 60000003 70000000 80000000 80000001 90000004 90000000 90000000 90000001 f0000000
+    sheet $first | dd bs=1 count=55 of=damaged.bin 2>/dev/null                             # a byte count that is no multiple of four
+}
+refused_file 2 damaged.bin
+
+step "host: files and arguments that it cannot take"
+: >empty.bin
+dd if=/dev/zero of=long.bin bs=1 count=1569 2>/dev/null
+mkdir directory
+runs 2 'usage: host FILE'
+runs 2 'cannot open missing.bin' missing.bin
+runs 2 'cannot read directory' directory 1008 1
+runs 2 'empty.bin is empty' empty.bin
+runs 2 'long.bin is longer than any certificate' long.bin
+runs 2 'has no v' first.bin 1008
+runs 2 '-1 is neither' first.bin 1008 -1
+runs 2 '268435456 is neither' first.bin 268435456 1
+runs 2 '1x is neither' first.bin 1008 1x
+runs 2 ' is neither' first.bin '' 1
+if [ "$(id -u)" -ne 0 ]; then
+    cp first.bin unreadable.bin
+    chmod 000 unreadable.bin
+    runs 2 'cannot open unreadable.bin' unreadable.bin
+else
+    echo "package: run as root, who may read every file: the file without permission is left out"
+fi
+if [ -c /dev/full ]; then
+    got=0
+    ./host_plain first.bin 1008 1 >/dev/full 2>err || got=$?
+    [ "$got" -eq 2 ] || fail "host does not see that its answer cannot be written"
+    grep -q 'cannot write' err || { cat err; fail "host does not say that its answer cannot be written"; }
+else
+    echo "package: there is no /dev/full: the full disk is left out"
+fi
+
+# ---- C++
+
+step "the header in C++: included twice, all five entries linked and called"
+cat >header.cpp <<'CPP'
+#include <sagepliers.h>
+#include <sagepliers.h>
+#include <cstdio>
+static_assert(SAGEPLIERS_INFINITY == 72057594037927936u && SAGEPLIERS_REFUSED == 2 * SAGEPLIERS_INFINITY, "2^56 and 2^57");
+int main() {
+    // Document 01: the first question and its certificate, (1008, 1) to (617, 44), the name of (1, 3) over 1009, the kernel sheet over 11.
+    const uint32_t question[8] = {0x100003f1, 0x20000001, 0x30000003, 0x40000109, 0x5000036d, 0x60000003, 0x7000002e, 0xf0000000};
+    const uint32_t kernel[7] = {0x1000000b, 0x20000000, 0x30000001, 0x60000003, 0x80000000, 0x80000001, 0xf0000000};
+    uint32_t answer[SAGEPLIERS_ROOM];
+    uint8_t bytes[4 * 14];
+    if (sagepliers_kernel(kernel, 7, answer, SAGEPLIERS_ROOM) != 14 || answer[4] != 0x50000006) return 1;
+    if (sagepliers_solve(question, 8, answer, SAGEPLIERS_ROOM) != 14 || answer[7] != 0x800003da) return 2;
+    for (unsigned i = 0; i < sizeof bytes; i++) bytes[i] = static_cast<uint8_t>(answer[i / 4] >> (8 * (i % 4)) & 255);
+    if (sagepliers_check(bytes, sizeof bytes) != 0) return 3;
+    if (sagepliers_push(bytes, sizeof bytes, 1008 + (UINT64_C(1) << 28)) != 617 + (UINT64_C(44) << 28)) return 4;
+    if (sagepliers_name(1009, 1, 3) != 269) return 5;
+    std::puts("ok");
+}
+CPP
+# shellcheck disable=SC2086
+$CXX -std=c++11 -O2 $strict header.cpp $flags -o header || fail "the header does not build as C++"
+[ "$(./header)" = ok ] || fail "the C++ host got another answer"
+
+# ---- threads
+
+step "two threads on distinct buffers, with the 64 KiB of stack that the header names"
+# shellcheck disable=SC2086
+$CC -std=c11 -O2 $strict -DSTACK=65536 "$root/tests/threads.c" $flags -pthread -o threads || fail "threads.c does not build"
+./threads || fail "threads"
+# The library is not instrumented: of its own accesses the sanitizer sees those through memcpy and memset. That it has no writable memory is seen above.
+# shellcheck disable=SC2086
+if $CC -std=c11 -g -O1 $strict -fsanitize=thread "$root/tests/threads.c" $flags -pthread -o threads_sanitized 2>log; then
+    got=0
+    ./threads_sanitized 200 >out 2>&1 || got=$?
+    if [ "$got" -ne 0 ] && grep -q 'FATAL: ThreadSanitizer' out; then
+        echo "package: THE THREAD SANITIZER DOES NOT START HERE: $(grep -m1 FATAL out)"
+    else
+        [ "$got" -eq 0 ] || { cat out; fail "threads under the thread sanitizer"; }
+        echo "under the thread sanitizer: $(cat out)"
+    fi
+else
+    echo "package: THE THREAD SANITIZER IS LEFT OUT, a build with it failed: $(head -n 1 log)"
+fi
+
+# ---- the programs
+
+# A program's output on a sheet, which goes to its standard input.
+prints() {
+    program=$1
+    printf '%s\n' "$2" >expected
+    "$programs/sagepliers-$program" <"$3" >out || fail "$program ended with $?"
+    diff expected out || fail "$program printed something else"
+}
+
+programs_print() {
+    # shellcheck disable=SC2086
+    {
+        prints answer "$(printf '%s\n' $first)" question.bin
+        sheet 100003f1 20000001 30000003 40000109 5000036d 60000003 70000030 f0000000 >sheet.bin
+        prints answer 'refused 11' sheet.bin
+        prints answer 'refused 2' empty.bin
+        sheet 1000000b 20000000 30000001 60000003 80000000 80000001 f0000000 >sheet.bin
+        prints kernel "$(printf '%s\n' $over_11)" sheet.bin
+        sheet 1000000b 20000000 30000001 60000003 8000000a 80000001 f0000000 >sheet.bin
+        prints kernel 'refused 11' sheet.bin
+        prints verify passes first.bin
+        prints verify passes over_11.bin
+        prints verify 'refused 6' question.bin
+        # A point's number is u + 2^28 v in eight bytes, the low word first: (1008, 1), (0, 1), infinity.
+        { sheet 100003f0 00000000 && cat first.bin; } >sheet.bin
+        prints push "$(printf '%016x' $((617 + (44 << 28))))" sheet.bin
+        { sheet 10000000 00000000 && cat over_11.bin; } >sheet.bin
+        prints push 0100000000000000 sheet.bin
+        { sheet 00000000 01000000 && cat first.bin; } >sheet.bin
+        prints push 0100000000000000 sheet.bin
+        { sheet 20000000 00000000 && cat over_11.bin; } >sheet.bin
+        prints push 'refused 12' sheet.bin
+        prints push 'refused 2' empty.bin
+    }
+}
+
+step "the stand-ins for the programs, which the tutorial uses where there are no programs"
+programs=$work/stand_in
+mkdir "$programs"
+for name in answer kernel verify push; do
+    # shellcheck disable=SC2086
+    $CC -std=c11 -O2 $strict "$root/tests/stand_in.c" $flags -o "$programs/sagepliers-$name" || fail "stand_in.c does not build"
+done
+programs_print
+
+if [ -n "$bin" ]; then
+    step "the programs, installed by make install"
+    (cd "$root" && install install PREFIX="$work/whole") >log 2>&1 || { cat log; fail "make install"; }
+    programs=$work/whole/bin
+    programs_print
+else
+    echo "package: SAGEPLIERS_BIN_DIR IS NOT SET: THE PROGRAMS ARE LEFT OUT"
+fi
+
+step "all passed"
