@@ -52,7 +52,7 @@ fn parse(arguments: impl Iterator<Item = String>) -> Option<Options> {
             _ => return None,
         }
     }
-    let usual = if options.quick { 20_000 } else { 400_000 };
+    let usual = if options.quick { 20_000 } else { 2_000_000 };
     options.count = count.unwrap_or(usual);
     Some(options)
 }

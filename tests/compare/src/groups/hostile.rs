@@ -1,6 +1,9 @@
 //! Random damage of every sort, random words and random bytes, to every entry.
 //! Each shard draws its own cases from its own seed.
 
+use std::collections::HashSet;
+use std::ops::RangeInclusive;
+
 use reference::call::{point_number, Call, INFINITY};
 use reference::curve::Curve;
 use reference::generate::{self, random_curve, random_monic};
@@ -16,9 +19,49 @@ use crate::judge::Judge;
 pub fn run(judge: &mut Judge, shard: u64, cases: u64) {
     let mut random = Random::new(0x1000 + shard);
     let pool = pool(&mut random);
+    let mut spoiled = Spoiled::new(&pool);
     for _ in 0..cases {
-        let call = case(&mut random, &pool);
+        let kind = random.below(20);
+        let call = case(&mut random, &pool, kind);
+        spoiled.record(&call, kind);
         judge.agrees(&call);
+    }
+    judge.note(format!("{} damaged or random sheets", spoiled.count));
+}
+
+/// Counts the sheets that are damaged or random, and not one of the pool after
+/// all.
+struct Spoiled {
+    sound: HashSet<Vec<u8>>,
+    count: u64,
+}
+
+impl Spoiled {
+    fn new(pool: &[Certificate]) -> Spoiled {
+        let sheets = pool.iter().flat_map(|certificate| {
+            let dual = generate::dual_question(certificate);
+            [
+                certificate.words(),
+                certificate.question.words(),
+                certificate.kernel_sheet().words(),
+                dual.words(),
+            ]
+        });
+        Spoiled {
+            sound: sheets.map(|words| bytes_of(&words)).collect(),
+            count: 0,
+        }
+    }
+
+    fn record(&mut self, call: &Call, kind: u64) {
+        let sound = match call {
+            Call::Check { bytes } | Call::Push { bytes, .. } => self.sound.contains(bytes),
+            Call::Solve { sheet, .. } | Call::Kernel { sheet, .. } => {
+                self.sound.contains(&bytes_of(sheet))
+            }
+            Call::Name { .. } => true,
+        };
+        self.count += u64::from(!sound && !LAWFUL.contains(&kind));
     }
 }
 
@@ -44,8 +87,12 @@ fn pool(random: &mut Random) -> Vec<Certificate> {
     pool
 }
 
-fn case(random: &mut Random, pool: &[Certificate]) -> Call {
-    match random.below(20) {
+/// The kinds whose sheets are neither damaged nor random: names, lawful
+/// questions and sheets that almost pass.
+const LAWFUL: RangeInclusive<u64> = 2..=6;
+
+fn case(random: &mut Random, pool: &[Certificate], kind: u64) -> Call {
+    match kind {
         0 => random_bytes(random),
         1 => random_sheet(random),
         2 => random_name(random),

@@ -1,0 +1,460 @@
+//! The document: the bars with what was measured, then the tables. Everything in it comes from the samples of one run, but for the remarks.
+
+use std::fmt::Write;
+
+use crate::clock::Stat;
+use crate::counts;
+use crate::inputs;
+use crate::{Row, DOT, ROUNDS};
+
+const SERVICES: [&str; 4] = ["check", "solve", "kernel", "push"];
+/// Degrees from here on count for the bars.
+const FROM: usize = 31;
+
+fn count(service: &str, l: usize) -> usize {
+    match service {
+        "check" => counts::check(l),
+        "solve" => counts::solve(l),
+        "kernel" => counts::kernel(l),
+        _ => counts::push(l),
+    }
+}
+
+/// A value of one round: the time of a column.
+type Value<'a> = &'a dyn Fn(&str) -> f64;
+
+/// Question 3: a certificate of even degree is refused after it, one with an even p before.
+fn question_three(t: Value) -> f64 {
+    t("check 4") - t("check 3")
+}
+
+fn same_question_three(t: Value) -> f64 {
+    t("same check 4") - t("same check 3")
+}
+
+impl Row {
+    /// A service without question 3.
+    fn apart(&self, service: &str) -> Stat {
+        self.samples.each(|t| t(service) - question_three(t))
+    }
+
+    fn against_same(&self, service: &str) -> Stat {
+        let same = format!("same {service}");
+        self.samples.each(|t| t(service) / t(&same))
+    }
+
+    fn against_same_apart(&self, service: &str) -> Stat {
+        let same = format!("same {service}");
+        let quotient =
+            |t: Value| (t(service) - question_three(t)) / (t(&same) - same_question_three(t));
+        self.samples.each(quotient)
+    }
+
+    fn against_flint(&self) -> Stat {
+        self.samples
+            .each(|t| (t("check") - question_three(t)) / t("flint"))
+    }
+
+    fn against_pari(&self) -> Option<Stat> {
+        self.samples
+            .has("pari")
+            .then(|| self.samples.each(|t| t("kernel") / t("pari")))
+    }
+
+    fn against_pari_apart(&self) -> Stat {
+        self.samples
+            .each(|t| (t("kernel") - question_three(t)) / t("pari"))
+    }
+
+    /// Nanoseconds a multiply-add.
+    fn dot(&self) -> Stat {
+        self.samples.each(|t| t("dot") * 1000.0 / DOT as f64)
+    }
+
+    /// Microseconds below which the multiply-adds of a service do not go.
+    fn bound(&self, service: &str) -> f64 {
+        count(service, self.l) as f64 * self.dot().median / 1000.0
+    }
+}
+
+/// Three digits that count.
+fn short(x: f64) -> String {
+    match x.abs() {
+        y if y >= 99.95 => format!("{x:.0}"),
+        y if y >= 9.995 => format!("{x:.1}"),
+        _ => format!("{x:.2}"),
+    }
+}
+
+/// The median, and half the distance of the quartiles in percent of it.
+fn spread(s: Stat) -> String {
+    let percent = (s.high - s.low) / 2.0 / s.median.abs().max(1e-9) * 100.0;
+    format!("{} ±{percent:.0}%", short(s.median))
+}
+
+fn over(rows: &[Row], p: u64) -> impl Iterator<Item = &Row> {
+    rows.iter().filter(move |row| row.p == p)
+}
+
+/// The least-squares slope of log time over log l. Rows are measured one after the other, so that the machine's speed may change between them: each time
+/// is taken in units of the same row's multiply-add.
+fn exponent(rows: &[Row], p: u64, time: impl Fn(&Row) -> f64) -> f64 {
+    let points: Vec<(f64, f64)> = over(rows, p)
+        .filter(|row| FROM <= row.l)
+        .map(|row| ((row.l as f64).ln(), (time(row) / row.dot().median).ln()))
+        .collect();
+    let n = points.len() as f64;
+    let mean = |f: fn(&(f64, f64)) -> f64| points.iter().map(f).sum::<f64>() / n;
+    let (x, y) = (mean(|q| q.0), mean(|q| q.1));
+    let top: f64 = points.iter().map(|q| (q.0 - x) * (q.1 - y)).sum();
+    let bottom: f64 = points.iter().map(|q| (q.0 - x) * (q.0 - x)).sum();
+    top / bottom
+}
+
+/// The largest median of a ratio over the degrees that count, and where.
+fn worst(
+    rows: &[Row],
+    counts: impl Fn(&Row) -> bool,
+    ratio: impl Fn(&Row) -> f64,
+) -> (f64, String) {
+    let counted = rows.iter().filter(|row| counts(row));
+    let row = counted
+        .max_by(|x, y| ratio(x).total_cmp(&ratio(y)))
+        .expect("some degree counts");
+    (ratio(row), format!("p = {}, l = {}", row.p, row.l))
+}
+
+struct Table<'a>(&'a mut String);
+
+impl Table<'_> {
+    fn head(&mut self, cells: &[&str]) {
+        self.line(cells.iter().map(|cell| cell.to_string()));
+        self.line(cells.iter().map(|_| "---".to_string()));
+    }
+
+    fn line(&mut self, cells: impl Iterator<Item = String>) {
+        let cells: Vec<String> = cells.collect();
+        writeln!(self.0, "| {} |", cells.join(" | ")).expect("a string takes any text");
+    }
+}
+
+fn verdict(value: f64, bar: f64) -> String {
+    if value <= bar {
+        "pass".to_string()
+    } else {
+        format!("**miss** by {:.0} %", (value / bar - 1.0) * 100.0)
+    }
+}
+
+fn bars(out: &mut String, rows: &[Row]) {
+    let mut table = Table(out);
+    table.head(&["bar", "at most", "worst measured", "where", "verdict"]);
+    let mut bar = |what: String, most: f64, (value, place): (f64, String)| {
+        let cells = [
+            what,
+            most.to_string(),
+            format!("{value:.2}"),
+            place,
+            verdict(value, most),
+        ];
+        table.line(cells.into_iter());
+    };
+    for p in inputs::PRIMES {
+        let flint = worst(
+            rows,
+            |row| row.p == p && FROM <= row.l,
+            |row| row.against_flint().median,
+        );
+        bar(
+            "check, question 3 apart, over FLINT, l ≥ 31".into(),
+            0.5,
+            flint.clone(),
+        );
+        bar("the same, aim".into(), 0.3, flint);
+    }
+    if rows[0].samples.has("pari") {
+        let pari = worst(
+            rows,
+            |row| FROM <= row.l,
+            |row| row.against_pari().expect("measured").median,
+        );
+        bar("kernel over PARI's ellisogeny, l ≥ 31".into(), 0.25, pari);
+        let apart = worst(
+            rows,
+            |row| FROM <= row.l,
+            |row| row.against_pari_apart().median,
+        );
+        bar(
+            "kernel, question 3 apart, over PARI's ellisogeny, l ≥ 31".into(),
+            0.25,
+            apart,
+        );
+    }
+    for service in SERVICES {
+        let whole = worst(rows, |_| true, |row| row.against_same(service).median);
+        bar(
+            format!("{service} over the same algorithm in unchecked Rust"),
+            1.15,
+            whole,
+        );
+        let apart = worst(
+            rows,
+            |row| FROM <= row.l,
+            |row| row.against_same_apart(service).median,
+        );
+        bar(
+            format!("{service}, question 3 apart, over the same, l ≥ 31"),
+            1.15,
+            apart,
+        );
+    }
+    for p in inputs::PRIMES {
+        let slope = exponent(rows, p, |row| row.apart("check").median);
+        bar(
+            "exponent of check's growth, question 3 apart, l ≥ 31".into(),
+            2.1,
+            (slope, format!("p = {p}")),
+        );
+    }
+}
+
+fn times(out: &mut String, rows: &[Row], p: u64) {
+    let mut table = Table(out);
+    table.head(&[
+        "l",
+        "check",
+        "check, question 3 apart",
+        "solve",
+        "kernel",
+        "push",
+        "FLINT",
+        "PARI",
+        "independent Rust",
+        "bound",
+    ]);
+    for row in over(rows, p) {
+        let column = |name: &str| spread(row.samples.of(name));
+        let pari = if row.samples.has("pari") {
+            column("pari")
+        } else {
+            "not there".into()
+        };
+        let cells = [
+            row.l.to_string(),
+            column("check"),
+            spread(row.apart("check")),
+            column("solve"),
+            column("kernel"),
+            column("push"),
+            column("flint"),
+            pari,
+            column("reference"),
+            short(row.bound("check")),
+        ];
+        table.line(cells.into_iter());
+    }
+}
+
+fn ratios(out: &mut String, rows: &[Row], p: u64) {
+    let mut table = Table(out);
+    table.head(&[
+        "l",
+        "check / FLINT",
+        "kernel / PARI",
+        "check / independent Rust",
+        "check / bound",
+        "solve / bound",
+        "kernel / bound",
+    ]);
+    for row in over(rows, p) {
+        let bound = |service: &str| short(row.apart(service).median / row.bound(service));
+        let independent = |t: Value| (t("check") - question_three(t)) / t("reference");
+        let cells = [
+            row.l.to_string(),
+            spread(row.against_flint()),
+            row.against_pari().map_or("not there".into(), spread),
+            spread(row.samples.each(|t| independent(t))),
+            bound("check"),
+            bound("solve"),
+            bound("kernel"),
+        ];
+        table.line(cells.into_iter());
+    }
+}
+
+fn unchecked(out: &mut String, rows: &[Row], p: u64) {
+    let mut table = Table(out);
+    let apart = SERVICES.map(|service| format!("{service}, apart"));
+    let mut head = vec!["l"];
+    head.extend(SERVICES);
+    head.extend(apart.iter().map(String::as_str));
+    table.head(&head);
+    for row in over(rows, p) {
+        let whole = SERVICES
+            .iter()
+            .map(|service| spread(row.against_same(service)));
+        let apart = SERVICES
+            .iter()
+            .map(|service| spread(row.against_same_apart(service)));
+        table.line([row.l.to_string()].into_iter().chain(whole).chain(apart));
+    }
+}
+
+fn parts(out: &mut String, rows: &[Row], p: u64) {
+    let mut table = Table(out);
+    table.head(&[
+        "l",
+        "whole",
+        "question 3",
+        "reading",
+        "R1",
+        "R2",
+        "R3",
+        "same: N",
+        "same: power sums",
+        "same: expansion",
+        "same: recurrence",
+    ]);
+    for row in over(rows, p) {
+        let each = |formula: &dyn Fn(Value) -> f64| short(row.samples.each(|t| formula(t)).median);
+        let cells = [
+            row.l.to_string(),
+            each(&|t| t("check")),
+            each(&|t| question_three(t)),
+            each(&|t| t("check 3") + t("check 7") - t("check 4")),
+            each(&|t| t("check 8") - t("check 7")),
+            each(&|t| t("check 9") - t("check 8")),
+            each(&|t| t("check") - t("check 9")),
+            each(&|t| t("same N")),
+            each(&|t| t("same sums")),
+            each(&|t| t("same expansion")),
+            each(&|t| t("same recurrence")),
+        ];
+        table.line(cells.into_iter());
+    }
+}
+
+fn growth(out: &mut String, rows: &[Row]) {
+    let mut table = Table(out);
+    table.head(&[
+        "p",
+        "check",
+        "solve",
+        "kernel",
+        "push",
+        "FLINT",
+        "PARI",
+        "multiply-adds of check",
+    ]);
+    for p in inputs::PRIMES {
+        let service =
+            |name: &str| format!("{:.2}", exponent(rows, p, |row| row.apart(name).median));
+        let column = |name: &str| {
+            format!(
+                "{:.2}",
+                exponent(rows, p, |row| row.samples.of(name).median)
+            )
+        };
+        let pari = if rows[0].samples.has("pari") {
+            column("pari")
+        } else {
+            "not there".into()
+        };
+        let counted = format!(
+            "{:.2}",
+            exponent(rows, p, |row| counts::check(row.l) as f64
+                * row.dot().median)
+        );
+        let cells = [
+            p.to_string(),
+            service("check"),
+            service("solve"),
+            service("kernel"),
+            service("push"),
+            column("flint"),
+            pari,
+            counted,
+        ];
+        table.line(cells.into_iter());
+    }
+}
+
+fn counted(out: &mut String, rows: &[Row], p: u64) {
+    let mut table = Table(out);
+    table.head(&["l", "check", "solve", "kernel", "push"]);
+    for row in over(rows, p) {
+        let cells = SERVICES
+            .iter()
+            .map(|service| count(service, row.l).to_string());
+        table.line([row.l.to_string()].into_iter().chain(cells));
+    }
+}
+
+pub fn write(rows: &[Row], machine: &str, remarks: &str) -> String {
+    let mut out = String::new();
+    let dot = rows[0].dot();
+    write!(
+        out,
+        "# Performance
+
+Written by `bench/run`, which measures everything below in one run on one core; only the remarks are by hand.
+
+{machine}
+Each value is the median of {ROUNDS} rounds, with half the distance of the quartiles in percent of it. A round times every column once, one after the
+other; ratios and differences are taken within a round. Times are microseconds of the processor a call. Every answer is compared before it is timed. The inputs are
+certificates of isogenies that `tests/reference` makes from points of order l.
+
+- check, solve, kernel, push: the C entries of `libsagepliers.a`.
+- FLINT: R1 to R3 of the same certificate with `nmod_poly` (`bench/flint/check.c`), from words that have been read, for a p that is known to be prime.
+- PARI: `ellisogeny(E, g)` with the whole map, from the curve and the kernel polynomial as PARI's own objects. It does not ask whether g is one of an isogeny.
+- independent Rust: check of `tests/reference`, which knows its primes from a sieve.
+- the same: the library's algorithms in unchecked Rust (`bench/same`), with the same reading and the same trial division.
+- bound: the multiply-adds of the algorithm at {} nanoseconds each, the speed of a sum of {DOT} products in the same run.
+- question 3 apart: without the trial division that shows that p is prime, which is what refusing an even degree takes (question 4) less what refusing
+  an even p takes (question 3).
+
+## Bars
+
+",
+        short(dot.median)
+    )
+    .expect("a string takes any text");
+    bars(&mut out, rows);
+    out.push_str("\n## Remarks\n\n");
+    out.push_str(remarks.trim());
+    out.push('\n');
+    for p in inputs::PRIMES {
+        write!(out, "\n## Times over p = {p}\n\n").expect("a string takes any text");
+        times(&mut out, rows, p);
+        write!(
+            out,
+            "\n## Ratios over p = {p}\n\nQuestion 3 apart, but in kernel / PARI.\n\n"
+        )
+        .expect("a string takes any text");
+        ratios(&mut out, rows, p);
+    }
+    for p in inputs::PRIMES {
+        write!(out, "\n## Beside the same algorithms in unchecked Rust, p = {p}\n\nWhole, then with question 3 taken off both.\n\n").expect("a string takes any text");
+        unchecked(&mut out, rows, p);
+    }
+    out.push_str(
+        "
+## Where check's time goes
+
+By differences of what the C entry takes: for a certificate refused with 3 (an even p), 4 (an even degree), 7 (a singular codomain), 8 (another σ), 9
+(another leading coefficient of N) and for one that passes. Question 3 is 4 less 3; reading, questions 2 and 4 to 7, is 3 and 7 less 4; R1, with the copying
+of the coefficients, is 8 less 7; R2 is 9 less 8; R3 is the whole less 9. The last four columns are parts of the same algorithm in unchecked Rust, each
+called by itself.
+",
+    );
+    for p in inputs::PRIMES {
+        write!(out, "\np = {p}:\n\n").expect("a string takes any text");
+        parts(&mut out, rows, p);
+    }
+    out.push_str("\n## Growth\n\nThe exponent of l that fits best (least squares of the logarithms) for l ≥ 31, question 3 apart. Times are taken
+in units of the multiply-add of the same row, since the machine's speed may change between rows.\n\n");
+    growth(&mut out, rows);
+    out.push_str("\n## Counts\n\nMultiply-adds of two residues; products with small numbers, A and B and remainders are not counted.\n\n");
+    counted(&mut out, rows, inputs::PRIMES[0]);
+    out
+}

@@ -1,0 +1,212 @@
+//! Times the services through the C entries beside FLINT, PARI/GP, the independent implementation and the same algorithms in unchecked Rust, prints the
+//! ratios and writes the document. Arguments: the document, a file with lines on the machine and the versions, a file with remarks.
+
+mod clock;
+mod counts;
+mod document;
+mod entries;
+mod inputs;
+mod pari;
+
+use std::hint::black_box;
+use std::process::ExitCode;
+
+use clock::{Column, Samples};
+use inputs::Input;
+use pari::Pari;
+
+pub const ROUNDS: usize = 41;
+/// Microseconds of a sample.
+const SAMPLE: f64 = 1_500.0;
+pub const DOT: usize = 256;
+const ROOM: usize = 392;
+
+/// The samples for one prime and one degree.
+pub struct Row {
+    pub p: u64,
+    pub l: usize,
+    pub samples: Samples,
+}
+
+/// What is timed must answer alike.
+fn compare(input: &Input) {
+    let Input {
+        bytes,
+        question,
+        kernel,
+        words,
+        point,
+        values,
+        g,
+        n,
+        ..
+    } = input;
+    assert_eq!((entries::check(bytes), same::check(bytes)), (0, 0));
+    assert_eq!(entries::flint(values, g, n), 0);
+    let count = words.len() as u64;
+    let mut answer = [0u32; ROOM];
+    let holds = |number: u64, answer: &mut [u32; ROOM]| {
+        assert_eq!(number, count);
+        assert_eq!(&answer[..words.len()], words);
+        answer.fill(0);
+    };
+    holds(entries::solve(question, &mut answer), &mut answer);
+    holds(same::solve(question, &mut answer), &mut answer);
+    holds(entries::kernel(kernel, &mut answer), &mut answer);
+    holds(same::kernel(kernel, &mut answer), &mut answer);
+    let on_domain = reference::call::point_of(*point).expect("the number of a point");
+    let image = reference::services::image(&input.certificate, on_domain);
+    let image = reference::call::point_number(image.expect("a point of the domain"));
+    assert_eq!(
+        (entries::push(bytes, *point), same::push(bytes, *point)),
+        (image, image)
+    );
+    for (number, bytes) in &input.refused {
+        assert_eq!(
+            (entries::check(bytes), same::check(bytes)),
+            (*number, *number)
+        );
+    }
+    let [p, a, b, atilde, _, l, sigma] = *values;
+    let other = [p, a, b, atilde, (values[4] + 1) % p, l, sigma];
+    assert_eq!(entries::flint(&other, g, n), 10);
+}
+
+fn columns<'a>(input: &'a Input, pari: Option<&'a mut Pari>) -> Vec<Column<'a>> {
+    let Input {
+        bytes,
+        question,
+        kernel,
+        words,
+        point,
+        values,
+        g,
+        n,
+        ..
+    } = input;
+    let mut columns: Vec<Column> = Vec::new();
+    macro_rules! column {
+        ($name:expr, $call:expr) => {
+            columns.push((
+                $name,
+                Box::new(move |times| {
+                    clock::timed(times, || {
+                        black_box($call);
+                    })
+                }),
+            ));
+        };
+    }
+    let at = |number: u32| {
+        let place = input.refused.iter().position(|r| r.0 == number);
+        &input.refused[place.expect("a sheet for each number")].1
+    };
+    let (two, three, four, seven, eight, nine) = (at(2), at(3), at(4), at(7), at(8), at(9));
+    column!("check", entries::check(black_box(bytes)));
+    column!("same check", same::check(black_box(bytes)));
+    column!("flint", entries::flint(black_box(values), g, n));
+    column!("check 2", entries::check(black_box(two)));
+    column!("check 3", entries::check(black_box(three)));
+    column!("check 4", entries::check(black_box(four)));
+    column!("check 7", entries::check(black_box(seven)));
+    column!("check 8", entries::check(black_box(eight)));
+    column!("check 9", entries::check(black_box(nine)));
+    column!("same check 3", same::check(black_box(three)));
+    column!("same check 4", same::check(black_box(four)));
+    let mut answer = [0u32; ROOM];
+    column!(
+        "solve",
+        entries::solve(black_box(question), black_box(&mut answer))
+    );
+    column!(
+        "same solve",
+        same::solve(black_box(question), black_box(&mut answer))
+    );
+    column!(
+        "kernel",
+        entries::kernel(black_box(kernel), black_box(&mut answer))
+    );
+    column!(
+        "same kernel",
+        same::kernel(black_box(kernel), black_box(&mut answer))
+    );
+    column!("push", entries::push(black_box(bytes), *point));
+    column!("same push", same::push(black_box(bytes), *point));
+    column!("reference", reference::services::check(black_box(words)));
+    let [p, a, b, atilde, btilde, degree, sigma] = *values;
+    let v = same::Values {
+        p,
+        a,
+        b,
+        atilde,
+        btilde,
+        degree,
+        sigma,
+    };
+    let last = same::last(degree as usize);
+    let mut s = vec![0u32; last + 2];
+    let mut h = vec![0u32; last + 1];
+    same::rules::power_sums(v, g, &mut s);
+    same::rules::expansion(v, &s, &mut h);
+    let (sums, expanded) = (s.clone(), h.clone());
+    let mut numerator = n.clone();
+    column!(
+        "same N",
+        same::rules::numerator(v, black_box(g), black_box(&mut numerator))
+    );
+    column!(
+        "same sums",
+        same::rules::power_sums(v, black_box(g), black_box(&mut s))
+    );
+    column!(
+        "same expansion",
+        same::rules::expansion(v, black_box(&sums), black_box(&mut h))
+    );
+    column!(
+        "same recurrence",
+        same::rules::recurs(v, black_box(&expanded))
+    );
+    let residue = |i: u32| i.wrapping_mul(2_654_435_761) % p;
+    let left: Vec<u32> = (0..DOT as u32).map(residue).collect();
+    let right: Vec<u32> = (0..DOT as u32).map(|i| residue(i + 1000)).collect();
+    column!(
+        "dot",
+        same::rules::dot(black_box(&left), black_box(&right), 0, DOT, DOT - 1)
+    );
+    if let Some(pari) = pari {
+        columns.push(("pari", Box::new(move |times| pari.again(times))));
+    }
+    columns
+}
+
+fn main() -> ExitCode {
+    let arguments: Vec<String> = std::env::args().collect();
+    let [_, document, machine, remarks] = &arguments[..] else {
+        eprintln!("usage: measure DOCUMENT MACHINE REMARKS");
+        return ExitCode::from(2);
+    };
+    let read =
+        |path: &String| std::fs::read_to_string(path).unwrap_or_else(|e| panic!("{path}: {e}"));
+    let (machine, remarks) = (read(machine), read(remarks));
+    let mut pari = Pari::start();
+    if pari.is_none() {
+        eprintln!("gp cannot be started: no comparison with PARI");
+    }
+    let mut rows = Vec::new();
+    for p in inputs::PRIMES {
+        for input in inputs::all(p) {
+            let l = input.values[5] as usize;
+            eprintln!("p = {p}, l = {l}");
+            compare(&input);
+            if let Some(pari) = &mut pari {
+                pari.set(&input.certificate);
+            }
+            let samples = clock::run(columns(&input, pari.as_mut()), ROUNDS, SAMPLE);
+            rows.push(Row { p, l, samples });
+        }
+    }
+    let text = document::write(&rows, &machine, &remarks);
+    print!("{text}");
+    std::fs::write(document, text).unwrap_or_else(|e| panic!("{document}: {e}"));
+    ExitCode::SUCCESS
+}

@@ -1,0 +1,319 @@
+//! N by R2, the power sums, the expansion, the recurrence that decides R3, and the polynomial that solving computes.
+//! Residues are below p < 2^28; no index is tested.
+
+use crate::{last, Values};
+
+#[inline(always)]
+pub fn at(a: &[u32], i: usize) -> u32 {
+    // SAFETY: the callers keep to the lengths of their slices.
+    unsafe { *a.get_unchecked(i) }
+}
+
+#[inline(always)]
+pub fn put(a: &mut [u32], i: usize, x: u32) {
+    // SAFETY: as for at.
+    unsafe { *a.get_unchecked_mut(i) = x }
+}
+
+#[inline(always)]
+pub fn mul(a: u32, b: u32) -> u64 {
+    u64::from(a) * u64::from(b)
+}
+
+#[inline(always)]
+pub fn rem(x: u64, p: u32) -> u32 {
+    (x % u64::from(p)) as u32
+}
+
+#[inline(always)]
+pub fn times(a: u32, b: u32, p: u32) -> u32 {
+    rem(mul(a, b), p)
+}
+
+#[inline(always)]
+pub fn add(a: u32, b: u32, p: u32) -> u32 {
+    let s = a.wrapping_add(b);
+    if s < p {
+        s
+    } else {
+        s - p
+    }
+}
+
+#[inline(always)]
+pub fn sub(a: u32, b: u32, p: u32) -> u32 {
+    if b <= a {
+        a - b
+    } else {
+        a + (p - b)
+    }
+}
+
+#[inline(always)]
+pub fn neg(a: u32, p: u32) -> u32 {
+    if a == 0 {
+        0
+    } else {
+        p - a
+    }
+}
+
+/// The sum of a[i] b[k - i], i from `from` up to `to`: at most 256 products.
+#[inline(always)]
+pub fn dot(a: &[u32], b: &[u32], from: usize, to: usize, k: usize) -> u64 {
+    let mut s = 0u64;
+    let mut i = from;
+    while i < to {
+        s = s.wrapping_add(mul(at(a, i), at(b, k - i)));
+        i += 1;
+    }
+    s
+}
+
+/// The same sum after `start`, with a remainder before each `size` products.
+#[inline(always)]
+#[allow(clippy::too_many_arguments)]
+fn span(
+    start: u32,
+    a: &[u32],
+    b: &[u32],
+    from: usize,
+    to: usize,
+    k: usize,
+    size: usize,
+    p: u32,
+) -> u64 {
+    let mut s = start;
+    let mut i = from;
+    while size < to - i {
+        s = rem(u64::from(s) + dot(a, b, i, i + size, k), p);
+        i += size;
+    }
+    u64::from(s) + dot(a, b, i, to, k)
+}
+
+/// `start` plus the coefficient k of a b.
+#[inline(always)]
+fn coefficient(start: u32, a: &[u32], b: &[u32], k: usize, p: u32) -> u32 {
+    let from = (k + 1).saturating_sub(b.len());
+    let to = from.max((k + 1).min(a.len()));
+    rem(span(start, a, b, from, to, k, 256, p), p)
+}
+
+/// The coefficient k of a²: the terms before the middle one, twice, and the middle one.
+#[inline(always)]
+fn square_coefficient(a: &[u32], k: usize, p: u32) -> u32 {
+    let from = (k + 1).saturating_sub(a.len());
+    let to = from.max(k.div_ceil(2).min(a.len()));
+    let half = span(0, a, a, from, to, k, 127, p);
+    let m = if k.is_multiple_of(2) {
+        word(a, k / 2)
+    } else {
+        0
+    };
+    rem(half + half + mul(m, m), p)
+}
+
+/// The word at i, 0 past the end.
+#[inline(always)]
+fn word(a: &[u32], i: usize) -> u32 {
+    if i < a.len() {
+        at(a, i)
+    } else {
+        0
+    }
+}
+
+/// The word j places before k, 0 where there is none.
+#[inline(always)]
+fn back(a: &[u32], j: usize, k: usize) -> u32 {
+    if k < j {
+        0
+    } else {
+        word(a, k - j)
+    }
+}
+
+#[inline(always)]
+fn square(a: &[u32], out: &mut [u32], p: u32) {
+    for k in 0..out.len() {
+        put(out, k, square_coefficient(a, k, p));
+    }
+}
+
+#[inline(always)]
+fn derivative(a: &[u32], out: &mut [u32], p: u32) {
+    for k in 0..out.len() {
+        let x = if k + 1 < a.len() {
+            times(k as u32 + 1, at(a, k + 1), p)
+        } else {
+            0
+        };
+        put(out, k, x);
+    }
+}
+
+/// N = (lx - sigma)s - (3x² + A)t + f e with s = g², t = s', e = -2(t' - 4g'²), one remainder for each coefficient.
+pub fn numerator(v: Values, g: &[u32], out: &mut [u32]) {
+    let p = v.p;
+    let d = g.len() - 1;
+    let (mut s, mut t, mut e) = ([0u32; 255], [0u32; 255], [0u32; 255]);
+    let (mut slope, mut squared) = ([0u32; 255], [0u32; 255]);
+    let (s, t, e) = (&mut s[..2 * d + 1], &mut t[..2 * d], &mut e[..2 * d - 1]);
+    let (slope, squared) = (&mut slope[..d], &mut squared[..2 * d - 1]);
+    square(g, s, p);
+    derivative(s, t, p);
+    derivative(g, slope, p);
+    square(slope, squared, p);
+    for k in 0..e.len() {
+        let above = neg(word(t, k + 1), p);
+        put(
+            e,
+            k,
+            rem(mul(2 * (k as u32 + 1), above) + mul(8, word(squared, k)), p),
+        );
+    }
+    let (less_a, less_sigma) = (neg(v.a, p), neg(v.sigma, p));
+    for k in 0..out.len() {
+        let sum = mul(v.degree, back(s, 1, k))
+            + mul(less_sigma, word(s, k))
+            + mul(less_a, word(t, k))
+            + mul(p - 3, back(t, 2, k))
+            + mul(v.a, back(e, 1, k))
+            + mul(v.b, word(e, k))
+            + u64::from(back(e, 3, k));
+        put(out, k, rem(sum, p));
+    }
+}
+
+/// s_k = -2k c_k - (the sum of s_i c_(k - i), i from 1 to k - 1), where c is g reversed.
+pub fn power_sums(v: Values, g: &[u32], s: &mut [u32]) {
+    let p = v.p;
+    let n = g.len();
+    let mut c = [0u32; 256];
+    let c = &mut c[..n];
+    for i in 0..n {
+        put(c, i, at(g, n - 1 - i));
+    }
+    put(s, 0, (v.degree - 1) % p);
+    for k in 1..s.len() {
+        let w = if k < n {
+            times(2 * k as u32, at(c, k), p)
+        } else {
+            0
+        };
+        // SAFETY: 1 <= k < s.len()
+        let before = unsafe { s.get_unchecked(1..k) };
+        let x = neg(coefficient(w, before, c, k - 1, p), p);
+        put(s, k, x);
+    }
+}
+
+/// h_i = (2i + 1)s_(i+1) + (2i - 1)A s_(i-1) + (2i - 2)B s_(i-2); the multiples of A and B are added up.
+pub fn expansion(v: Values, s: &[u32], h: &mut [u32]) {
+    let p = v.p;
+    let (twice_a, twice_b) = (add(v.a, v.a, p), add(v.b, v.b, p));
+    let (mut ka, mut kb) = (v.a, 0);
+    put(h, 0, 0);
+    for i in 1..h.len() {
+        let sum = mul(2 * i as u32 + 1, at(s, i + 1))
+            + mul(ka, at(s, i - 1))
+            + mul(kb, at(s, i.saturating_sub(2)));
+        put(h, i, rem(sum, p));
+        ka = add(ka, twice_a, p);
+        kb = add(kb, twice_b, p);
+    }
+}
+
+/// The sum of h_i h_(k-1-i), i from 1 to k - 2.
+#[inline(always)]
+fn square_sum(h: &[u32], k: usize, p: u32) -> u32 {
+    // SAFETY: 3 <= k <= h.len()
+    square_coefficient(unsafe { h.get_unchecked(1..k - 1) }, k - 3, p)
+}
+
+/// (k - 2)((2k + 3)h_k + (2k - 3)A h_(k-2) + 2(k - 3)B h_(k-3)) = 3(the sum of h_i h_(k-1-i)), for k from 3.
+pub fn recurs(v: Values, h: &[u32]) -> bool {
+    let p = v.p;
+    let (twice_a, twice_b) = (add(v.a, v.a, p), add(v.b, v.b, p));
+    let (mut ka, mut kb) = (add(twice_a, v.a, p), 0);
+    for k in 3..h.len() {
+        let n = k as u32;
+        let u = rem(
+            mul(2 * n + 3, at(h, k)) + mul(ka, at(h, k - 2)) + mul(kb, at(h, k - 3)),
+            p,
+        );
+        let x = neg(square_sum(h, k, p), p);
+        if rem(mul(n - 2, u) + mul(3, x), p) != 0 {
+            return false;
+        }
+        ka = add(ka, twice_a, p);
+        kb = add(kb, twice_b, p);
+    }
+    true
+}
+
+/// R3, where 3l - 3 < p.
+pub fn rule_three(v: Values, g: &[u32]) -> bool {
+    let p = v.p;
+    let n = last(v.degree as usize) + 1;
+    let (mut s, mut h) = ([0u32; 512], [0u32; 512]);
+    let (s, h) = (&mut s[..n + 1], &mut h[..n]);
+    power_sums(v, g, s);
+    expansion(v, s, h);
+    if times(5, at(h, 1), p) != sub(v.a, v.atilde, p) {
+        return false;
+    }
+    if times(7, at(h, 2), p) != sub(v.b, v.btilde, p) {
+        return false;
+    }
+    recurs(v, h)
+}
+
+/// g from the codomain: the inverses, h by the recurrence, s from h, c by Newton's identities, and c reversed.
+pub fn candidate(v: Values, g: &mut [u32]) {
+    let p = v.p;
+    let d = g.len() - 1;
+    // The places that are used: 2d + 2 of the table, d of h, d + 1 of s and c.
+    let (mut table, mut h, mut s, mut c) = ([0u32; 256], [0u32; 256], [0u32; 256], [0u32; 256]);
+    put(&mut table, 1, 1);
+    for k in 2..2 * d as u32 + 2 {
+        let x = times(p - p / k, at(&table, (p % k) as usize), p);
+        put(&mut table, k as usize, x);
+    }
+    let over = |y: u32, k: usize| times(at(&table, k), y, p);
+    for k in 1..d {
+        let n = k as u32;
+        let x = match k {
+            1 => over(sub(v.a, v.atilde, p), 5),
+            2 => over(sub(v.b, v.btilde, p), 7),
+            _ => {
+                let sum = square_sum(&h, k, p);
+                let y = neg(times(v.a, at(&h, k - 2), p), p);
+                let z = neg(times(v.b, at(&h, k - 3), p), p);
+                let right =
+                    mul(3, sum) + mul((n - 2) * (2 * n - 3), y) + mul(2 * (n - 2) * (n - 3), z);
+                over(over(rem(right, p), 2 * k + 3), k - 2)
+            }
+        };
+        put(&mut h, k, x);
+    }
+    put(&mut s, 0, (v.degree - 1) % p);
+    put(&mut s, 1, v.sigma);
+    for k in 2..=d {
+        let i = k - 1;
+        let n = i as u32;
+        let y = neg(times(v.a, at(&s, i - 1), p), p);
+        let z = neg(times(v.b, at(&s, i.saturating_sub(2)), p), p);
+        let sum = u64::from(at(&h, i)) + mul(2 * n - 1, y) + mul(2 * n - 2, z);
+        put(&mut s, k, over(rem(sum, p), 2 * i + 1));
+    }
+    put(&mut c, 0, 1);
+    for k in 1..=d {
+        let sum = coefficient(0, &s[1..], &c[..k], k - 1, p);
+        put(&mut c, k, over(neg(sum, p), 2 * k));
+    }
+    for i in 0..=d {
+        put(g, i, at(&c, d - i));
+    }
+}

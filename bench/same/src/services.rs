@@ -1,0 +1,285 @@
+//! Reading, the five questions of a sheet's form and content, and the services check, solve, kernel and push.
+
+use crate::rules::{self, add, at, mul, neg, put, rem, sub, times};
+use crate::{Values, INFINITY, REFUSED};
+
+const ROOM: usize = 392;
+
+// ── questions 3 to 7
+
+fn is_prime(n: u32) -> bool {
+    if n < 2 {
+        return false;
+    }
+    if n.is_multiple_of(2) {
+        return n == 2;
+    }
+    let mut d = 3u32;
+    while d <= n / d {
+        if n.is_multiple_of(d) {
+            return false;
+        }
+        d += 2;
+    }
+    true
+}
+
+fn kind(w: u32) -> u32 {
+    w >> 28
+}
+
+fn value(w: u32) -> u32 {
+    w % (1 << 28)
+}
+
+fn nonsingular(a: u32, b: u32, p: u32) -> bool {
+    let cube = times(times(a, a, p), a, p);
+    add(times(4, cube, p), times(27, times(b, b, p), p), p) != 0
+}
+
+fn section(ws: &[u32], from: usize, to: usize, k: u32, p: u32) -> bool {
+    (from..to).all(|i| kind(at(ws, i)) == k && value(at(ws, i)) < p)
+}
+
+/// Questions 2 to 7 of a sheet whose header has these kinds, then g, then N where `numerator` says so.
+fn read(ws: &[u32], kinds: &[u32], g: bool, numerator: bool) -> Result<Values, u32> {
+    if ws.len() < kinds.len() || (0..kinds.len()).any(|i| kind(at(ws, i)) != at(kinds, i)) {
+        return Err(2);
+    }
+    let mut v = Values::default();
+    for (i, k) in kinds.iter().enumerate() {
+        let x = value(at(ws, i));
+        match k {
+            1 => v.p = x,
+            2 => v.a = x,
+            3 => v.b = x,
+            4 => v.atilde = x,
+            5 => v.btilde = x,
+            6 => v.degree = x,
+            _ => v.sigma = x,
+        }
+    }
+    let (p, l) = (v.p, v.degree);
+    if p < 11 || !is_prime(p) {
+        return Err(3);
+    }
+    if l.is_multiple_of(2) || !(3..=255).contains(&l) || p < 2 * l {
+        return Err(4);
+    }
+    if p <= v.a || p <= v.b || p <= v.atilde || p <= v.btilde || p <= v.sigma {
+        return Err(5);
+    }
+    let d = (l as usize - 1) / 2;
+    let from = kinds.len();
+    let middle = from + if g { d + 1 } else { 0 };
+    let end = middle + if numerator { 2 * d + 2 } else { 0 };
+    if ws.len() != end + 1 || at(ws, end) != 0xf000_0000 {
+        return Err(6);
+    }
+    if !section(ws, from, middle, 8, p) || !section(ws, middle, end, 9, p) {
+        return Err(6);
+    }
+    if !nonsingular(v.a, v.b, p) || (kinds.len() == 7 && !nonsingular(v.atilde, v.btilde, p)) {
+        return Err(7);
+    }
+    Ok(v)
+}
+
+fn coefficients(ws: &[u32], from: usize, out: &mut [u32]) {
+    for i in 0..out.len() {
+        put(out, i, value(at(ws, from + i)));
+    }
+}
+
+fn write(v: Values, g: &[u32], n: &[u32], out: &mut [u32]) -> u64 {
+    let header = [v.p, v.a, v.b, v.atilde, v.btilde, v.degree, v.sigma];
+    for (i, x) in header.iter().enumerate() {
+        put(out, i, ((i as u32 + 1) << 28) + x);
+    }
+    for i in 0..g.len() {
+        put(out, 7 + i, (8 << 28) + at(g, i));
+    }
+    for i in 0..n.len() {
+        put(out, 7 + g.len() + i, (9 << 28) + at(n, i));
+    }
+    let end = 7 + g.len() + n.len();
+    put(out, end, 15 << 28);
+    end as u64 + 1
+}
+
+// ── the services
+
+const CERTIFICATE: [u32; 7] = [1, 2, 3, 4, 5, 6, 7];
+const KERNEL: [u32; 4] = [1, 2, 3, 6];
+
+fn judge(v: Values, g: &[u32], n: &[u32]) -> u32 {
+    let p = v.p;
+    let d = g.len() - 1;
+    if at(g, d) != 1 || neg(times(2, at(g, d - 1), p), p) != v.sigma {
+        return 8;
+    }
+    let mut room = [0; 256];
+    let room = &mut room[..2 * d + 2];
+    rules::numerator(v, g, room);
+    if n != room {
+        return 9;
+    }
+    if rules::rule_three(v, g) {
+        0
+    } else {
+        10
+    }
+}
+
+/// The values, g and N of a certificate that passes.
+fn passed(bytes: &[u8], g: &mut [u32; 128], n: &mut [u32; 256]) -> Result<Values, u32> {
+    if !bytes.len().is_multiple_of(4) {
+        return Err(2);
+    }
+    let mut words = [0u32; ROOM + 1];
+    let count = (bytes.len() / 4).min(words.len());
+    for i in 0..count {
+        let byte = |j: usize| unsafe { *bytes.get_unchecked(4 * i + j) };
+        put(
+            &mut words,
+            i,
+            u32::from_le_bytes([byte(0), byte(1), byte(2), byte(3)]),
+        );
+    }
+    let ws = &words[..count];
+    let v = read(ws, &CERTIFICATE, true, true)?;
+    let d = (v.degree as usize - 1) / 2;
+    coefficients(ws, 7, &mut g[..d + 1]);
+    coefficients(ws, d + 8, &mut n[..2 * d + 2]);
+    match judge(v, &g[..d + 1], &n[..2 * d + 2]) {
+        0 => Ok(v),
+        k => Err(k),
+    }
+}
+
+pub fn check(bytes: &[u8]) -> u32 {
+    let (mut g, mut n) = ([0; 128], [0; 256]);
+    match passed(bytes, &mut g, &mut n) {
+        Ok(_) => 0,
+        Err(k) => k,
+    }
+}
+
+fn power(a: u32, e: u32, p: u32) -> u32 {
+    if e == 0 {
+        return 1;
+    }
+    let mut i = 31 - e.leading_zeros();
+    let mut r = a;
+    while 0 < i {
+        i -= 1;
+        r = times(r, r, p);
+        if (e >> i) % 2 == 1 {
+            r = times(r, a, p);
+        }
+    }
+    r
+}
+
+fn evaluate(a: &[u32], x: u32, p: u32) -> u32 {
+    let mut r = 0;
+    for i in (0..a.len()).rev() {
+        r = rem(u64::from(at(a, i)) + mul(x, r), p);
+    }
+    r
+}
+
+fn evaluate_derivative(a: &[u32], x: u32, p: u32) -> u32 {
+    let mut r = 0;
+    for i in (0..a.len()).rev() {
+        let c = if i + 1 < a.len() {
+            times(i as u32 + 1, at(a, i + 1), p)
+        } else {
+            0
+        };
+        r = rem(u64::from(c) + mul(x, r), p);
+    }
+    r
+}
+
+pub fn push(bytes: &[u8], point: u64) -> u64 {
+    let (mut g, mut n) = ([0; 128], [0; 256]);
+    let v = match passed(bytes, &mut g, &mut n) {
+        Ok(v) => v,
+        Err(k) => return REFUSED + u64::from(k),
+    };
+    if INFINITY < point {
+        return REFUSED + 12;
+    }
+    if point == INFINITY {
+        return INFINITY;
+    }
+    let p = v.p;
+    let (x, y) = ((point % (1 << 28)) as u32, (point >> 28) as u32);
+    let cubic = |x| add(times(add(times(x, x, p), v.a, p), x, p), v.b, p);
+    if p <= x || p <= y || times(y, y, p) != cubic(x) {
+        return REFUSED + 12;
+    }
+    let d = (v.degree as usize - 1) / 2;
+    let (g, n) = (&g[..d + 1], &n[..2 * d + 2]);
+    let gx = evaluate(g, x, p);
+    if gx == 0 {
+        return INFINITY;
+    }
+    let nx = evaluate(n, x, p);
+    let left = times(evaluate_derivative(n, x, p), gx, p);
+    let right = times(times(2, nx, p), evaluate_derivative(g, x, p), p);
+    let i = power(gx, p - 2, p);
+    let square = times(i, i, p);
+    let u = times(nx, square, p);
+    let w = times(y, times(sub(left, right, p), times(square, i, p), p), p);
+    u64::from(u) + (u64::from(w) << 28)
+}
+
+pub fn solve(ws: &[u32], answer: &mut [u32]) -> u64 {
+    if answer.len() < ROOM {
+        return REFUSED + 1;
+    }
+    let v = match read(ws, &CERTIFICATE, false, false) {
+        Ok(v) => v,
+        Err(k) => return REFUSED + u64::from(k),
+    };
+    let d = (v.degree as usize - 1) / 2;
+    let (mut g, mut n) = ([0; 128], [0; 256]);
+    let (g, n) = (&mut g[..d + 1], &mut n[..2 * d + 2]);
+    rules::candidate(v, g);
+    rules::numerator(v, g, n);
+    if !rules::rule_three(v, g) {
+        return REFUSED + 11;
+    }
+    write(v, g, n, answer)
+}
+
+pub fn kernel(ws: &[u32], answer: &mut [u32]) -> u64 {
+    if answer.len() < ROOM {
+        return REFUSED + 1;
+    }
+    let mut v = match read(ws, &KERNEL, true, false) {
+        Ok(v) => v,
+        Err(k) => return REFUSED + u64::from(k),
+    };
+    let p = v.p;
+    let d = (v.degree as usize - 1) / 2;
+    let (mut g, mut n) = ([0; 128], [0; 256]);
+    let (g, n) = (&mut g[..d + 1], &mut n[..2 * d + 2]);
+    coefficients(ws, 4, g);
+    if at(g, d) != 1 {
+        return REFUSED + 8;
+    }
+    let (mut s, mut h) = ([0; 4], [0; 3]);
+    rules::power_sums(v, g, &mut s);
+    rules::expansion(v, &s, &mut h);
+    v.sigma = neg(times(2, at(g, d - 1), p), p);
+    v.atilde = sub(v.a, times(5, h[1], p), p);
+    v.btilde = sub(v.b, times(7, h[2], p), p);
+    rules::numerator(v, g, n);
+    if !nonsingular(v.atilde, v.btilde, p) || !rules::rule_three(v, g) {
+        return REFUSED + 11;
+    }
+    write(v, g, n, answer)
+}

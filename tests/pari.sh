@@ -1,0 +1,44 @@
+#!/bin/sh
+# Compares kernel, solve, push and name with PARI/GP: some 5,000 kernels of every
+# odd degree, and points and j-values with them. Installs pari-gp where it is
+# missing; where that fails the comparison is skipped, and the last line says so.
+# SAGEPLIERS_LIB_DIR names the directory of libsagepliers.a, by default the one
+# that rt writes.
+set -eu
+here=$(pwd)
+cd "$(dirname "$0")"
+. ./environment.sh
+
+if ! command -v gp >/dev/null; then
+    apt-get install -y --no-install-recommends pari-gp >&2 ||
+        { apt-get update >&2 && apt-get install -y --no-install-recommends pari-gp >&2; } || true
+fi
+if ! command -v gp >/dev/null; then
+    echo "PARI/GP IS MISSING AND CANNOT BE INSTALLED: NOTHING WAS COMPARED WITH IT" >&2
+    echo "PARI/GP: SKIPPED, gp is missing"
+    exit 0
+fi
+
+# A relative directory is meant from where the script was called.
+SAGEPLIERS_LIB_DIR=$(cd "$here" && cd "${SAGEPLIERS_LIB_DIR:-$CARGO_TARGET_DIR/../staticlib}" && pwd)
+export SAGEPLIERS_LIB_DIR
+if [ ! -f "$SAGEPLIERS_LIB_DIR/libsagepliers.a" ]; then
+    echo "no libsagepliers.a in $SAGEPLIERS_LIB_DIR" >&2
+    exit 1
+fi
+cargo build -q -j1 --release -p pari
+script=$CARGO_TARGET_DIR/pari.gp
+if ! "$CARGO_TARGET_DIR/release/pari" "$script"; then
+    echo "PARI/GP: the comparison failed"
+    exit 1
+fi
+# gp goes on after an error and ends with status 0, so its last line counts.
+verdict=$(gp -q -f --default parisize=128M pari/compare.gp "$script" </dev/null 2>&1 | tee "$CARGO_TARGET_DIR/pari.log" | tail -n 1)
+case $verdict in
+"PARI/GP "*": 0 differences") echo "$verdict" ;;
+*)
+    head -n 40 "$CARGO_TARGET_DIR/pari.log" >&2
+    echo "PARI/GP: the comparison failed"
+    exit 1
+    ;;
+esac

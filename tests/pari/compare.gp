@@ -1,0 +1,42 @@
+\\ Computes with PARI what the library answered, for the calls that the driver writes: isogeny for each kernel, then goes for points through that
+\\ isogeny, name for curves, and finish with how many of each there must have been. The last line is the verdict.
+
+differences = 0;
+isogenies = points = infinities = names = 0;
+
+differs(what) = {
+  differences++;
+  if (differences <= 10, print("DIFFERENCE: ", what));
+};
+
+\\ The domain (a, b), the codomain (at, bt), sigma, g and N over p: codomain, numerators of both coordinates and kernel polynomial.
+isogeny(p, a, b, at, bt, l, sigma, g, n) = {
+  my(one = Mod(1, p), G = Polrev(g) * one, N = Polrev(n) * one, E = ellinit([a, b], p), R = ellisogeny(E, G), W);
+  isogenies++;
+  here = [p, a, b, l];
+  map = R[2];
+  W = deriv(N) * G - 2 * N * deriv(G);
+  if (R[1] != [0, 0, 0, at, bt] * one, differs(["codomain", here]));
+  if (poldegree(map[1]) != l || map[1] != N, differs(["N", here]));
+  if (map[3] != G, differs(["g", here]));
+  if (map[2] != y * W, differs(["numerator of y", here]));
+  if (-2 * polcoef(G, (l - 3) / 2) != sigma * one, differs(["sigma", here]));
+};
+
+\\ The point P must go to Q through the last isogeny.
+goes(P, Q) = {
+  my(R = ellisogenyapply(map, P));
+  points++;
+  if (Q == [0], infinities++);
+  if (R != Q, differs(["point", here, P, Q, R]));
+};
+
+name(p, a, b, j) = {
+  names++;
+  if (lift(ellinit([a, b], p).j) != j, differs(["name", p, a, b, j]));
+};
+
+finish(i, m, f, k) = {
+  if ([isogenies, points, infinities, names] != [i, m, f, k], differs("the script was cut short"));
+  print("PARI/GP ", strjoin(apply(n -> Str(n), version()[1..3]), "."), ": ", isogenies, " kernels, ", points, " points, ", infinities, " of them to infinity, ", names, " names: ", differences, " differences");
+};
