@@ -1,4 +1,4 @@
--- From the words that code computes to R3: the conditions on the expansion read it up to 2ℓ − 1, and the words hold it so far.
+-- From the words that code computes to R3: the conditions on the expansion read it up to ℓ, and the words hold it so far.
 -- Assumes nothing.
 use mathlib.Core.Path.{_≡_, sym, _∙_, ap, subst}
 use mathlib.Core.Logic.{_↔_}
@@ -8,34 +8,17 @@ use Prim.Native.Nat.{ℕ, suc, _+_, _*_, _-_, _≤_, _<_}
 use native.Mathlib.Omega.{arith}
 use lib.ListN.{length, getD}
 use Rattle.ring.specs.Ring.{CRing, cast}
-use Rattle.series.specs.Series.{Seq}
 use Rattle.series.specs.Recursion.{Before}
 use Rattle.zmod.specs.Zmod.{Elt, Zmod, mk, plus, minus, times, cast-mk}
 use Rattle.zmod.specs.Prime.{Prime}
 use Rattle.zmod.specs.Residues.{Residue, Reduced, poly, poly-at, Residues, residue-same, residue-unique}
 use Rattle.isogeny.specs.Rules.{Question, ℓ, N, R1, R3}
 use Rattle.isogeny.specs.Expansion.{Short, Recurs, expansion, power-sums}
-use Rattle.isogeny.specs.Proof.Terms.{recurrence-same}
+use Rattle.isogeny.specs.Proof.Terms.{expansion-same, short-same}
 use Rattle.isogeny.specs.Theorems.{fast}
 use Rattle.sheet.specs.declared.Values.{Values}
 use Rattle.rules.specs.Question.{half, question}
 use Rattle.rules.specs.Ready.{Ready}
-use Rattle.expansion.proofs.Causal.{expansion-same}
-
--- ── the conditions read the expansion up to 2ℓ − 1
-
-module _ (R : CRing) (q : Question R) (d≥1 : 1 ≤ q .d) where
-  open Question q using (A, B)
-  open CRing R using (Car, mul)
-
-  pub short-same : (a b : Seq R) → Before Car (2 * ℓ R q) a b → Short R q a → Short R q b
-  short-same a b e x = record {
-    first = ap (mul (cast R 5)) (sym (e 1 (omega arith))) ∙ x .first;
-    second = ap (mul (cast R 7)) (sym (e 2 (omega arith))) ∙ x .second;
-    recurs = λ k l m.
-        ap (mul (mul (cast R (k - 2)) (cast R (2 * k + 3)))) (sym (e k (omega arith))) ∙ x .recurs k l m
-        ∙ recurrence-same R A B k l a b (λ i n. e i (omega arith));
-  }
 
 -- ── the conditions, tested
 
@@ -59,7 +42,7 @@ module _ (v : Values) (h : List ℕ) where
       pub second-no : (x₂ ≡ y₂ → ⊥) → (false ≡ true) ↔ Short (Zmod p) (question v) (poly p h)
       second-no other = (λ e. absurd (false≢true e), λ short. absurd (other (same 7 2 (v .b) (v .btilde) x₂ y₂ hx₂ hy₂ .1 (short .second))))
 
-      pub all-yes : (r : Bool) → Ready v → length h ≡ 2 * v .degree → x₁ ≡ y₁ → x₂ ≡ y₂
+      pub all-yes : (r : Bool) → Ready v → length h ≡ v .degree + 1 → x₁ ≡ y₁ → x₂ ≡ y₂
           → (r ≡ true) ↔ ((k : ℕ) → 3 ≤ k → k < length h → Recurs (Zmod p) (question v .A) (question v .B) (poly p h) k)
           → (r ≡ true) ↔ Short (Zmod p) (question v) (poly p h)
       all-yes r ready size e₁ e₂ more = (
@@ -74,7 +57,7 @@ module _ (v : Values) (h : List ℕ) where
 -- ── from the conditions to R3
 
 module _ (v : Values) (ready : Ready v) (P : Prime (v .p)) (large : 3 * v .degree - 3 < v .p) (g s h : List ℕ)
-    (r1 : R1 (Zmod (v .p)) (question v) (poly (v .p) g)) (s-size : length s ≡ 2 * v .degree + 1) (h-size : length h ≡ 2 * v .degree)
+    (r1 : R1 (Zmod (v .p)) (question v) (poly (v .p) g)) (s-size : length s ≡ v .degree + 2) (h-size : length h ≡ v .degree + 1)
     (sums : Residues (v .p) (power-sums (Zmod (v .p)) (half v) (poly (v .p) g)) s)
     (expanded : Residues (v .p) (expansion (Zmod (v .p)) (question v .A) (question v .B) (poly (v .p) s)) h) where
   abbrev R : CRing
@@ -83,15 +66,15 @@ module _ (v : Values) (ready : Ready v) (P : Prime (v .p)) (large : 3 * v .degre
   abbrev q : Question R
   q = question v
 
-  whole : Before (Elt (v .p)) (2 * ℓ R q) (poly (v .p) h) (expansion R (q .A) (q .B) (power-sums R (half v) (poly (v .p) g)))
+  whole : Before (Elt (v .p)) (suc (ℓ R q)) (poly (v .p) h) (expansion R (q .A) (q .B) (power-sums R (half v) (poly (v .p) g)))
   whole i l =
       expanded .coefficients i (omega (arith, ready .odd))
-      ∙ expansion-same R (q .A) (q .B) i (poly (v .p) s) (power-sums R (half v) (poly (v .p) g)) (λ j m. sums .coefficients j (omega (arith, ready .odd)))
+      ∙ expansion-same R (q .A) (q .B) (suc (ℓ R q)) (poly (v .p) s) (power-sums R (half v) (poly (v .p) g)) (λ j m. sums .coefficients j (omega (arith, ready .odd))) i l
 
   pub decided : (r : Bool) → (r ≡ true) ↔ Short R q (poly (v .p) h) → (r ≡ true) ↔ R3 R q (poly (v .p) g) (N R q (poly (v .p) g))
   decided r test = (
-    λ t. by-theorem .1 (short-same R q (ready .least) (poly (v .p) h) _ whole (test .0 t)),
-    λ r3. test .1 (short-same R q (ready .least) _ (poly (v .p) h) (λ i l. sym (whole i l)) (by-theorem .0 r3)),
+    λ t. by-theorem .1 (short-same R q (poly (v .p) h) _ whole (ready .least) (test .0 t)),
+    λ r3. test .1 (short-same R q _ (poly (v .p) h) (λ i l. sym (whole i l)) (ready .least) (by-theorem .0 r3)),
   )
     where
       by-theorem : R3 R q (poly (v .p) g) (N R q (poly (v .p) g)) ↔ Short R q (expansion R (q .A) (q .B) (power-sums R (half v) (poly (v .p) g)))

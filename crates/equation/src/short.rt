@@ -1,4 +1,4 @@
-// R3 by the expansion at infinity, for a g with R1 and p > 3ℓ - 3: two equations for the codomain, and the recurrence up to 2ℓ - 1.
+// R3 by the expansion at infinity, for a g with R1 and p > 3ℓ - 3: two equations for the codomain, and the recurrence up to ℓ.
 use sheet::Values;
 ghost use mathlib.Core.Path.{_≡_};
 ghost use mathlib.Core.Logic.{_↔_};
@@ -14,13 +14,13 @@ ghost use Rattle.rules.specs.Question.{half, question};
 ghost use Rattle.rules.specs.Ready.{Ready};
 
 // Room for the power sums, and for the expansion. (As the result of a call its words stay out of the callers' proofs.)
-fn blank512() -> [u32; 512] {
-    [0; 512]
+fn blank257() -> [u32; 257] {
+    [0; 257]
 }
 
 // Are 5h₁ = A - Ã and 7h₂ = B - B̃, and does h obey the recurrence?
 fn conditions(v: Values, h: &[u32]) -> bool
-    requires { ⌜ (Ready v) × (length (now h) ≡ 2 * v .degree) × (Reduced (v .p) (now h)) ⌝ }
+    requires { ⌜ (Ready v) × (length (now h) ≡ v .degree + 1) × (Reduced (v .p) (now h)) ⌝ }
     ensures { λ r. ⌜ (r ≡ true) ↔ Short (Zmod (v .p)) (question v) (poly (v .p) (now (h .entry))) ⌝ }
 {
     let p = v.p;
@@ -37,7 +37,7 @@ fn conditions(v: Values, h: &[u32]) -> bool
 fn by_expansion_in(v: Values, g: &[u32], s: &mut [u32], h: &mut [u32]) -> bool
     requires { ⌜ (Ready v) × Prime (v .p) × (3 * v .degree - 3 < v .p) ⌝ }
     requires { ⌜ (length (now g) ≡ half v + 1) × (Reduced (v .p) (now g)) × R1 (Zmod (v .p)) (question v) (poly (v .p) (now g)) ⌝ }
-    requires { ⌜ (length (now s) ≡ 2 * v .degree + 1) × (length (now h) ≡ 2 * v .degree) ⌝ }
+    requires { ⌜ (length (now s) ≡ v .degree + 2) × (length (now h) ≡ v .degree + 1) ⌝ }
     ensures { λ r. ⌜ (r ≡ true) ↔ (R3 (Zmod (v .p)) (question v) (poly (v .p) (now (g .entry))) (N (Zmod (v .p)) (question v) (poly (v .p) (now (g .entry))))) ⌝ }
 {
     expansion::power_sums(v, g, s);
@@ -51,8 +51,8 @@ pub fn by_expansion(v: Values, g: &[u32]) -> bool
     requires { ⌜ (length (now g) ≡ half v + 1) × (Reduced (v .p) (now g)) × R1 (Zmod (v .p)) (question v) (poly (v .p) (now g)) ⌝ }
     ensures { λ r. ⌜ (r ≡ true) ↔ (R3 (Zmod (v .p)) (question v) (poly (v .p) (now (g .entry))) (N (Zmod (v .p)) (question v) (poly (v .p) (now (g .entry))))) ⌝ }
 {
-    let n = 2 * (v.degree as usize);
-    let mut s = blank512();
-    let mut h = blank512();
-    by_expansion_in(v, g, &mut s[..n + 1], &mut h[..n])
+    let n = v.degree as usize;
+    let mut s = blank257();
+    let mut h = blank257();
+    by_expansion_in(v, g, &mut s[..n + 2], &mut h[..n + 1])
 }

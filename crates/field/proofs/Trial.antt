@@ -40,14 +40,11 @@ clear-more d n od on below here k lo hi dv = go (decLt k d) (ℕ-discrete k d)
     go (no ge) (no ne) = even-divides k n (omega arith) on dv
 
 -- a turn is at a number whose double is at most n
-pub twice-le : (d n : ℕ) → 1 < d → d ≤ n / d → d * 2 ≤ n
-twice-le d n lo h = omega (arith, N.mul-le-mul-left d lo, N.le-div-iff-mul-le {k = d} {x = d} {y = n} (omega arith) .0 h)
+pub twice-le : (d n : ℕ) → 1 < d → d * d ≤ n → d * 2 ≤ n
+twice-le d n lo h = omega (arith, N.mul-le-mul-left d lo)
 
 -- with nothing found up to the root, nothing divides n
-module _ (d n : ℕ) (lo : 1 < d) (past : n / d < d) (below : Clear d n) (big : 1 < n) where
-  root : n < d * d
-  root = N.div-lt-iff-lt-mul {k = d} {x = n} {y = d} (omega arith) .0 past
-
+module _ (d n : ℕ) (lo : 1 < d) (root : n < d * d) (below : Clear d n) (big : 1 < n) where
   -- the cofactor m of a divisor k that is at least d is a divisor too, and is below d
   cofactor : (k : ℕ) → d ≤ k → k < n → k ∣ n → ⊥
   cofactor k ge lt dv = go (decLt m d)

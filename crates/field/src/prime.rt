@@ -4,7 +4,7 @@ ghost use mathlib.Core.Logic.{_↔_};
 ghost use mathlib.Core.Bool.{true};
 ghost use Rattle.zmod.specs.Prime.{Prime};
 
-// 2 is tried apart, then the odd numbers up to the root of n.
+// 2 is tried apart, then the odd numbers up to the root of n: the square is cheaper to compare than a quotient.
 pub fn is_prime(n: u32) -> bool
     ensures { λ r. ⌜ (r ≡ true) ↔ Prime n ⌝ }
 {
@@ -15,7 +15,7 @@ pub fn is_prime(n: u32) -> bool
         return n == 2;
     }
     let mut d: u32 = 3;
-    while d <= n / d {
+    while (d as u64) * (d as u64) <= (n as u64) {
         if n % d == 0 {
             return false;
         }

@@ -12,7 +12,7 @@ use Rattle.ring.specs.Identity.Ex.{var, num, :0, :1, _:+_, _:-_, _:*_, :-_, _:^
 use Rattle.ring.specs.Derivative.{derive}
 use Rattle.series.specs.Series.{Series, Seq, Formal, const, ∂, ∂-at, sum}
 use Rattle.series.specs.Degree.{Below}
-use Rattle.series.specs.Indeterminate.{ind, conv-cast}
+use Rattle.series.specs.Indeterminate.{ind, ∂-ind, ∂-const, conv-cast}
 use Rattle.series.specs.Reversal.{rev}
 use Rattle.isogeny.specs.Rules.{Question, R1, Meets, f, N, W, left, right}
 use Rattle.isogeny.specs.Expansion.{Newton, expansion, PowerSums, power-sums, Short}
@@ -50,17 +50,6 @@ module _ (R : CRing) (B : R .Car) where
 
   -- ── x and the constants of the question
 
-  ∂x : ∂ R x ≡ 𝟙
-  unfolding ind
-  ∂x = fun-ext go
-    where
-      go : (i : ℕ) → ∂ R x i ≡ 𝟙 i
-      go zero = ∂-at R x 0 ∙ solve1 R (λ y. num 1 :* :1) (λ y. :1) tt (R .𝟘)
-      go (suc i) = ∂-at R x (suc i) ∙ Ring.mul-zero R _
-
-  ∂c : (c : R .Car) → ∂ R (const R c) ≡ 𝟘
-  ∂c c = fun-ext λ i. ∂-at R (const R c) i ∙ Ring.mul-zero R _
-
   no-A : const R (R .𝟘) ≡ 𝟘
   no-A = fun-ext go
     where
@@ -80,20 +69,20 @@ module _ (R : CRing) (B : R .Car) where
   pub N-is : N R q x ≡ x ^ 3 ⊕ # 4 ⊗ b
   unfolding N f
   N-is =
-      ap₂ (λ d z. (# 3 ⊗ x ⊖ z) ⊗ x ^ 2 ⊖ # 2 ⊗ (# 3 ⊗ x ^ 2 ⊕ z) ⊗ x ⊗ d ⊖ # 4 ⊗ (x ^ 3 ⊕ z ⊗ x ⊕ b) ⊗ (x ⊗ ∂ R d ⊖ d ^ 2)) ∂x no-A
-      ∙ ap (λ e. (# 3 ⊗ x ⊖ 𝟘) ⊗ x ^ 2 ⊖ # 2 ⊗ (# 3 ⊗ x ^ 2 ⊕ 𝟘) ⊗ x ⊗ 𝟙 ⊖ # 4 ⊗ (x ^ 3 ⊕ 𝟘 ⊗ x ⊕ b) ⊗ (x ⊗ e ⊖ 𝟙 ^ 2)) (∂c (R .𝟙))
+      ap₂ (λ d z. (# 3 ⊗ x ⊖ z) ⊗ x ^ 2 ⊖ # 2 ⊗ (# 3 ⊗ x ^ 2 ⊕ z) ⊗ x ⊗ d ⊖ # 4 ⊗ (x ^ 3 ⊕ z ⊗ x ⊕ b) ⊗ (x ⊗ ∂ R d ⊖ d ^ 2)) (∂-ind R) no-A
+      ∙ ap (λ e. (# 3 ⊗ x ⊖ 𝟘) ⊗ x ^ 2 ⊖ # 2 ⊗ (# 3 ⊗ x ^ 2 ⊕ 𝟘) ⊗ x ⊗ 𝟙 ⊖ # 4 ⊗ (x ^ 3 ⊕ 𝟘 ⊗ x ⊕ b) ⊗ (x ⊗ e ⊖ 𝟙 ^ 2)) (∂-const R (R .𝟙))
       ∙ solve2 (Series R)
       (λ x b. (num 3 :* x :- :0) :* x :^ 2 :- num 2 :* (num 3 :* x :^ 2 :+ :0) :* x :* :1 :- num 4 :* (x :^ 3 :+ :0 :* x :+ b) :* (x :* :0 :- :1 :^ 2))
       (λ x b. x :^ 3 :+ num 4 :* b) tt x b
 
   ∂N : ∂ R (x ^ 3 ⊕ # 4 ⊗ b) ≡ # 3 ⊗ x ^ 2
-  ∂N = derive (Series R) (Formal R) (x ∷ b ∷ []) (:1 ∷ :0 ∷ []) (∂x, (∂c B, tt)) (var 0 :^ 3 :+ num 4 :* var 1) (num 3 :* var 0 :^ 2) tt tt
+  ∂N = derive (Series R) (Formal R) (x ∷ b ∷ []) (:1 ∷ :0 ∷ []) (∂-ind R, (∂-const R B, tt)) (var 0 :^ 3 :+ num 4 :* var 1) (num 3 :* var 0 :^ 2) tt tt
 
   pub W-is : W R q x (N R q x) ≡ x ^ 3 ⊖ # 8 ⊗ b
   unfolding W
   W-is =
       ap (λ n. ∂ R n ⊗ x ⊖ # 2 ⊗ n ⊗ ∂ R x) N-is
-      ∙ ap₂ (λ m d. m ⊗ x ⊖ # 2 ⊗ (x ^ 3 ⊕ # 4 ⊗ b) ⊗ d) ∂N ∂x
+      ∙ ap₂ (λ m d. m ⊗ x ⊖ # 2 ⊗ (x ^ 3 ⊕ # 4 ⊗ b) ⊗ d) ∂N (∂-ind R)
       ∙ solve2 (Series R) (λ x b. num 3 :* x :^ 2 :* x :- num 2 :* (x :^ 3 :+ num 4 :* b) :* :1) (λ x b. x :^ 3 :- num 8 :* b) tt x b
 
   r3 : left R q x (N R q x) ≡ right R q x (N R q x)

@@ -76,7 +76,7 @@ module _ (R : CRing) where
     pub record Short (h : Seq R) : Type 0 where
       pub first : # 5 ⊗ h 1 ≡ A ⊖ Ã
       pub second : # 7 ⊗ h 2 ≡ B ⊖ B̃
-      pub recurs : (k : ℕ) → 3 ≤ k → k ≤ 2 * ℓ R q - 1 → Recurs A B h k
+      pub recurs : (k : ℕ) → 3 ≤ k → k ≤ ℓ R q → Recurs A B h k
 
     -- for a small prime e, at most 3ℓ − 3, one coefficient of R3 besides: that of x^(3ℓ − 3 − e)
     abbrev pub Extra : Seq R → ℕ → Type 0

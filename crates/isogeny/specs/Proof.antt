@@ -15,6 +15,7 @@ pub mod Cancelling
 pub mod Existence
 pub mod Determined
 pub mod Second
+pub mod Factor
 pub mod Fast
 pub mod Quotient
 pub mod Codomain

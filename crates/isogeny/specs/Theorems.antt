@@ -150,37 +150,37 @@ module _ {p : ℕ} (P : Prime p) where
     pub W-at-is : (u : Car) → W-at R q g n u ≡ value R (suc (ℓ R q)) (∂ R n) u ⊗ g-at R q g u ⊖ # 2 ⊗ N-at R q n u ⊗ value R (suc d) (∂ R g) u
     W-at-is = I.W-at-is R q g n g-below n-below
 
-  -- ── 5. R3 by the recurrence: for a g with R1, and power sums s₀ to s_(2ℓ) of g
+  -- ── 5. R3 by the recurrence: for a g with R1, and power sums s₀ to s_(ℓ + 1) of g
 
   module _ (q : Question R) (d≥1 : 1 ≤ q .d) (g : Seq R) (r1 : R1 R q g) where
     open Question q using (A, B, Ã, B̃, d)
 
-    -- If p > 3ℓ − 3, R3 holds exactly when 5h₁ = A − Ã, 7h₂ = B − B̃ and document 01's recurrence holds for every k from 3 to 2ℓ − 1.
-    pub fast-from : 3 * ℓ R q - 3 < p → (s : Seq R) → PowerSums R d g (2 * ℓ R q) s → R3 R q g (N R q g) ↔ Short R q (expansion R A B s)
+    -- If p > 3ℓ − 3, R3 holds exactly when 5h₁ = A − Ã, 7h₂ = B − B̃ and document 01's recurrence holds for every k from 3 to ℓ.
+    pub fast-from : 3 * ℓ R q - 3 < p → (s : Seq R) → PowerSums R d g (suc (ℓ R q)) s → R3 R q g (N R q g) ↔ Short R q (expansion R A B s)
     fast-from large s sums = Fast.fast R q d≥1 g r1 s sums (cancels P (3 * ℓ R q - 3) large)
 
     -- The same, with the power sums as a function of g.
     pub fast : 3 * ℓ R q - 3 < p → R3 R q g (N R q g) ↔ Short R q (expansion R A B (power-sums R d g))
-    fast large = fast-from large (power-sums R d g) (power-sums-exist d g (r1 .leading) (2 * ℓ R q))
+    fast large = fast-from large (power-sums R d g) (power-sums-exist d g (r1 .leading) (suc (ℓ R q)))
 
     -- For every p that question 4 lets through: one coefficient of R3 more where p ≤ 3ℓ − 3, that of x^(3ℓ − 3 − p).
-    pub fast-always : 2 * ℓ R q - 1 < p → (s : Seq R) → PowerSums R d g (2 * ℓ R q) s → R3 R q g (N R q g) ↔ (Short R q (expansion R A B s) × Extra R q g p)
+    pub fast-always : 2 * ℓ R q - 1 < p → (s : Seq R) → PowerSums R d g (suc (ℓ R q)) s → R3 R q g (N R q g) ↔ (Short R q (expansion R A B s) × Extra R q g p)
     fast-always small s sums = Fast.fast-but R q d≥1 g r1 s sums p (omega arith) (cancels-but P (3 * ℓ R q - 3) (omega arith))
 
     -- To the codomain that g gives, R3 holds exactly when the recurrence does,
-    pub fast-kernel : 3 * ℓ R q - 3 < p → (s : Seq R) → PowerSums R d g (2 * ℓ R q) s → Ã ≡ codomain-A R A B s → B̃ ≡ codomain-B R A B s
-        → R3 R q g (N R q g) ↔ ((k : ℕ) → 3 ≤ k → k ≤ 2 * ℓ R q - 1 → Recurs R A B (expansion R A B s) k)
+    pub fast-kernel : 3 * ℓ R q - 3 < p → (s : Seq R) → PowerSums R d g (suc (ℓ R q)) s → Ã ≡ codomain-A R A B s → B̃ ≡ codomain-B R A B s
+        → R3 R q g (N R q g) ↔ ((k : ℕ) → 3 ≤ k → k ≤ ℓ R q → Recurs R A B (expansion R A B s) k)
     fast-kernel large s sums a b =
         let one : R3 R q g (N R q g) ↔ Short R q (expansion R A B s) = fast-from large s sums in
-        let two : Short R q (expansion R A B s) ↔ ((k : ℕ) → 3 ≤ k → k ≤ 2 * ℓ R q - 1 → Recurs R A B (expansion R A B s) k) = Fast.short-kernel R q (expansion R A B s) a b in
+        let two : Short R q (expansion R A B s) ↔ ((k : ℕ) → 3 ≤ k → k ≤ ℓ R q → Recurs R A B (expansion R A B s) k) = Fast.short-kernel R q (expansion R A B s) a b in
         (λ r3. two .0 (one .0 r3), λ rec. one .1 (two .1 rec))
 
     -- with the one coefficient more where p ≤ 3ℓ − 3.
-    pub fast-kernel-always : 2 * ℓ R q - 1 < p → (s : Seq R) → PowerSums R d g (2 * ℓ R q) s → Ã ≡ codomain-A R A B s → B̃ ≡ codomain-B R A B s
-        → R3 R q g (N R q g) ↔ (((k : ℕ) → 3 ≤ k → k ≤ 2 * ℓ R q - 1 → Recurs R A B (expansion R A B s) k) × Extra R q g p)
+    pub fast-kernel-always : 2 * ℓ R q - 1 < p → (s : Seq R) → PowerSums R d g (suc (ℓ R q)) s → Ã ≡ codomain-A R A B s → B̃ ≡ codomain-B R A B s
+        → R3 R q g (N R q g) ↔ (((k : ℕ) → 3 ≤ k → k ≤ ℓ R q → Recurs R A B (expansion R A B s) k) × Extra R q g p)
     fast-kernel-always small s sums a b =
         let one : R3 R q g (N R q g) ↔ (Short R q (expansion R A B s) × Extra R q g p) = fast-always small s sums in
-        let two : Short R q (expansion R A B s) ↔ ((k : ℕ) → 3 ≤ k → k ≤ 2 * ℓ R q - 1 → Recurs R A B (expansion R A B s) k) = Fast.short-kernel R q (expansion R A B s) a b in
+        let two : Short R q (expansion R A B s) ↔ ((k : ℕ) → 3 ≤ k → k ≤ ℓ R q → Recurs R A B (expansion R A B s) k) = Fast.short-kernel R q (expansion R A B s) a b in
         (λ r3. (two .0 (one .0 r3 .0), one .0 r3 .1), λ rec. one .1 (two .1 (rec .0), rec .1))
 
     -- ── 6. what document 01 says besides, for a g with R1

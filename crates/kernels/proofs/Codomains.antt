@@ -33,7 +33,7 @@ use Rattle.answers.specs.declared.Written.the-variants.{Count, Refused}
 use Rattle.answers.specs.Asked.{enough, Leading, Passing, Codomain, kernel-asks}
 use Rattle.answers.specs.Answer.{KernelRight}
 use Rattle.kernels.specs.Kernels.{with, Completed, Done, Finished}
-use Rattle.expansion.proofs.Causal.{expansion-same}
+use Rattle.isogeny.specs.Proof.Terms.{expansion-same}
 use Rattle.answers.proofs.Numerators.{whole-numerator-of}
 
 -- ── the values, from four power sums and h₁ and h₂
@@ -53,12 +53,12 @@ module _ (v : Values) (g s h : List ℕ) (g-length : length g ≡ half v + 1) (l
   first : mk p (getD h 1 0) ≡ from-sums (Zmod p) (mk p (v .a)) (mk p (v .b)) ps 1
   first =
       sym (poly-at p h 1) ∙ expanded .coefficients 1 (omega arith)
-      ∙ expansion-same (Zmod p) (mk p (v .a)) (mk p (v .b)) 1 (poly p s) ps (λ i l. sum-at i (omega arith))
+      ∙ expansion-same (Zmod p) (mk p (v .a)) (mk p (v .b)) 3 (poly p s) ps sum-at 1 (omega arith)
 
   second : mk p (getD h 2 0) ≡ from-sums (Zmod p) (mk p (v .a)) (mk p (v .b)) ps 2
   second =
       sym (poly-at p h 2) ∙ expanded .coefficients 2 (omega arith)
-      ∙ expansion-same (Zmod p) (mk p (v .a)) (mk p (v .b)) 2 (poly p s) ps (λ i l. sum-at i (omega arith))
+      ∙ expansion-same (Zmod p) (mk p (v .a)) (mk p (v .b)) 3 (poly p s) ps sum-at 2 (omega arith)
 
   pub completes : {ã b̃ t σ : ℕ} → Residue p (plus p (mk p (v .a)) (minus p (times p (mk p 5) (mk p (getD h 1 0))))) ã
       → Residue p (plus p (mk p (v .b)) (minus p (times p (mk p 7) (mk p (getD h 2 0))))) b̃

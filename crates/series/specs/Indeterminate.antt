@@ -56,6 +56,17 @@ module _ (R : CRing) where
       go (suc zero) = D-at R ind 1 ∙ solve1 R (λ y. num 1 :* :1) (λ y. :1) tt 𝟘
       go (suc (suc i)) = D-at R ind (suc (suc i)) ∙ Ring.mul-zero R _
 
+  pub ∂-const : (c : Car) → ∂ R (const R c) ≡ CRing.𝟘 (Series R)
+  ∂-const c = fun-ext λ i. S.∂-at R (const R c) i ∙ Ring.mul-zero R _
+
+  pub ∂-ind : ∂ R ind ≡ CRing.𝟙 (Series R)
+  unfolding ind
+  ∂-ind = fun-ext go
+    where
+      go : (i : ℕ) → ∂ R ind i ≡ CRing.𝟙 (Series R) i
+      go zero = S.∂-at R ind 0 ∙ solve1 R (λ y. num 1 :* :1) (λ y. :1) tt 𝟘
+      go (suc i) = S.∂-at R ind (suc i) ∙ Ring.mul-zero R _
+
   -- x a′
   pub D-is : (a : Seq R) → ind *ₛ ∂ R a ≡ D R a
   D-is a = conv-ind (∂ R a) ∙ fun-ext go

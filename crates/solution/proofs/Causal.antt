@@ -7,9 +7,8 @@ use Rattle.ring.specs.Ring.{CRing, cast}
 use Rattle.series.specs.Series.{Seq, sum-same}
 use Rattle.series.specs.Recursion.{Before}
 use Rattle.isogeny.specs.Rules.{Question}
-use Rattle.isogeny.specs.Expansion.{sum-to}
+use Rattle.isogeny.specs.Expansion.{sum-to, from-sums}
 use Rattle.isogeny.specs.Proof.Terms.{recurrence-same}
-use Rattle.expansion.proofs.Causal.{from-sums-same}
 use Rattle.solution.specs.Equations.{HAt, SAt, CAt}
 
 module _ (R : CRing) where
@@ -29,11 +28,14 @@ module _ (R : CRing) where
           ∙ recurrence-same R A B k l a b (λ i m. e i (omega arith));
     }
 
+    from-sums-same : (i : ℕ) (a b : Seq R) → Before Car (suc (suc i)) a b → from-sums R A B a i ≡ from-sums R A B b i
+    from-sums-same i a b e = cc (e (i + 1) (omega arith), e (i - 1) (omega arith), e (i - 2) (omega arith))
+
     pub s-causal : (h : Seq R) (k : ℕ) (a b : Seq R) → Before Car (suc k) a b → SAt R q h a k → SAt R q h b k
     s-causal h k a b e x = record {
       zero = λ z. sym (e 0 (omega arith)) ∙ x .zero z;
       one = λ z. sym (e 1 (omega arith)) ∙ x .one z;
-      more = λ l. sym (from-sums-same R A B (k - 1) a b (λ i m. e i (omega arith))) ∙ x .more l;
+      more = λ l. sym (from-sums-same (k - 1) a b (λ i m. e i (omega arith))) ∙ x .more l;
     }
 
   pub newton-same : (s : Seq R) (k : ℕ) (a b : Seq R) → Before Car k a b

@@ -1,7 +1,7 @@
--- R3 by 2 ℓ − 1 conditions: where g meets R1 and the integers from 1 to 3 ℓ − 3 can be cancelled, R3 holds (with the N of R2) if and only if
--- 5 h₁ = A − Ã, 7 h₂ = B − B̃ and document 01's recurrence holds for h₃ to h_(2 ℓ − 1). Where one integer e cannot be cancelled, one coefficient of R3,
+-- R3 by ℓ conditions: where g meets R1 and the integers from 1 to 3 ℓ − 3 can be cancelled, R3 holds (with the N of R2) if and only if
+-- 5 h₁ = A − Ã, 7 h₂ = B − B̃ and document 01's recurrence holds for h₃ to h_ℓ. Where one integer e cannot be cancelled, one coefficient of R3,
 -- that of x^(3 ℓ − 3 − e), is to be compared besides.
--- The conditions say that Ψ, R3's derivative divided by N′ g − 2 N g′, has no coefficient up to 2 ℓ; it is a polynomial of degree 2 ℓ over G⁴, so it is
+-- The conditions say that Ψ, R3's derivative divided by N′ g − 2 N g′, has no coefficient up to ℓ + 1; it is a polynomial of degree ℓ + 1 over G², so it is
 -- zero; so (k − 3) Φ_k = 0 for every k; so Φ, a polynomial of degree 3 ℓ over G⁶, is zero, and that is R3.
 -- Assumes nothing.
 use mathlib.Core.Logic.{_↔_, _≢_}
@@ -27,7 +27,7 @@ use Rattle.isogeny.specs.Proof.Equation as E
 use Rattle.isogeny.specs.Proof.Infinity as I
 use Rattle.isogeny.specs.Proof.Infinity.{reversed, quot, Φ, Ψ}
 use Rattle.isogeny.specs.Proof.Recurrence as Rec
-use Rattle.isogeny.specs.Proof.Second as Two
+use Rattle.isogeny.specs.Proof.Factor as Factor
 use Rattle.isogeny.specs.Proof.Conditions as C
 use Rattle.isogeny.specs.Proof.Sums.{h-is, G-first, sums-only}
 use Rattle.isogeny.specs.Proof.Terms.{expansion-same, short-same}
@@ -107,13 +107,13 @@ module _ (R : CRing) (q : Question R) (d≥1 : 1 ≤ q .d) (g : Seq R) (r1 : R1 
   -- ── from the conditions, Ψ is zero
 
   module _ (short : Short R q h) where
-    Ψ-more : (j : ℕ) → suc (suc (suc (suc j))) ≤ 2 * ℓ R q → Ψ R q u (suc (suc (suc (suc j)))) ≡ 𝟘
+    Ψ-more : (j : ℕ) → suc (suc (suc (suc j))) ≤ suc (ℓ R q) → Ψ R q u (suc (suc (suc (suc j)))) ≡ 𝟘
     Ψ-more j l =
         Ring.add-right-cancel R _ _ (Rec.right R q u j)
         (R .add-comm _ _ ∙ sym (Rec.recurrence-at R q u e₀ j) ∙ sym (C.left-is R q d≥1 g r1 j) ∙ short .recurs (suc (suc (suc j))) (omega arith) (omega arith) ∙ C.right-is R q d≥1 g r1 j
         ∙ sym (Ring.zero-add R _))
 
-    Ψ-upto : (i : ℕ) → i ≤ 2 * ℓ R q → Ψ R q u i ≡ 𝟘
+    Ψ-upto : (i : ℕ) → i ≤ suc (ℓ R q) → Ψ R q u i ≡ 𝟘
     Ψ-upto zero l = Ψ-0
     Ψ-upto (suc zero) l = Ψ-1
     Ψ-upto (suc (suc zero)) l =
@@ -122,7 +122,7 @@ module _ (R : CRing) (q : Question R) (d≥1 : 1 ≤ q .d) (g : Seq R) (r1 : R1 
     Ψ-upto (suc (suc (suc (suc j)))) l = Ψ-more j l
 
     Ψ-zero : Ψ R q u ≡ zeros R
-    Ψ-zero = zero-upto R (2 * ℓ R q) (pow (Series R) G 4) _ (pow-first R G (I.G-first R q g r1) 4) (r-past R (Two.r-second R q g r1)) Ψ-upto
+    Ψ-zero = zero-upto R (suc (ℓ R q)) (pow (Series R) G 2) _ (pow-first R G (I.G-first R q g r1) 2) (r-past R (Factor.r-M R q g r1)) Ψ-upto
 
     -- ── so Φ is zero
 
@@ -200,10 +200,10 @@ module _ (R : CRing) (q : Question R) (d≥1 : 1 ≤ q .d) (g : Seq R) (r1 : R1 
 
   -- ── the theorem
 
-  -- for power sums of which s₀ to s_(2 ℓ) are known to obey Newton's identities
-  module _ (s : Seq R) (sums : PowerSums R d g (2 * ℓ R q) s) where
-    same : Before Car (2 * ℓ R q) (expansion R A B s) h
-    same = expansion-same R A B (2 * ℓ R q) s (power-sums R d g) (sums-only R d g (G-first R q d≥1 g r1) (2 * ℓ R q) s sums)
+  -- for power sums of which s₀ to s_(ℓ + 1) are known to obey Newton's identities
+  module _ (s : Seq R) (sums : PowerSums R d g (suc (ℓ R q)) s) where
+    same : Before Car (suc (ℓ R q)) (expansion R A B s) h
+    same = expansion-same R A B (suc (ℓ R q)) s (power-sums R d g) (sums-only R d g (G-first R q d≥1 g r1) (suc (ℓ R q)) s sums)
 
     there : R3 R q g (N R q g) → Short R q (expansion R A B s)
     there r3 = short-same R q h (expansion R A B s) (λ i l. sym (same i l)) d≥1 (C.conditions R q d≥1 g r1 r3)
@@ -223,7 +223,7 @@ module _ (R : CRing) (q : Question R) (d≥1 : 1 ≤ q .d) (g : Seq R) (r1 : R1 
 -- to the codomain that h gives, the short conditions are the recurrence
 pub short-kernel : (R : CRing) (q : Question R) (h : Seq R)
     → q .Ã ≡ R .add (q .A) (R .neg (R .mul (cast R 5) (h 1))) → q .B̃ ≡ R .add (q .B) (R .neg (R .mul (cast R 7) (h 2)))
-    → Short R q h ↔ ((k : ℕ) → 3 ≤ k → k ≤ 2 * ℓ R q - 1 → Recurs R (q .A) (q .B) h k)
+    → Short R q h ↔ ((k : ℕ) → 3 ≤ k → k ≤ ℓ R q → Recurs R (q .A) (q .B) h k)
 short-kernel R q h a b = (λ short. short .recurs, λ rec. record { first = back (q .A) _ (q .Ã) a; second = back (q .B) _ (q .B̃) b; recurs = rec })
   where
     back : (x y z : R .Car) → z ≡ R .add x (R .neg y) → y ≡ R .add x (R .neg z)

@@ -30,8 +30,8 @@ module _ (R : CRing) (A B : R .Car) where
 module _ (R : CRing) (q : Question R) where
   open Question q using (A, B, d)
 
-  -- the short conditions: h before 2 ℓ
-  pub short-same : (a b : Seq R) → Before (R .Car) (2 * ℓ R q) a b → 1 ≤ d → Short R q a → Short R q b
+  -- the short conditions: h up to ℓ
+  pub short-same : (a b : Seq R) → Before (R .Car) (suc (ℓ R q)) a b → 1 ≤ d → Short R q a → Short R q b
   short-same a b e d≥1 h = record {
     first = cc (e 1 (omega arith), h .first);
     second = cc (e 2 (omega arith), h .second);

@@ -8,14 +8,11 @@ use Rattle.equation.proofs.short.by_expansion.Tie as tie
 cast-n : tie.Need-cast-n
 cast-n c = search needs
 
-mul-n : tie.Need-mul-n
-mul-n c = search needs
+blank257-requires : tie.Need-blank257-requires
+blank257-requires c κs = search needs
 
-blank512-requires : tie.Need-blank512-requires
-blank512-requires c κs = search needs
-
-blank512-requires-2 : tie.Need-blank512-requires-2
-blank512-requires-2 c κs = search needs
+blank257-requires-2 : tie.Need-blank257-requires-2
+blank257-requires-2 c κs = search needs
 
 add-s : tie.Need-add-s
 add-s c = search (needs, c .before .before .before .before .pre .0 .0 .most)
@@ -25,6 +22,9 @@ array-borrow-prefix-s c = search (needs, c .before .before .before .before .pre 
 
 slice-aggregate-by-expansion-in : tie.Need-slice-aggregate-by-expansion-in
 slice-aggregate-by-expansion-in c = simp length-take (omega (arith, c .before .before .before .before .before .pre .0 .0 .most))
+
+add-h : tie.Need-add-h
+add-h c = search needs
 
 array-borrow-prefix-h : tie.Need-array-borrow-prefix-h
 array-borrow-prefix-h c = search (needs, c .before .before .before .before .before .pre .0 .0 .most)
@@ -42,4 +42,4 @@ returns : tie.Need-returns
 returns c = search needs
 
 pub by-expansion-spec : {M : Type 1} → statement M
-by-expansion-spec = tie.close (tie.spec cast-n mul-n blank512-requires blank512-requires-2 add-s array-borrow-prefix-s slice-aggregate-by-expansion-in array-borrow-prefix-h slice-aggregate-by-expansion-in-2 by-expansion-in-requires returns)
+by-expansion-spec = tie.close (tie.spec cast-n blank257-requires blank257-requires-2 add-s array-borrow-prefix-s slice-aggregate-by-expansion-in add-h array-borrow-prefix-h slice-aggregate-by-expansion-in-2 by-expansion-in-requires returns)
