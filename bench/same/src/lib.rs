@@ -22,7 +22,7 @@ pub struct Values {
 
 /// The last k at which the recurrence is asked for R3, as in the library.
 pub fn last(l: usize) -> usize {
-    2 * l - 1
+    l
 }
 
 /// What the library returns beside a refusal's number.

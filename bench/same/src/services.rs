@@ -15,7 +15,7 @@ fn is_prime(n: u32) -> bool {
         return n == 2;
     }
     let mut d = 3u32;
-    while d <= n / d {
+    while u64::from(d) * u64::from(d) <= u64::from(n) {
         if n.is_multiple_of(d) {
             return false;
         }
