@@ -1,13 +1,14 @@
 -- What the slices hold after a run of calls: each call's result is a whole polynomial where the slice is long enough, and the polynomials are the two
 -- sides of R3.
 -- Assumes nothing.
-use mathlib.Core.Path.{_≡_, _∙_, ap, ap₂}
-use mathlib.Core.List.{List}
+use mathlib.Core.Path.{_≡_, sym, _∙_, ap, ap₂, subst}
+use mathlib.Core.List.{List, _++_}
 use Prim.Native.Nat.{ℕ, _+_, _*_, _≤_}
 use native.Mathlib.Omega.{arith}
-use lib.ListN.{length}
+use lib.ListN.{length, take}
+use lib.Seq.{take-at}
 use Rattle.ring.specs.Ring.{cast}
-use Rattle.series.specs.Series.{conv, sums, scaled, ∂}
+use Rattle.series.specs.Series.{Seq, conv, sums, scaled, ∂}
 use Rattle.zmod.specs.Zmod.{Zmod, mk, minus}
 use Rattle.zmod.specs.Residues.{poly, poly-past, Residues, residues-same, residues-poly, residues-sums, residues-scaled}
 use Rattle.isogeny.specs.Rules.{W, f, left, right}
@@ -20,6 +21,14 @@ use Rattle.rules.proofs.Steps.{from-derivative, from-product}
 use Rattle.equation.specs.Sides.{factor, terms, crossed, right-is, W-is, W-below, left-is}
 
 module _ (p : ℕ) where
+  -- ── the front of an array: what a call left in the part that was lent
+
+  pub front : {a : Seq (Zmod p)} (e xs : List ℕ) (n : ℕ) → length e ≡ n → Residues p a e → Residues p a (take n (e ++ xs))
+  front {a} e xs n l h = subst (Residues p a) (sym (take-at e xs n l)) h
+
+  pub front-whole : {a : Seq (Zmod p)} (e xs : List ℕ) (n : ℕ) → length e ≡ n → Whole p a e → Whole p a (take n (e ++ xs))
+  front-whole {a} e xs n l h = subst (Whole p a) (sym (take-at e xs n l)) h
+
   pub factor-steps : (n h t₁ t₂ : List ℕ) (a : ℕ) → length t₁ + 1 ≡ 2 * length n → length h ≤ length t₁ → length t₂ ≡ length t₁
       → Residues p (conv (Zmod p) (poly p n) (poly p n)) t₁ → Residues p (sums (Zmod p) (poly p t₁) (scaled (Zmod p) (mk p a) (poly p h))) t₂
       → Whole p (factor (Zmod p) (mk p a) (poly p n) (poly p h)) t₂

@@ -5,7 +5,7 @@ ghost use mathlib.Core.Logic.{_↔_};
 ghost use mathlib.Core.Bool.{true};
 ghost use Prim.Native.Nat.{_+_, _*_, _^_, _<_, _≤_};
 ghost use lib.ListN.{length, take};
-ghost use Rattle.series.specs.Series.{conv, sums, scaled};
+ghost use Rattle.series.specs.Series.{conv, sums, scaled, ∂};
 ghost use Rattle.zmod.specs.Zmod.{Zmod, mk};
 ghost use Rattle.zmod.specs.Residues.{Reduced, poly, Residues};
 ghost use Rattle.isogeny.specs.Rules.{R3, f, left, right};
@@ -33,6 +33,16 @@ fn square766(a: &[u32], n: usize, p: u32) -> [u32; 766]
 {
     let mut r = blank766();
     poly::square(a, &mut r[..n], p);
+    r
+}
+
+// The first n coefficients of a′.
+fn derivative766(a: &[u32], n: usize, p: u32) -> [u32; 766]
+    requires { ⌜ (0 < p) × (length (now a) ≤ 2 ^ 32) × (n ≤ 766) ⌝ }
+    ensures { λ r. ⌜ Residues p (∂ (Zmod p) (poly p (now (a .entry)))) (take n r) ⌝ }
+{
+    let mut r = blank766();
+    poly::derivative(a, &mut r[..n], p);
     r
 }
 
@@ -66,7 +76,7 @@ fn right_side(v: Values, g: &[u32], n: &[u32], out: &mut [u32])
     let i = 2 * d + 1;
     let j = 4 * d + 1;
     let k = 4 * d + 3;
-    let s = rules::square255(g, i, v.p);
+    let s = square766(g, i, v.p);
     let h = square766(&s[..i], j, v.p);
     let t = square_and(n, &h[..j], k, v.atilde, v.p);
     add_terms(n, &s[..i], &h[..j], &t[..k], v.btilde, out, v.p);
@@ -102,8 +112,8 @@ fn left_side(v: Values, g: &[u32], n: &[u32], out: &mut [u32])
     let i = 2 * d + 1;
     let j = 3 * d + 1;
     let k = 6 * d + 1;
-    let dg = rules::derivative255(g, d, v.p);
-    let dn = rules::derivative255(n, i, v.p);
+    let dg = derivative766(g, d, v.p);
+    let dn = derivative766(n, i, v.p);
     let w = cross766(g, n, &dg[..d], &dn[..i], j, v.p);
     let ww = square766(&w[..j], k, v.p);
     let cubic = cubic_words(v);

@@ -1,17 +1,16 @@
 -- What the slices hold after a run of calls: each call's result is a whole polynomial where the slice is long enough, and the polynomials are those of
 -- R2.
 -- Assumes nothing.
-use mathlib.Core.Path.{_≡_, refl, sym, _∙_, ap, ap₂, subst}
-use mathlib.Core.List.{List, _++_}
+use mathlib.Core.Path.{_≡_, refl, sym, _∙_, ap, ap₂}
+use mathlib.Core.List.{List}
 use Prim.Native.Nat.{ℕ, suc, _+_, _*_, _-_, _≤_, _<_}
 use native.Mathlib.Decide.{decLt}
 use native.Mathlib.Omega.{arith}
-use lib.ListN.{length, getD, take}
-use lib.Seq.{take-at}
+use lib.ListN.{length, getD}
 use Rattle.ring.specs.Ring.{cast}
 use Rattle.ring.specs.Identity.{solve3}
 use Rattle.ring.specs.Identity.Ex.{num, :0, _:+_, _:*_, :-_}
-use Rattle.series.specs.Series.{Seq, conv, ∂, ∂-at}
+use Rattle.series.specs.Series.{conv, ∂, ∂-at}
 use Rattle.zmod.specs.Zmod.{Zmod, mk, plus, minus, times, mk-add, mk-mul, mk-combination, cast-mk}
 use Rattle.zmod.specs.Residues.{Residue, Reduced, poly, poly-at, poly-past, Residues, residue-same, residues-same}
 use Rattle.isogeny.specs.Rules.{N}
@@ -31,14 +30,6 @@ module _ (p : ℕ) where
   pub from-product : (a b out : List ℕ) → length a + length b ≤ length out + 1 → Residues p (conv (Zmod p) (poly p a) (poly p b)) out
       → Whole p (conv (Zmod p) (poly p a) (poly p b)) out
   from-product a b out le h = whole h (below-conv (Zmod p) (length a) (length b) (poly p a) (poly p b) (omega arith) (poly-past p a) (poly-past p b))
-
-  -- ── the front of an array: what a call left in the part that was lent
-
-  pub front : {a : Seq (Zmod p)} (e xs : List ℕ) (n : ℕ) → length e ≡ n → Residues p a e → Residues p a (take n (e ++ xs))
-  front {a} e xs n l h = subst (Residues p a) (sym (take-at e xs n l)) h
-
-  pub front-whole : {a : Seq (Zmod p)} (e xs : List ℕ) (n : ℕ) → length e ≡ n → Whole p a e → Whole p a (take n (e ++ xs))
-  front-whole {a} e xs n l h = subst (Whole p a) (sym (take-at e xs n l)) h
 
   -- ── R2
 

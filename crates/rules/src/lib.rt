@@ -4,15 +4,14 @@ ghost use mathlib.Core.Path.{_≡_};
 ghost use mathlib.Core.Logic.{_↔_};
 ghost use mathlib.Core.Bool.{true};
 ghost use Prim.Native.Nat.{_+_, _-_, _*_, _^_, _<_, _≤_};
-ghost use lib.ListN.{length, getD, take};
-ghost use Rattle.series.specs.Series.{conv, ∂};
+ghost use lib.ListN.{length, getD};
+ghost use Rattle.series.specs.Series.{∂};
 ghost use Rattle.zmod.specs.Zmod.{Zmod, mk, minus, times};
 ghost use Rattle.zmod.specs.Residues.{Residue, Reduced, poly, Residues};
 ghost use Rattle.isogeny.specs.Rules.{N, R1};
 ghost use Rattle.rules.specs.Question.{half, question};
 ghost use Rattle.rules.specs.Ready.{Ready};
-ghost use Rattle.rules.specs.Numerator.{lowered, bent, joined};
-ghost use Rattle.rules.specs.Words.{Whole};
+ghost use Rattle.rules.specs.Numerator.{lowered, joined};
 use sheet::Values;
 
 // ── R1
@@ -35,32 +34,6 @@ pub fn rule_one(v: Values, g: &[u32]) -> bool
         return false;
     }
     minus_twice(g[d - 1], v.p) == v.sigma
-}
-
-// ── scratch
-
-fn blank255() -> [u32; 255] {
-    [0; 255]
-}
-
-// The first n coefficients of a².
-pub fn square255(a: &[u32], n: usize, p: u32) -> [u32; 255]
-    requires { ⌜ (0 < p) × (p ≤ 2 ^ 28) × (Reduced p (now a)) × (n ≤ 255) ⌝ }
-    ensures { λ r. ⌜ Residues p (conv (Zmod p) (poly p (now (a .entry))) (poly p (now (a .entry)))) (take n r) ⌝ }
-{
-    let mut r = blank255();
-    poly::square(a, &mut r[..n], p);
-    r
-}
-
-// The first n coefficients of a′.
-pub fn derivative255(a: &[u32], n: usize, p: u32) -> [u32; 255]
-    requires { ⌜ (0 < p) × (length (now a) ≤ 2 ^ 32) × (n ≤ 255) ⌝ }
-    ensures { λ r. ⌜ Residues p (∂ (Zmod p) (poly p (now (a .entry)))) (take n r) ⌝ }
-{
-    let mut r = blank255();
-    poly::derivative(a, &mut r[..n], p);
-    r
 }
 
 // ── R2
@@ -88,19 +61,6 @@ fn lower_all(s: &[u32], t: &[u32], out: &mut [u32], p: u32)
         out[i] = lower(s, t, i, p);
         i += 1;
     }
-}
-
-// The k coefficients of -2(s′ - 4g′²), where s is to be (g²)′; g′ has d.
-fn bend(g: &[u32], s: &[u32], d: usize, k: usize, p: u32) -> [u32; 255]
-    requires { ⌜ (11 ≤ p) × (p ≤ 2 ^ 28) × (Reduced p (now g)) × (Reduced p (now s)) ⌝ }
-    requires { ⌜ (length (now g) ≡ d + 1) × (length (now s) ≡ k + 1) × (k + 1 ≡ 2 * d) × (k ≤ 255) ⌝ }
-    ensures { λ r. ⌜ Whole p (bent (Zmod p) (poly p (now (g .entry))) (poly p (now (s .entry)))) (take k r) ⌝ }
-{
-    let h = derivative255(g, d, p);
-    let hh = square255(&h[..d], k, p);
-    let mut r = blank255();
-    lower_all(s, &hh[..k], &mut r[..k], p);
-    r
 }
 
 // The word j places before k, 0 where there is none.
@@ -149,6 +109,35 @@ fn join_all(v: Values, s: &[u32], t: &[u32], e: &[u32], out: &mut [u32])
     }
 }
 
+// The N that R2 gives, with room for g², (g²)′, g′, g′² and -2((g²)″ - 4g′²), in this order.
+fn numerator_in(
+    v: Values,
+    g: &[u32],
+    s: &mut [u32],
+    t: &mut [u32],
+    h: &mut [u32],
+    q: &mut [u32],
+    e: &mut [u32],
+    out: &mut [u32],
+)
+    requires { ⌜ (Ready v) × (length (now g) ≡ half v + 1) × (Reduced (v .p) (now g)) ⌝ }
+    requires { ⌜ (length (now s) ≡ 2 * half v + 1) × (length (now t) ≡ 2 * half v) × (length (now h) ≡ half v) ⌝ }
+    requires { ⌜ (length (now q) ≡ 2 * half v - 1) × (length (now e) ≡ 2 * half v - 1) ⌝ }
+    ensures { λ _. ⌜ Residues (v .p) (N (Zmod (v .p)) (question v) (poly (v .p) (now (g .entry)))) (now (out .exit)) ⌝ }
+{
+    poly::square(g, s, v.p);
+    poly::derivative(s, t, v.p);
+    poly::derivative(g, h, v.p);
+    poly::square(h, q, v.p);
+    lower_all(t, q, e, v.p);
+    join_all(v, s, t, e, out);
+}
+
+// Room for a polynomial. (As the result of a call its words stay out of the callers' proofs.)
+fn blank() -> [u32; 255] {
+    [0; 255]
+}
+
 // The N that R2 gives.
 pub fn numerator(v: Values, g: &[u32], out: &mut [u32])
     requires { ⌜ (Ready v) × (length (now g) ≡ half v + 1) × (Reduced (v .p) (now g)) ⌝ }
@@ -159,8 +148,19 @@ pub fn numerator(v: Values, g: &[u32], out: &mut [u32])
     let i = 2 * d + 1;
     let j = 2 * d;
     let k = 2 * d - 1;
-    let s = square255(g, i, v.p);
-    let t = derivative255(&s[..i], j, v.p);
-    let e = bend(g, &t[..j], d, k, v.p);
-    join_all(v, &s[..i], &t[..j], &e[..k], out);
+    let mut s = blank();
+    let mut t = blank();
+    let mut h = blank();
+    let mut q = blank();
+    let mut e = blank();
+    numerator_in(
+        v,
+        g,
+        &mut s[..i],
+        &mut t[..j],
+        &mut h[..d],
+        &mut q[..k],
+        &mut e[..k],
+        out,
+    );
 }

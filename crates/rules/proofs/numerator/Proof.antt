@@ -1,9 +1,7 @@
 -- `rules::numerator` meets its contract. Assumes nothing.
 use native.Mathlib.Omega.{arith}
-use Prim.Native.Nat.{_+_, _*_, _-_}
-use lib.ListN.{length, take, length-take}
+use lib.ListN.{length-take}
 use borrow.Author.Needs.{needs}
-use Rattle.rules.proofs.Steps.{numerator-steps}
 use Rattle.rules.proofs.numerator.Statement.{statement}
 use Rattle.rules.proofs.numerator.Tie as tie
 
@@ -25,65 +23,61 @@ mul-k c = search needs
 sub-k : tie.Need-sub-k
 sub-k c = search needs
 
-square255-requires : tie.Need-square255-requires
-square255-requires c κs = search needs
+blank-requires : tie.Need-blank-requires
+blank-requires c κs = search needs
 
-array-share-prefix-s : tie.Need-array-share-prefix-s
-array-share-prefix-s c = search needs
+blank-requires-2 : tie.Need-blank-requires-2
+blank-requires-2 c κs = search needs
 
-slice-aggregate-derivative255 : tie.Need-slice-aggregate-derivative255
-slice-aggregate-derivative255 c = simp length-take (omega arith)
+blank-requires-3 : tie.Need-blank-requires-3
+blank-requires-3 c κs = search needs
 
-derivative255-requires : tie.Need-derivative255-requires
-derivative255-requires c κs = simp length-take (omega (arith, c .before .before .before .before .pre))
+blank-requires-4 : tie.Need-blank-requires-4
+blank-requires-4 c κs = search needs
 
-array-share-prefix-t : tie.Need-array-share-prefix-t
-array-share-prefix-t c = search needs
+blank-requires-5 : tie.Need-blank-requires-5
+blank-requires-5 c κs = search needs
 
-slice-aggregate-bend : tie.Need-slice-aggregate-bend
-slice-aggregate-bend c = simp length-take (omega arith)
+array-borrow-prefix-s : tie.Need-array-borrow-prefix-s
+array-borrow-prefix-s c = search needs
 
-bend-requires : tie.Need-bend-requires
-bend-requires c κs =
-    let pre = c .before .before .before .before .before .before .pre in
-    ((omega (arith, pre), omega (arith, pre), pre .0 .2, c .before .derivative255 .ensures .reduced), simp length-take (omega (arith, pre)))
+slice-aggregate-numerator-in : tie.Need-slice-aggregate-numerator-in
+slice-aggregate-numerator-in c = simp length-take (omega arith)
 
-array-share-prefix-s-2 : tie.Need-array-share-prefix-s-2
-array-share-prefix-s-2 c = search needs
+array-borrow-prefix-t : tie.Need-array-borrow-prefix-t
+array-borrow-prefix-t c = search needs
 
-slice-aggregate-join-all : tie.Need-slice-aggregate-join-all
-slice-aggregate-join-all c = simp length-take (omega arith)
+slice-aggregate-numerator-in-2 : tie.Need-slice-aggregate-numerator-in-2
+slice-aggregate-numerator-in-2 c = simp length-take (omega arith)
 
-array-share-prefix-t-2 : tie.Need-array-share-prefix-t-2
-array-share-prefix-t-2 c = search needs
+array-borrow-prefix-h : tie.Need-array-borrow-prefix-h
+array-borrow-prefix-h c = search needs
 
-slice-aggregate-join-all-2 : tie.Need-slice-aggregate-join-all-2
-slice-aggregate-join-all-2 c = simp length-take (omega arith)
+slice-aggregate-numerator-in-3 : tie.Need-slice-aggregate-numerator-in-3
+slice-aggregate-numerator-in-3 c = simp length-take (omega arith)
 
-array-share-prefix-e : tie.Need-array-share-prefix-e
-array-share-prefix-e c = search needs
+array-borrow-prefix-q : tie.Need-array-borrow-prefix-q
+array-borrow-prefix-q c = search needs
 
-slice-aggregate-join-all-3 : tie.Need-slice-aggregate-join-all-3
-slice-aggregate-join-all-3 c = simp length-take (omega arith)
+slice-aggregate-numerator-in-4 : tie.Need-slice-aggregate-numerator-in-4
+slice-aggregate-numerator-in-4 c = simp length-take (omega arith)
 
-join-all-requires : tie.Need-join-all-requires
-join-all-requires c κs = search needs
+array-borrow-prefix-e : tie.Need-array-borrow-prefix-e
+array-borrow-prefix-e c = search needs
+
+slice-aggregate-numerator-in-5 : tie.Need-slice-aggregate-numerator-in-5
+slice-aggregate-numerator-in-5 c = simp length-take (omega arith)
+
+numerator-in-requires : tie.Need-numerator-in-requires
+numerator-in-requires c κs =
+    let pre = c .before .before .before .before .before .before .before .before .before .before .before .before .before .pre in
+    (pre .0, simp length-take (omega (arith, pre)))
 
 same-length : tie.Need-same-length
 same-length c = search needs
 
 returns : tie.Need-returns
-returns c =
-    let start = c .before .before .before .before .before .before .before .before .before .before .before .before .before .before in
-    let at = start .args in
-    let pre = start .pre in
-    let d = length (at .g .now) - 1 in
-    let s = c .before .before .before .before .before .before .before .before .before .before .before .square255 in
-    let t = c .before .before .before .before .before .before .before .before .before .derivative255 in
-    let e = c .before .before .before .before .before .before .before .bend in
-    let o = c .before .before .join-all in
-    numerator-steps (at .v) (at .g .now) (take (2 * d + 1) (s .result)) (take (2 * d) (t .result)) (take (2 * d - 1) (e .result)) (o .last .1 .1 .1 .1 .0)
-    (simp length-take (omega (arith, pre))) (simp length-take (omega (arith, pre))) (s .ensures) (t .ensures) (e .ensures) (o .ensures)
+returns c = search needs
 
 pub numerator-spec : {M : Type 1} → statement M
-numerator-spec = tie.close (tie.spec sub-d mul-i add-i mul-j mul-k sub-k square255-requires array-share-prefix-s slice-aggregate-derivative255 derivative255-requires array-share-prefix-t slice-aggregate-bend bend-requires array-share-prefix-s-2 slice-aggregate-join-all array-share-prefix-t-2 slice-aggregate-join-all-2 array-share-prefix-e slice-aggregate-join-all-3 join-all-requires same-length returns)
+numerator-spec = tie.close (tie.spec sub-d mul-i add-i mul-j mul-k sub-k blank-requires blank-requires-2 blank-requires-3 blank-requires-4 blank-requires-5 array-borrow-prefix-s slice-aggregate-numerator-in array-borrow-prefix-t slice-aggregate-numerator-in-2 array-borrow-prefix-h slice-aggregate-numerator-in-3 array-borrow-prefix-q slice-aggregate-numerator-in-4 array-borrow-prefix-e slice-aggregate-numerator-in-5 numerator-in-requires same-length returns)

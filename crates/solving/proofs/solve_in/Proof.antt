@@ -32,8 +32,10 @@ rule-three-requires c κs =
     let n = numerator .numerator .last .1 .1 .0 in
     let long : length n ≡ 2 * half (start .args .v) + 2 = omega arith in (
       (start .pre .0 .0, start .pre .0 .2),
-      ((omega arith, candidate .candidate .ensures .reduced, candidate .candidate .ensures .r1),
-      (long, numerator .numerator .ensures .reduced, whole-numerator (start .args .v) (start .pre .0 .0) g n long (numerator .numerator .ensures) (candidate .candidate .ensures .r1 .degree))),
+      (
+        (omega arith, candidate .candidate .ensures .reduced, candidate .candidate .ensures .r1),
+        (long, numerator .numerator .ensures .reduced, whole-numerator (start .args .v) (start .pre .0 .0) g n long (numerator .numerator .ensures) (candidate .candidate .ensures .r1 .degree)),
+      ),
     )
 
 same-length : tie.Need-same-length

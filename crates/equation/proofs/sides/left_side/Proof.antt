@@ -28,11 +28,11 @@ mul-k c = search needs
 add-k : tie.Need-add-k
 add-k c = search needs
 
-derivative255-requires : tie.Need-derivative255-requires
-derivative255-requires c κs = search needs
+derivative766-requires : tie.Need-derivative766-requires
+derivative766-requires c κs = search needs
 
-derivative255-requires-2 : tie.Need-derivative255-requires-2
-derivative255-requires-2 c κs = search needs
+derivative766-requires-2 : tie.Need-derivative766-requires-2
+derivative766-requires-2 c κs = search needs
 
 array-share-prefix-dg : tie.Need-array-share-prefix-dg
 array-share-prefix-dg c = search needs
@@ -81,8 +81,8 @@ returns c =
     let at = c .before .before .before .before .before .before .before .before .before .before .before .before .before .before .before .before .before .args in
     let pre = c .before .before .before .before .before .before .before .before .before .before .before .before .before .before .before .before .before .pre in
     let d = length (at .g .now) - 1 in
-    let dg = c .before .before .before .before .before .before .before .before .before .before .before .before .before .derivative255 in
-    let dn = c .before .before .before .before .before .before .before .before .before .before .before .before .derivative2552 in
+    let dg = c .before .before .before .before .before .before .before .before .before .before .before .before .before .derivative766 in
+    let dn = c .before .before .before .before .before .before .before .before .before .before .before .before .derivative7662 in
     let w = c .before .before .before .before .before .before .before .before .before .cross766 in
     let ww = c .before .before .before .before .before .before .before .square766 in
     let o = c .before .before .product in
@@ -102,8 +102,8 @@ left-side-spec =
     add-j
     mul-k
     add-k
-    derivative255-requires
-    derivative255-requires-2
+    derivative766-requires
+    derivative766-requires-2
     array-share-prefix-dg
     slice-aggregate-cross766
     array-share-prefix-dn

@@ -28,8 +28,8 @@ mul-k c = search needs
 add-k : tie.Need-add-k
 add-k c = search needs
 
-square255-requires : tie.Need-square255-requires
-square255-requires c κs = search needs
+square766-requires : tie.Need-square766-requires
+square766-requires c κs = search needs
 
 array-share-prefix-s : tie.Need-array-share-prefix-s
 array-share-prefix-s c = search needs
@@ -80,7 +80,7 @@ returns c =
     let at = c .before .before .before .before .before .before .before .before .before .before .before .before .before .before .before .args in
     let pre = c .before .before .before .before .before .before .before .before .before .before .before .before .before .before .before .pre in
     let d = length (at .g .now) - 1 in
-    let s = c .before .before .before .before .before .before .before .before .before .before .before .square255 in
+    let s = c .before .before .before .before .before .before .before .before .before .before .before .square766 in
     let h = c .before .before .before .before .before .before .before .before .before .square766 in
     let t = c .before .before .before .before .before .before .before .square-and in
     let o = c .before .before .add-terms in
@@ -98,7 +98,7 @@ right-side-spec =
     add-j
     mul-k
     add-k
-    square255-requires
+    square766-requires
     array-share-prefix-s
     slice-aggregate-square766
     square766-requires
