@@ -2,8 +2,8 @@
 use native.Mathlib.Omega.{arith}
 use Prim.Native.Nat.{_+_, _*_, _-_}
 use lib.ListN.{length, take, length-take}
-use Rattle.equation.proofs.Steps.{right-steps}
 use borrow.Author.Needs.{needs}
+use Rattle.equation.proofs.Steps.{right-steps}
 use Rattle.equation.proofs.sides.right_side.Statement.{statement}
 use Rattle.equation.proofs.sides.right_side.Tie as tie
 
@@ -37,8 +37,8 @@ array-share-prefix-s c = search needs
 slice-aggregate-square766 : tie.Need-slice-aggregate-square766
 slice-aggregate-square766 c = simp length-take (omega arith)
 
-square766-requires : tie.Need-square766-requires
-square766-requires c κs = search needs
+square766-requires-2 : tie.Need-square766-requires-2
+square766-requires-2 c κs = search needs
 
 array-share-prefix-h : tie.Need-array-share-prefix-h
 array-share-prefix-h c = search needs
@@ -77,40 +77,16 @@ same-length c = search needs
 
 returns : tie.Need-returns
 returns c =
-    let at = c .before .before .before .before .before .before .before .before .before .before .before .before .before .before .before .args in
-    let pre = c .before .before .before .before .before .before .before .before .before .before .before .before .before .before .before .pre in
+    let start = c .before .before .before .before .before .before .before .before .before .before .before .before .before .before .before in
+    let at = start .args in
+    let pre = start .pre in
     let d = length (at .g .now) - 1 in
     let s = c .before .before .before .before .before .before .before .before .before .before .before .square766 in
-    let h = c .before .before .before .before .before .before .before .before .before .square766 in
+    let h = c .before .before .before .before .before .before .before .before .before .square7662 in
     let t = c .before .before .before .before .before .before .before .square-and in
     let o = c .before .before .add-terms in
     right-steps (at .v) (at .g .now) (at .n .now) (take (2 * d + 1) (s .result)) (take (4 * d + 1) (h .result)) (take (4 * d + 3) (t .result)) (o .last .1 .1 .1 .1 .1 .0)
     (simp length-take (omega (arith, pre))) (simp length-take (omega (arith, pre))) (s .ensures) (h .ensures) (t .ensures) (o .ensures)
 
 pub right-side-spec : {M : Type 1} → statement M
-right-side-spec =
-    tie.close
-    (tie.spec
-    sub-d
-    mul-i
-    add-i
-    mul-j
-    add-j
-    mul-k
-    add-k
-    square766-requires
-    array-share-prefix-s
-    slice-aggregate-square766
-    square766-requires
-    array-share-prefix-h
-    slice-aggregate-square-and
-    square-and-requires
-    array-share-prefix-s-2
-    slice-aggregate-add-terms
-    array-share-prefix-h-2
-    slice-aggregate-add-terms-2
-    array-share-prefix-t
-    slice-aggregate-add-terms-3
-    add-terms-requires
-    same-length
-    returns)
+right-side-spec = tie.close (tie.spec sub-d mul-i add-i mul-j add-j mul-k add-k square766-requires array-share-prefix-s slice-aggregate-square766 square766-requires-2 array-share-prefix-h slice-aggregate-square-and square-and-requires array-share-prefix-s-2 slice-aggregate-add-terms array-share-prefix-h-2 slice-aggregate-add-terms-2 array-share-prefix-t slice-aggregate-add-terms-3 add-terms-requires same-length returns)
