@@ -16,8 +16,8 @@ ghost use Rattle.expansion.specs.Multiple.{Multiple};
 ghost use Rattle.expansion.specs.Equations.{SumAt, ReducedTo, Solves};
 
 // Room for a polynomial. (As the result of a call its words stay out of the callers' proofs.)
-fn blank() -> [u32; 256] {
-    [0; 256]
+fn blank() -> [u32; 128] {
+    [0; 128]
 }
 
 // l x + m y + n z
