@@ -9,12 +9,12 @@ use lib.ListN.{length, take}
 use lib.Seq.{take-at}
 use Rattle.ring.specs.Ring.{cast}
 use Rattle.series.specs.Series.{Seq, conv, sums, scaled, ∂}
+use Rattle.series.specs.Degree.{sums-below, scaled-below}
 use Rattle.zmod.specs.Zmod.{Zmod, mk, minus}
 use Rattle.zmod.specs.Residues.{poly, poly-past, Residues, residues-same, residues-poly, residues-sums, residues-scaled}
 use Rattle.isogeny.specs.Rules.{W, f, left, right}
 use Rattle.sheet.specs.declared.Values.{Values}
 use Rattle.rules.specs.Question.{half, question}
-use Rattle.rules.specs.Degrees.{below-sums, below-scaled}
 use Rattle.rules.specs.Numerator.{scaled-minus}
 use Rattle.rules.specs.Words.{Whole, whole, whole-same}
 use Rattle.rules.proofs.Steps.{from-derivative, from-product}
@@ -35,8 +35,8 @@ module _ (p : ℕ) where
   unfolding factor
   factor-steps n h t₁ t₂ a l₁ l₂ l₃ r₁ r₂ =
       whole-same (ap (λ u. sums (Zmod p) u (scaled (Zmod p) (mk p a) (poly p h))) (from-product p n n t₁ (omega arith) r₁ .same))
-      (whole r₂ (below-sums (Zmod p) (poly p t₁) _ (λ i k. poly-past p t₁ i (omega arith))
-      (below-scaled (Zmod p) (mk p a) (poly p h) (λ i k. poly-past p h i (omega arith)))))
+      (whole r₂ (sums-below (Zmod p) _ (poly p t₁) _ (λ i k. poly-past p t₁ i (omega arith))
+      (scaled-below (Zmod p) _ (mk p a) (poly p h) (λ i k. poly-past p h i (omega arith)))))
 
   pub terms-steps : (n s h t o₁ o₂ o₃ : List ℕ) (b : ℕ) → length o₂ ≡ length o₁ → length o₃ ≡ length o₂
       → Residues p (conv (Zmod p) (poly p h) (poly p s)) o₁ → Residues p (scaled (Zmod p) (mk p b) (poly p o₁)) o₂

@@ -9,10 +9,10 @@ use Rattle.ring.specs.Ring.{CRing, cast}
 use Rattle.ring.specs.Identity.{solve2, solve4}
 use Rattle.ring.specs.Identity.Ex.{num, _:+_, _:-_, _:*_, :-_, _:^_}
 use Rattle.series.specs.Series.{Series, Seq, conv, sums, scaled, const, ∂, conv-scalar}
-use Rattle.series.specs.Degree.{Below}
+use Rattle.series.specs.Degree.{Below, below-mono, sums-below, scaled-below}
 use Rattle.series.specs.Reversal.{r-neg, r-cast}
 use Rattle.isogeny.specs.Rules.{Question, f, W, left, right, R3}
-use Rattle.rules.specs.Degrees.{below-up, below-sums, below-scaled, below-∂, below-conv}
+use Rattle.rules.specs.Degrees.{below-∂, below-conv}
 use Rattle.rules.specs.Numerator.{f-below}
 
 module _ (R : CRing) where
@@ -61,7 +61,7 @@ module _ (R : CRing) (q : Question R) where
     unfolding crossed
     W-below =
         subst (Below R (3 * d + 1)) (W-is g n)
-        (below-sums R _ _
+        (sums-below R _ _ _
         (below-conv R 1 (3 * d + 1) (neg (cast (Series R) 2)) _ (omega arith) (r-neg R (r-cast R 2) .below)
         (below-conv R (2 * d + 2) d n (∂ R g) (omega arith) n-below (below-∂ R g (omega arith) g-below)))
         (below-conv R (2 * d + 1) (suc d) (∂ R n) g (omega arith) (below-∂ R n (omega arith) n-below) g-below))
@@ -81,12 +81,12 @@ module _ (R : CRing) (q : Question R) where
     unfolding terms factor
     right-below =
         subst (Below R (6 * d + 4)) (right-is g n)
-        (below-sums R _ _
-        (below-scaled R B̃ _
+        (sums-below R _ _ _
+        (scaled-below R _ B̃ _
         (below-conv R (4 * d + 1) (2 * d + 1) {k = 6 * d + 4} (g ⊗ g ⊗ (g ⊗ g)) (g ⊗ g) (omega arith) fourth-below square-below))
         (below-conv R (2 * d + 2) (4 * d + 3) n _ (omega arith) n-below
-        (below-sums R _ _ (below-conv R (2 * d + 2) (2 * d + 2) n n (omega arith) n-below n-below)
-        (below-scaled R Ã _ (below-up R (g ⊗ g ⊗ (g ⊗ g)) (omega arith) fourth-below)))))
+        (sums-below R _ _ _ (below-conv R (2 * d + 2) (2 * d + 2) n n (omega arith) n-below n-below)
+        (scaled-below R _ Ã _ (below-mono R _ _ (g ⊗ g ⊗ (g ⊗ g)) (omega arith) fourth-below)))))
 
     -- "R3 has 3ℓ + 1 coefficients"
     pub R3-bounded : ((i : ℕ) → i < 6 * d + 4 → left R q g n i ≡ right R q g n i) → R3 R q g n

@@ -1,26 +1,14 @@
--- Bounds of the degree of sums, products and derivatives, which say how many words a slice needs to hold a whole polynomial.
+-- How many words a slice needs to hold a whole derivative or product, or more.
 -- Assumes nothing.
-use mathlib.Core.Path.{_∙_, ap, ap₂, fun-ext}
+use mathlib.Core.Path.{_∙_, ap, fun-ext}
 use Prim.Native.Nat.{ℕ, zero, suc, _+_, _≤_}
 use native.Mathlib.Omega.{arith}
 use Rattle.ring.specs.Ring
 use Rattle.ring.specs.Ring.{CRing, cast}
-use Rattle.series.specs.Series.{Seq, conv, sums, negs, scaled, ∂, ∂-at, conv-zeros, conv-comm}
+use Rattle.series.specs.Series.{Seq, conv, ∂, ∂-at, conv-zeros, conv-comm}
 use Rattle.series.specs.Degree.{Below, degree-mul}
 
 module _ (R : CRing) where
-  pub below-up : {m n : ℕ} (a : Seq R) → m ≤ n → Below R m a → Below R n a
-  below-up a le h i l = h i (omega arith)
-
-  pub below-sums : {n : ℕ} (a b : Seq R) → Below R n a → Below R n b → Below R n (sums R a b)
-  below-sums a b h k i l = ap₂ (R .add) (h i l) (k i l) ∙ R .add-zero (R .𝟘)
-
-  pub below-negs : {n : ℕ} (a : Seq R) → Below R n a → Below R n (negs R a)
-  below-negs a h i l = ap (R .neg) (h i l) ∙ Ring.neg-zero R
-
-  pub below-scaled : {n : ℕ} (c : R .Car) (a : Seq R) → Below R n a → Below R n (scaled R c a)
-  below-scaled c a h i l = ap (R .mul c) (h i l) ∙ Ring.mul-zero R c
-
   pub below-∂ : {m n : ℕ} (a : Seq R) → m ≤ suc n → Below R m a → Below R n (∂ R a)
   below-∂ a le h i l = ∂-at R a i ∙ ap (R .mul (cast R (suc i))) (h (suc i) (omega arith)) ∙ Ring.mul-zero R _
 

@@ -9,11 +9,11 @@ use Rattle.ring.specs.Ring.{CRing, cast, pow}
 use Rattle.ring.specs.Identity.{solve6, solve8}
 use Rattle.ring.specs.Identity.Ex.{num, _:+_, _:-_, _:*_, :-_, _:^_}
 use Rattle.series.specs.Series.{Series, Seq, conv, scaled, const, head-then, ∂, ∂-add, ∂-leibniz, conv-const, conv-scalar}
-use Rattle.series.specs.Degree.{Below}
+use Rattle.series.specs.Degree.{Below, sums-below}
 use Rattle.series.specs.Indeterminate.{ind, cast-series, conv-cast, conv-ind}
 use Rattle.series.specs.Reversal.{r-add, r-neg, r-mul, r-pow, r-up, r-const, r-cast, r-ind}
 use Rattle.isogeny.specs.Rules.{Question, ℓ, f, N}
-use Rattle.rules.specs.Degrees.{below-sums, below-∂, below-conv}
+use Rattle.rules.specs.Degrees.{below-∂, below-conv}
 
 module _ (R : CRing) where
   open CRing (Series R) using (add as _⊕_, mul as _⊗_, neg)
@@ -69,7 +69,7 @@ module _ (R : CRing) where
   unfolding lowered
   lowered-below n s t h k =
       below-conv R 1 n (neg (cast (Series R) 2)) _ (omega arith) (r-neg R (r-cast R 2) .below)
-      (below-sums R s _ h (below-conv R 1 n (neg (cast (Series R) 4)) t (omega arith) (r-neg R (r-cast R 4) .below) k))
+      (sums-below R _ s _ h (below-conv R 1 n (neg (cast (Series R) 4)) t (omega arith) (r-neg R (r-cast R 4) .below) k))
 
   unfoldable pub bent : Seq R → Seq R → Seq R
   bent g s = lowered (∂ R s) (∂ R g ⊗ ∂ R g)
@@ -168,8 +168,8 @@ module _ (R : CRing) (q : Question R) where
   pub N-below : (g : Seq R) → 1 ≤ d → Below R (suc d) g → Below R (2 * d + 2) (N R q g)
   unfolding joined
   N-below g pos h = subst (Below R (2 * d + 2)) (N-is g)
-      (below-sums R _ _
-      (below-sums R _ _ (below-conv R 2 (2 * d + 1) line (g ⊗ g) (omega arith) line-below square-below)
+      (sums-below R _ _ _
+      (sums-below R _ _ _ (below-conv R 2 (2 * d + 1) line (g ⊗ g) (omega arith) line-below square-below)
       (below-conv R 3 (2 * d) slope (∂ R (g ⊗ g)) (omega arith) slope-below slope-of))
       (below-conv R 4 (2 * d - 1) (f R q) (bent R g (∂ R (g ⊗ g))) (omega arith) f-below (bent-below g (∂ R (g ⊗ g)) h slope-of)))
     where

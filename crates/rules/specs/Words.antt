@@ -1,8 +1,8 @@
--- Polynomials over ℤ/p in slices: a slice that holds a whole polynomial, and N in its words.
+-- Polynomials over ℤ/p in slices: a slice that holds a whole polynomial.
 -- Assumes nothing.
 use mathlib.Core.Path.{_≡_, sym, _∙_, ap}
 use mathlib.Core.List.{List}
-use Prim.Native.Nat.{ℕ, _+_, _*_, _-_, _≤_, _<_}
+use Prim.Native.Nat.{ℕ, _-_, _≤_, _<_}
 use native.Mathlib.Omega.{arith}
 use lib.ListN.{length}
 use Rattle.ring.specs.Ring
@@ -10,11 +10,7 @@ use Rattle.ring.specs.Ring.{cast}
 use Rattle.series.specs.Series.{Seq}
 use Rattle.series.specs.Degree.{Below}
 use Rattle.zmod.specs.Zmod.{Zmod, mk, minus, cast-mk, mk-sub}
-use Rattle.zmod.specs.Residues.{Reduced, poly, poly-past, Residues, residues-poly}
-use Rattle.isogeny.specs.Rules.{N}
-use Rattle.sheet.specs.declared.Values.{Values}
-use Rattle.rules.specs.Question.{half, question}
-use Rattle.rules.specs.Numerator.{N-below}
+use Rattle.zmod.specs.Residues.{Reduced, poly, Residues, residues-poly}
 
 -- the words of xs are the residues of the coefficients of a, all of them
 pub record Whole (p : ℕ) (a : Seq (Zmod p)) (xs : List ℕ) : Type 0 where
@@ -31,13 +27,3 @@ whole-same e h = record { reduced = h .reduced; same = h .same ∙ e }
 pub mk-less : {p : ℕ} (n : ℕ) → 0 < p → n ≤ p → mk p (p - n) ≡ minus p (cast (Zmod p) n)
 mk-less {p} n pos le =
     ap (mk p) (omega arith) ∙ mk-sub {p = p} pos 0 n le ∙ Ring.zero-add (Zmod p) _ ∙ ap (minus p) (sym (cast-mk p n))
-
--- N in as many words as it has coefficients
-module _ (v : Values) where
-  abbrev p : ℕ
-  p = v .p
-
-  pub N-words : (g n : List ℕ) → 1 ≤ half v → length g ≡ half v + 1 → length n ≡ 2 * half v + 2 → Residues p (N (Zmod p) (question v) (poly p g)) n
-      → poly p n ≡ N (Zmod p) (question v) (poly p g)
-  N-words g n pos l k h =
-      residues-poly h (λ i m. N-below (Zmod p) (question v) (poly p g) pos (λ j o. poly-past p g j (omega arith)) i (omega arith))

@@ -76,14 +76,14 @@ fn join(v: Values, s: &[u32], t: &[u32], e: &[u32], k: usize) -> u32
     ensures { λ r. ⌜ Residue (v .p) (joined (Zmod (v .p)) (question v) (poly (v .p) (now (s .entry))) (poly (v .p) (now (t .entry))) (poly (v .p) (now (e .entry))) k) r ⌝ }
 {
     let p = v.p;
-    let m = field::negate(v.sigma, p);
-    let n = field::negate(v.a, p);
+    let minus_sigma = field::negate(v.sigma, p);
+    let minus_a = field::negate(v.a, p);
     let x = field::combination(
         v.degree,
         back(s, 1, k),
-        m,
+        minus_sigma,
         poly::word(s, k),
-        n,
+        minus_a,
         poly::word(t, k),
     );
     let y = field::combination(
