@@ -10,7 +10,8 @@
 #   make check-package       test the package, in a temporary directory
 #
 # Variables: PREFIX (absolute, no blanks), DESTDIR (put in front of every path, for packagers), LIBDIR, BINDIR, INCLUDEDIR, DOCDIR; LIBRARY, a built
-# libsagepliers.a, and BIN, a directory of built programs, which are then taken as they are; RT, the command rt; VERSION.
+# libsagepliers.a, and BIN, a directory of built programs, which are then taken as they are; RT, INSTALL and PYTHON, the commands rt,
+# install and python3; VERSION.
 
 VERSION = 0.1.0
 
@@ -59,7 +60,7 @@ install: install-library install-programs install-tools
 paths:
 	@for path in "$(PREFIX)" "$(LIBDIR)" "$(INCLUDEDIR)" "$(BINDIR)" "$(DOCDIR)"; do \
 		case "$$path" in \
-		*[[:space:]\|\&\\\"\'\$$\#]*) echo "make: the path '$$path' has a blank or one of | & \\ \" ' # in it" >&2; exit 1;; \
+		*[[:space:]\|\&\\\"\'\$$\#]*) echo "make: the path '$$path' has a blank or one of | & \\ \" ' \$$ # in it" >&2; exit 1;; \
 		/*) ;; \
 		*) echo "make: '$$path' is no absolute path" >&2; exit 1;; \
 		esac; \

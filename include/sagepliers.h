@@ -1,8 +1,16 @@
 /* Sagepliers: normalized isogenies of odd degree over a prime field. The C entries of libsagepliers.a.
  *
- * Words and sheets. A word has 32 bits: the top four are its kind, the low 28 its value. A sheet is a run of words in a fixed order of kinds; a sheet
- * in bytes has four bytes to a word, lowest first, whatever the order of bytes of the machine. A question has 8 words, a kernel sheet at most 133,
- * a certificate at most SAGEPLIERS_ROOM.
+ * Isogenies. The domain is y^2 = x^3 + A x + B over the field of p elements, the codomain y^2 = x^3 + A~ x + B~, and the degree l is odd. An isogeny is
+ * given by two polynomials: the kernel polynomial g, of degree d = (l - 1)/2, whose roots are the abscissas of the kernel, and the numerator N. It takes
+ * (x, y) to (F, y F') with F = N/g^2; that no other factor stands before F' is what normalized means. sigma is the sum of the abscissas, each root of g
+ * counted twice.
+ *
+ * Words and sheets. A word has 32 bits: the top four are its kind, the low 28 its value. Kinds: 1 p, 2 A, 3 B, 4 A~, 5 B~, 6 l, 7 sigma, 8 a coefficient
+ * of g, 9 a coefficient of N, 15 the end, with value 0. A sheet is a run of words:
+ *    question      kinds 1 to 7, end                                              8 words
+ *    certificate   kinds 1 to 7, d + 1 words of kind 8, 2 d + 2 of kind 9, end    3 d + 11 words, at most SAGEPLIERS_ROOM
+ *    kernel sheet  kinds 1, 2, 3, 6, d + 1 words of kind 8, end                   d + 6 words, at most 133
+ * Coefficients go from the constant term up. A sheet in bytes has four bytes to a word, lowest first, whatever the order of bytes of the machine.
  *
  * Refusals. Each entry puts its questions to the sheet in a fixed order, and a sheet that does not pass is refused with the number of the first
  * question that is answered with no:
@@ -11,13 +19,13 @@
  *    3  p is a prime from 11 to 2^28 - 1
  *    4  the degree l is odd, from 3 to 255, with 2 l - 1 < p
  *    5  the curve values, and sigma where it stands, are below p
- *    6  the remaining words are exactly those of the sheet
+ *    6  the remaining words are exactly those of the sheet: coefficients below p, an end with value 0, nothing after
  *    7  no curve on the sheet is singular
- *    8  g has degree (l - 1)/2 and leading coefficient 1, and sigma is that of g (rule R1)
- *    9  N is that of g (rule R2)
- *   10  N and g meet rule R3
- *   11  there is an answer: a g that meets the rules (solve), a codomain (kernel)
- *   12  the point is one of the domain (push)
+ *    8  g has degree d and leading coefficient 1, and sigma is that of g (rule R1); of a kernel sheet only the leading coefficient is asked
+ *    9  N is that of g: N = (l x - sigma) g^2 - 2 (3 x^2 + A) g g' - 4 f (g g'' - g'^2), where f = x^3 + A x + B (rule R2)
+ *   10  f (N' g - 2 N g')^2 = N^3 + A~ N g^4 + B~ g^6 (rule R3)
+ *   11  there is an answer: a g that meets the rules (solve), a codomain that is not singular and meets rule R3 (kernel)
+ *   12  the point has coordinates below p and is on the domain, or is infinity (push)
  * No input is undefined behaviour as long as the pointers are as said below: every sequence of bytes or words gets its answer.
  *
  * Lifetimes. A pointer with its count names that many elements in memory that is valid for the whole call: to read, and for `answer` also to write.
@@ -58,7 +66,8 @@ extern "C" {
 uint32_t sagepliers_check(const uint8_t *bytes, size_t count);
 
 /* Push: the image of a point under the certificate in `count` bytes. Puts questions 2 to 10, then 12.
- * `point` is u + 2^28 v for the affine point (u, v) of the domain, or SAGEPLIERS_INFINITY; any larger number gets 12.
+ * `point` is u + 2^28 v for the affine point (u, v) of the domain, or SAGEPLIERS_INFINITY; any larger number gets 12. A u of 2^28 or more would run into
+ * v, which the entry cannot see: it is for the caller to ask that u is below 2^28.
  * Returns the number of the image, a point of the codomain, or SAGEPLIERS_REFUSED plus the number of the refusal. */
 uint64_t sagepliers_push(const uint8_t *bytes, size_t count, uint64_t point);
 
