@@ -60,8 +60,8 @@ fn judge_in(v: Values, ws: &[u32], d: usize, g: &mut [u32], n: &mut [u32], room:
     requires { ⌜ (length (now g) ≡ d + 1) × (length (now n) ≡ 2 * d + 2) × (length (now room) ≡ 2 * d + 2) ⌝ }
     ensures { λ r. ⌜ Judged (rules-asks (now (ws .entry))) r ⌝ }
 {
-    sheet::coefficients(ws, 7, g);
-    sheet::coefficients(ws, d + 8, n);
+    sheet::g_coefficients(Form::Certificate, ws, d, g);
+    sheet::n_coefficients(ws, d, n);
     rules_number(v, g, n, room)
 }
 

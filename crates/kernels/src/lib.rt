@@ -105,7 +105,8 @@ fn kernel_in(v: Values, ws: &[u32], g: &mut [u32], n: &mut [u32], answer: &mut [
     requires { ⌜ (length (now g) ≡ half v + 1) × (length (now n) ≡ 2 * half v + 2) × (392 ≤ length (now answer)) ⌝ }
     ensures { λ r. ⌜ KernelRight (now (ws .entry)) (now (answer .entry)) (now (answer .exit)) r ⌝ }
 {
-    sheet::coefficients(ws, 4, g);
+    let d = g.len() - 1;
+    sheet::g_coefficients(Form::Kernel, ws, d, g);
     finish(v, g, n, answer)
 }
 

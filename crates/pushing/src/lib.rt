@@ -91,8 +91,8 @@ fn image_in(v: Values, ws: &[u32], d: usize, g: &mut [u32], n: &mut [u32], x: u3
     requires { ⌜ (length (now g) ≡ d + 1) × (length (now n) ≡ 2 * d + 2) ⌝ }
     ensures { λ r. ⌜ Pushed (valuesOf Certificate (now (ws .entry))) (gOf Certificate (now (ws .entry))) (nOf Certificate (now (ws .entry))) x y r ⌝ }
 {
-    sheet::coefficients(ws, 7, g);
-    sheet::coefficients(ws, d + 8, n);
+    sheet::g_coefficients(Form::Certificate, ws, d, g);
+    sheet::n_coefficients(ws, d, n);
     image(v, g, n, x, y)
 }
 

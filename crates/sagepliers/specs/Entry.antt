@@ -2,7 +2,6 @@
 -- infinity; a point number above 2^56 gets 12, and a refusal is 2^57 plus its number." A byte slice stands for its words if it has whole words.
 -- Assumes nothing.
 use mathlib.Core.Path.{_≡_}
-use mathlib.Core.Logic.{_⊎_}
 use mathlib.Core.List.{List, [], _∷_, _++_}
 use Prim.Native.Nat.{ℕ, _+_, _*_, _/_, _%_, _^_, _<_, _≤_}
 use lib.Dec.{ltb}
@@ -39,8 +38,14 @@ CheckAnswer bytes (verdict.Refused n) = FirstNo (bytes-ask bytes) n
 
 -- ── check: "returns 0 (the words pass) or the number"
 
-abbrev pub CheckNumber : List ℕ → ℕ → Type 0
-CheckNumber bytes r = ((r ≡ 0) × AllYes (bytes-ask bytes)) ⊎ FirstNo (bytes-ask bytes) r
+abbrev pub verdictNumber : Verdict → ℕ
+verdictNumber verdict.Passes = 0
+verdictNumber (verdict.Refused n) = n
+
+pub record CheckNumber (bytes : List ℕ) (r : ℕ) : Type 0 where
+  pub answer : Verdict
+  pub right : CheckAnswer bytes answer
+  pub number : r ≡ verdictNumber answer
 
 -- ── the numbers of points and answers
 

@@ -3,12 +3,16 @@
 -- Assumes nothing.
 use mathlib.Core.Path.{_≡_, refl, sym, _∙_, ap, subst}
 use mathlib.Core.Bool.{cond}
-use mathlib.Core.List.{List}
+use mathlib.Core.List.{List, [], _∷_}
+use mathlib.Core.Logic.{inl, inr}
 use Prim.Native.Nat.{ℕ, _+_, _*_, _-_, _/_, _%_, _^_, _<_, _≤_}
 use native.Mathlib.Omega.{arith}
 use borrow.Author.Tests.{lt-ltb, le-ltb, ne-eqb}
 use lib.Dec.{ltb, eqb}
 use Rattle.sheet.specs.Word.{wordsOf}
+use Rattle.sheet.specs.FirstNo.{Questions, FirstNo}
+use Rattle.answers.specs.declared.Verdict.{Verdict}
+use Rattle.answers.specs.declared.Verdict.the-variants as verdict
 use Rattle.answers.specs.declared.Written.{Written}
 use Rattle.answers.specs.declared.Written.the-variants as written
 use Rattle.answers.specs.declared.Point.{Point}
@@ -18,7 +22,7 @@ use Rattle.answers.specs.declared.Image.the-variants as image
 use Rattle.answers.specs.declared.Named.{Named}
 use Rattle.answers.specs.declared.Named.the-variants as named
 use Rattle.answers.specs.Answer.{Goes, SolveRight, KernelRight, NameRight}
-use Rattle.sagepliers.specs.Entry.{pointOf, imageNumber, writtenNumber, nameNumber, PushAnswer, PushNumber, SolveNumber, KernelNumber, NameNumber}
+use Rattle.sagepliers.specs.Entry.{bytes-ask, CheckAnswer, verdictNumber, CheckNumber, pointOf, imageNumber, writtenNumber, nameNumber, PushAnswer, PushNumber, SolveNumber, KernelNumber, NameNumber}
 
 abbrev pub writtenOf : ℕ → Written
 writtenOf r = cond (ltb r (2 ^ 57)) (written.Count r) (written.Refused (r - 2 ^ 57))
@@ -29,6 +33,32 @@ nameOf r = cond (ltb r (2 ^ 57)) (named.Value r) (named.Refused (r - 2 ^ 57))
 abbrev pub imageOf : ℕ → Image
 imageOf r =
     cond (ltb r (2 ^ 56)) (image.Affine (r % 2 ^ 28) (r / 2 ^ 28)) (cond (eqb r (2 ^ 56)) image.Infinity (image.Refused (r - 2 ^ 57)))
+
+-- ── check: no question has the number 0
+
+abbrev Positive : Questions → Type 0
+Positive [] = Unit {0}
+Positive (q ∷ qs) = (1 ≤ q .0) × Positive qs
+
+positive : (qs : Questions) (n : ℕ) → Positive qs → FirstNo qs n → 1 ≤ n
+positive [] n p h = absurd h
+positive (q ∷ qs) n p (inl h) = subst (λ m. 1 ≤ m) (sym (h .0)) (p .0)
+positive (q ∷ qs) n p (inr h) = positive qs n (p .1) (h .1)
+
+abbrev pub verdictOf : ℕ → Verdict
+verdictOf r = cond (eqb r 0) verdict.Passes (verdict.Refused r)
+
+module _ (bytes : List ℕ) where
+  numbered : Positive (bytes-ask bytes)
+  numbered = (omega arith, (omega arith, (omega arith, (omega arith, (omega arith, (omega arith, (omega arith, (omega arith, (omega arith, (omega arith, tt))))))))))
+
+  verdict-back : (v : Verdict) → CheckAnswer bytes v → verdictOf (verdictNumber v) ≡ v
+  verdict-back verdict.Passes h = refl
+  verdict-back (verdict.Refused n) h =
+      ap (λ t. cond t verdict.Passes (verdict.Refused n)) (ne-eqb n 0 (λ e. omega (arith, e, positive (bytes-ask bytes) n numbered h)))
+
+  pub check-read : (r : ℕ) → CheckNumber bytes r → CheckAnswer bytes (verdictOf r)
+  check-read r h = subst (CheckAnswer bytes) (sym (ap verdictOf (h .number) ∙ verdict-back (h .answer) (h .right))) (h .right)
 
 -- ── solve and kernel: "3d + 11 words, at most 392"
 

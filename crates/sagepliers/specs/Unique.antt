@@ -1,9 +1,8 @@
 -- For each call of a C entry, and of the entries on bytes, one answer is right at most, with one content of the lent buffer.
 -- Assumes nothing.
 use mathlib.Core.Path.{_≡_, refl, sym, _∙_, ap}
-use mathlib.Core.Logic.{inl, inr}
 use mathlib.Core.List.{List, [], _∷_, _++_}
-use Prim.Native.Nat.{ℕ}
+use Prim.Native.Nat.{ℕ, _^_, _≤_}
 use lib.ListN.{length}
 use Rattle.sheet.specs.Word.{wordsOf}
 use Rattle.sheet.specs.FirstNo.{Questions, AllYes, first-no-unique, not-both}
@@ -13,7 +12,7 @@ use Rattle.answers.specs.declared.Written.{Written}
 use Rattle.answers.specs.declared.Written.the-variants as written
 use Rattle.answers.specs.declared.Image.{Image}
 use Rattle.answers.specs.declared.Image.the-variants as image
-use Rattle.answers.specs.Asked.{check-asks, push-asks}
+use Rattle.answers.specs.Asked.{Given, check-asks, push-asks}
 use Rattle.services.specs.Theorems.{solve-unique}
 use Rattle.services.specs.MoreTheorems.{push-unique, kernel-unique, name-unique}
 use Rattle.sagepliers.specs.Entry.{
@@ -22,6 +21,7 @@ use Rattle.sagepliers.specs.Entry.{
   solve-bytes-ask,
   kernel-bytes-ask,
   pointOf,
+  verdictNumber,
   imageNumber,
   writtenNumber,
   nameNumber,
@@ -38,28 +38,26 @@ use Rattle.sagepliers.specs.Entry.{
 
 -- ── check
 
-pub check-number-unique : (bytes : List ℕ) (r s : ℕ) → CheckNumber bytes r → CheckNumber bytes s → r ≡ s
-check-number-unique bytes r s (inl h) (inl k) = h .0 ∙ sym (k .0)
-check-number-unique bytes r s (inl h) (inr k) = absurd (not-both (bytes-ask bytes) s (h .1) k)
-check-number-unique bytes r s (inr h) (inl k) = absurd (not-both (bytes-ask bytes) r (k .1) h)
-check-number-unique bytes r s (inr h) (inr k) = first-no-unique (bytes-ask bytes) r s h k
-
 pub check-answer-unique : (bytes : List ℕ) (r s : Verdict) → CheckAnswer bytes r → CheckAnswer bytes s → r ≡ s
 check-answer-unique bytes verdict.Passes verdict.Passes h k = refl
 check-answer-unique bytes verdict.Passes (verdict.Refused m) h k = absurd (not-both (bytes-ask bytes) m h k)
 check-answer-unique bytes (verdict.Refused n) verdict.Passes h k = absurd (not-both (bytes-ask bytes) n k h)
 check-answer-unique bytes (verdict.Refused n) (verdict.Refused m) h k = ap verdict.Refused (first-no-unique (bytes-ask bytes) n m h k)
 
+pub check-number-unique : (bytes : List ℕ) (r s : ℕ) → CheckNumber bytes r → CheckNumber bytes s → r ≡ s
+check-number-unique bytes r s h k =
+    h .number ∙ ap verdictNumber (check-answer-unique bytes (h .answer) (k .answer) (h .right) (k .right)) ∙ sym (k .number)
+
 -- ── push
 
 -- the last question asks for more than one thing
-last-part : {A B : Type 0} (n : ℕ) (qs : Questions) → AllYes (qs ++ (n, A × B) ∷ []) → AllYes (qs ++ (n, B) ∷ [])
-last-part n [] all = (all .0 .1, tt)
-last-part n (q ∷ qs) all = (all .0, last-part n qs (all .1))
+last-part : (A B : Type 0) (n : ℕ) (qs : Questions) → AllYes (qs ++ (n, A × B) ∷ []) → AllYes (qs ++ (n, B) ∷ [])
+last-part A B n [] all = (all .0 .1, tt)
+last-part A B n (q ∷ qs) all = (all .0, last-part A B n qs (all .1))
 
 module _ (bytes : List ℕ) (k : ℕ) where
   asked : AllYes (push-number-asks bytes k) → AllYes (push-asks (wordsOf bytes) (pointOf k))
-  asked all = last-part 12 (check-asks (wordsOf bytes)) (all .1)
+  asked all = last-part (k ≤ 2 ^ 56) (Given (wordsOf bytes) (pointOf k)) 12 (check-asks (wordsOf bytes)) (all .1)
 
   pub push-answer-unique : (r s : Image) → PushAnswer bytes k r → PushAnswer bytes k s → r ≡ s
   push-answer-unique (image.Refused m) (image.Refused n) h h′ = ap image.Refused (first-no-unique (push-number-asks bytes k) m n h h′)

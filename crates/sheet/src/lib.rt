@@ -9,7 +9,7 @@ ghost use Rattle.zmod.specs.Zmod.{Zmod, mk};
 ghost use Rattle.zmod.specs.Residues.{Residue};
 ghost use Rattle.isogeny.specs.Curve.{discriminant, Nonsingular};
 ghost use Rattle.sheet.specs.Word.{kindOf, valueOf, wordAt, wordsOf};
-ghost use Rattle.sheet.specs.Form.{entry, half};
+ghost use Rattle.sheet.specs.Form.{header, entry, half};
 ghost use Rattle.sheet.specs.Place.{placeOf, columnOf, Cell};
 ghost use Rattle.sheet.specs.Asked.{PrimeAllowed, Asked2, Asked6};
 ghost use Rattle.sheet.specs.Reading.{valuesOf, Right};
@@ -313,13 +313,33 @@ pub fn read(form: Form, ws: &[u32]) -> Reading
 }
 
 // The values of the words from `from` on, as many as `out` has room for.
-pub fn coefficients(ws: &[u32], from: usize, out: &mut [u32])
+fn coefficients(ws: &[u32], from: usize, out: &mut [u32])
     requires { ⌜ from + length (now out) ≤ length (now ws) ⌝ }
     ensures { λ _. ⌜ now (out .exit) ≡ map valueOf (take (length (now (out .entry))) (drop from (now (ws .entry)))) ⌝ }
 {
     for i in 0..out.len() {
         out[i] = value(ws[from + i]);
     }
+}
+
+// The coefficients of g on a sheet of degree 2 d + 1, as many as `out` has room for.
+pub fn g_coefficients(form: Form, ws: &[u32], d: usize, out: &mut [u32])
+    requires { ⌜ (d ≤ 2 ^ 28) × (length (header form) + length (now out) ≤ length (now ws)) ⌝ }
+    ensures { λ _. ⌜ now (out .exit) ≡ map valueOf (take (length (now (out .entry))) (drop (length (header form)) (now (ws .entry)))) ⌝ }
+{
+    let end = place(form, 15, d, 0);
+    let from = place(form, 8, d, end);
+    coefficients(ws, from, out);
+}
+
+// The coefficients of N on a certificate of degree 2 d + 1.
+pub fn n_coefficients(ws: &[u32], d: usize, out: &mut [u32])
+    requires { ⌜ (d ≤ 2 ^ 28) × (d + 8 + length (now out) ≤ length (now ws)) ⌝ }
+    ensures { λ _. ⌜ now (out .exit) ≡ map valueOf (take (length (now (out .entry))) (drop (d + 8) (now (ws .entry)))) ⌝ }
+{
+    let end = place(Form::Certificate, 15, d, 0);
+    let from = place(Form::Certificate, 9, d, end);
+    coefficients(ws, from, out);
 }
 
 fn byte(x: u8) -> u32

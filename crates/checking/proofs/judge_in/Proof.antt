@@ -9,34 +9,33 @@ use Rattle.checking.proofs.Coefficients.{Fit, fit, length-of}
 use Rattle.checking.proofs.judge_in.Statement.{statement}
 use Rattle.checking.proofs.judge_in.Tie as tie
 
-coefficients-requires : tie.Need-coefficients-requires
-coefficients-requires c κs =
+g-coefficients-requires : tie.Need-g-coefficients-requires
+g-coefficients-requires c κs =
     let start = c .before .before .before .before .before in
     let of = start .pre .1 .0 in
-    omega (arith, length-of (start .args .ws .now) (start .args .v) (start .args .d) (of .0) (of .1) (start .pre .1 .1 .0))
+    let long = length-of (start .args .ws .now) (start .args .v) (start .args .d) (of .0) (of .1) (start .pre .1 .1 .0) in
+    (omega (arith, of .1, start .pre .0 .most), omega (arith, long))
 
-add-coefficients : tie.Need-add-coefficients
-add-coefficients c = search needs
-
-coefficients-requires-2 : tie.Need-coefficients-requires-2
-coefficients-requires-2 c κs =
+n-coefficients-requires : tie.Need-n-coefficients-requires
+n-coefficients-requires c κs =
     let start = c .before .before .before .before .before .before .before .before .before in
     let of = start .pre .1 .0 in
-    omega (arith, length-of (start .args .ws .now) (start .args .v) (start .args .d) (of .0) (of .1) (start .pre .1 .1 .0))
+    let long = length-of (start .args .ws .now) (start .args .v) (start .args .d) (of .0) (of .1) (start .pre .1 .1 .0) in
+    (omega (arith, of .1, start .pre .0 .most), omega (arith, long))
 
 -- what was read out
-fitted : (c : tie.After-coefficients2)
+fitted : (c : tie.After-n-coefficients)
     → Fit (c .before .before .before .before .before .before .before .before .before .before .args .ws .now)
     (c .before .before .before .before .before .before .before .before .before .before .args .v)
-    (c .before .before .before .before .coefficients .last .1 .1 .0) (c .coefficients2 .last .1 .1 .0)
+    (c .before .before .before .before .g-coefficients .last .1 .1 .1 .0) (c .n-coefficients .last .1 .1 .0)
 fitted c =
     let first = c .before .before .before .before in
     let start = first .before .before .before .before .before .before in
     let of = start .pre .1 .0 in
     fit (start .args .ws .now) (start .args .v) (start .args .d) (of .0) (of .1) (start .pre .1 .1 .0)
-    (first .coefficients .last .1 .1 .0) (c .coefficients2 .last .1 .1 .0)
+    (first .g-coefficients .last .1 .1 .1 .0) (c .n-coefficients .last .1 .1 .0)
     (length (start .args .g .now)) (length (start .args .n .now)) (start .args .d + 8) (omega arith) (omega arith) (omega arith)
-    (first .coefficients .ensures) (c .coefficients2 .ensures)
+    (first .g-coefficients .ensures) (c .n-coefficients .ensures)
 
 rules-number-requires : tie.Need-rules-number-requires
 rules-number-requires c κs =
@@ -65,9 +64,8 @@ pub judge-in-spec : {M : Type 1} → statement M
 judge-in-spec =
     tie.close
     (tie.spec
-    coefficients-requires
-    add-coefficients
-    coefficients-requires-2
+    g-coefficients-requires
+    n-coefficients-requires
     rules-number-requires
     same-length
     same-length-2

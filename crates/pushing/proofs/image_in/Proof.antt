@@ -8,20 +8,19 @@ use Rattle.pushing.proofs.Images.{read-pushed}
 use Rattle.pushing.proofs.image_in.Statement.{statement}
 use Rattle.pushing.proofs.image_in.Tie as tie
 
-coefficients-requires : tie.Need-coefficients-requires
-coefficients-requires c κs =
+g-coefficients-requires : tie.Need-g-coefficients-requires
+g-coefficients-requires c κs =
     let start = c .before .before .before .before in
     let of = start .pre .1 .0 in
-    omega (arith, length-of (start .args .ws .now) (start .args .v) (start .args .d) (of .0) (of .1) (start .pre .1 .1 .0))
+    let long = length-of (start .args .ws .now) (start .args .v) (start .args .d) (of .0) (of .1) (start .pre .1 .1 .0) in
+    (omega (arith, of .1, start .pre .0 .0 .most), omega (arith, long))
 
-add-coefficients : tie.Need-add-coefficients
-add-coefficients c = search needs
-
-coefficients-requires-2 : tie.Need-coefficients-requires-2
-coefficients-requires-2 c κs =
+n-coefficients-requires : tie.Need-n-coefficients-requires
+n-coefficients-requires c κs =
     let start = c .before .before .before .before .before .before .before .before in
     let of = start .pre .1 .0 in
-    omega (arith, length-of (start .args .ws .now) (start .args .v) (start .args .d) (of .0) (of .1) (start .pre .1 .1 .0))
+    let long = length-of (start .args .ws .now) (start .args .v) (start .args .d) (of .0) (of .1) (start .pre .1 .1 .0) in
+    (omega (arith, of .1, start .pre .0 .0 .most), omega (arith, long))
 
 image-requires : tie.Need-image-requires
 image-requires c κs =
@@ -41,16 +40,15 @@ returns c =
     let start = first .before .before .before .before .before in
     let of = start .pre .1 .0 in
     read-pushed (start .args .ws .now) (start .args .v) (start .args .d) (of .0) (of .1)
-    (first .coefficients .last .1 .1 .0) (second .coefficients2 .last .1 .1 .0) (length (start .args .g .now)) (length (start .args .n .now)) (start .args .d + 8) (omega arith) (omega arith) (omega arith)
-    (first .coefficients .ensures) (second .coefficients2 .ensures) (start .args .x) (start .args .y) (c .image .result) (c .image .ensures)
+    (first .g-coefficients .last .1 .1 .1 .0) (second .n-coefficients .last .1 .1 .0) (length (start .args .g .now)) (length (start .args .n .now)) (start .args .d + 8) (omega arith) (omega arith) (omega arith)
+    (first .g-coefficients .ensures) (second .n-coefficients .ensures) (start .args .x) (start .args .y) (c .image .result) (c .image .ensures)
 
 pub image-in-spec : {M : Type 1} → statement M
 image-in-spec =
     tie.close
     (tie.spec
-    coefficients-requires
-    add-coefficients
-    coefficients-requires-2
+    g-coefficients-requires
+    n-coefficients-requires
     image-requires
     same-length
     same-length-2

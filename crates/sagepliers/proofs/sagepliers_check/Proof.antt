@@ -1,7 +1,7 @@
 -- `sagepliers::sagepliers_check` meets its contract. Assumes nothing.
 use borrow.Author.Needs.{needs}
-use mathlib.Core.Logic.{inl, inr}
 use mathlib.Core.Path.{refl, subst}
+use Rattle.answers.specs.declared.Verdict.the-variants as verdict
 use Rattle.sagepliers.specs.Entry.{CheckAnswer}
 use Rattle.sagepliers.proofs.sagepliers_check.Statement.{statement}
 use Rattle.sagepliers.proofs.sagepliers_check.Tie as tie
@@ -18,12 +18,13 @@ enum-told c = search needs
 returns : tie.Need-returns
 returns c =
     let start = c .before .before .before .before in
-    inl (refl, subst (CheckAnswer (start .args .bytes .now)) (c .enum-told .given .1) (c .before .before .check .ensures))
+    record { answer = verdict.Passes; right = subst (CheckAnswer (start .args .bytes .now)) (c .enum-told .given .1) (c .before .before .check .ensures); number = refl }
 
 returns-2 : tie.Need-returns-2
 returns-2 c =
     let start = c .before .before .before .before .before in
-    inr (subst (CheckAnswer (start .args .bytes .now)) (c .before .n .given .1) (c .before .before .before .check .ensures))
+    let n = c .before .n .given in
+    record { answer = verdict.Refused (n .0 .0); right = subst (CheckAnswer (start .args .bytes .now)) (n .1) (c .before .before .before .check .ensures); number = refl }
 
 pub sagepliers-check-spec : {M : Type 1} → statement M
 sagepliers-check-spec =

@@ -1,0 +1,37 @@
+-- `sheet::g_coefficients` meets its contract. Assumes nothing.
+use mathlib.Core.Path.{_≡_, _∙_, ap, sym}
+use mathlib.Core.List.{map}
+use native.Mathlib.Omega.{arith}
+use lib.ListN.{length, take, drop}
+use borrow.Author.Needs.{needs}
+use Rattle.sheet.specs.Word.{valueOf}
+use Rattle.sheet.specs.Form.{header}
+use Rattle.sheet.proofs.Body.{end-place, g-place}
+use Rattle.sheet.proofs.g_coefficients.Statement.{statement}
+use Rattle.sheet.proofs.g_coefficients.Tie as tie
+
+place-requires : tie.Need-place-requires
+place-requires c κs = search needs
+
+place-requires-2 : tie.Need-place-requires-2
+place-requires-2 c κs = search needs
+
+coefficients-requires : tie.Need-coefficients-requires
+coefficients-requires c κs =
+    let a = c .before .before .before .before .before .args in
+    let at : c .before .place2 .result ≡ length (header (a .form)) =
+    c .before .place2 .ensures ∙ g-place (a .d) (c .before .before .place .result) (a .form) (c .before .before .place .ensures ∙ end-place (a .d) 0 (a .form)) in
+    omega (arith, at, c .before .before .before .before .before .pre)
+
+same-length : tie.Need-same-length
+same-length c = search needs
+
+returns : tie.Need-returns
+returns c =
+    let a = c .before .before .before .before .before .before .before .before .args in
+    let at : c .before .before .before .before .place2 .result ≡ length (header (a .form)) =
+    c .before .before .before .before .place2 .ensures ∙ g-place (a .d) (c .before .before .before .before .before .place .result) (a .form) (c .before .before .before .before .before .place .ensures ∙ end-place (a .d) 0 (a .form)) in
+    c .before .before .coefficients .ensures ∙ ap (λ k. map valueOf (take (length (a .out .now)) (drop k (a .ws .now)))) at
+
+pub g-coefficients-spec : {M : Type 1} → statement M
+g-coefficients-spec = tie.close (tie.spec place-requires place-requires-2 coefficients-requires same-length returns)
