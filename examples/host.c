@@ -163,7 +163,7 @@ int main(int argc, char **argv)
     }
 
     if (fflush(stdout) != 0 || ferror(stdout)) {
-        fprintf(stderr, "host: cannot write the answer: %s\n", strerror(errno));
+        fprintf(stderr, "host: cannot write the answer\n");
         return FAILED;
     }
     return status;

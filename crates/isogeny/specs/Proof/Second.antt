@@ -1,4 +1,4 @@
--- The derivative of R3 divided by W = N′ g − 2 N g′: the polynomial f′ W g + 2 f (W′ g − 3 w g′) − 3 N² − Ã g⁴, of degree at most 2 ℓ. At infinity it
+-- The derivative of R3 divided by W = N′ g − 2 N g′: the polynomial f′ W g + 2 f (W′ g − 3 W g′) − 3 N² − Ã g⁴, of degree at most 2 ℓ. At infinity it
 -- is G⁴ Ψ; where g meets the rules it is zero.
 -- Assumes nothing.
 use mathlib.Core.Path.{_≡_, refl, sym, _∙_, ap, ap₂}
