@@ -9,9 +9,14 @@ here=$(pwd)
 cd "$(dirname "$0")"
 . ./environment.sh
 
+# Without a network apt-get may wait for long.
+packages() {
+    DEBIAN_FRONTEND=noninteractive timeout 180 apt-get "$@" >&2
+}
+
 if ! command -v gp >/dev/null; then
-    apt-get install -y --no-install-recommends pari-gp >&2 ||
-        { apt-get update >&2 && apt-get install -y --no-install-recommends pari-gp >&2; } || true
+    packages install -y --no-install-recommends pari-gp ||
+        { packages update && packages install -y --no-install-recommends pari-gp; } || true
 fi
 if ! command -v gp >/dev/null; then
     echo "PARI/GP IS MISSING AND CANNOT BE INSTALLED: NOTHING WAS COMPARED WITH IT" >&2
