@@ -79,22 +79,22 @@ awk '$1 != "Name" && $5 !~ /^0*$/ && $7 ~ /W/ { print $1; found = 1 } END { exit
 
 step "install and uninstall under DESTDIR"
 stage=$work/stage
-install install-library install-tools ${bin:+install-programs} DESTDIR="$stage" PREFIX=/opt/somewhere >"$work/log" 2>&1 || { cat "$work/log"; fail "install"; }
+install install-library install-tools ${bin:+install-programs} DESTDIR="$stage" PREFIX=/prefix >"$work/log" 2>&1 || { cat "$work/log"; fail "install"; }
 (cd "$stage" && find . -type f | sort) >"$work/installed"
 {
-    echo ./opt/somewhere/lib/libsagepliers.a
-    echo ./opt/somewhere/lib/pkgconfig/sagepliers.pc
-    echo ./opt/somewhere/include/sagepliers.h
-    echo ./opt/somewhere/bin/sagepliers-sheets
-    echo ./opt/somewhere/share/doc/sagepliers/TUTORIAL.md
-    echo ./opt/somewhere/share/doc/sagepliers/examples/host.c
-    [ -z "$bin" ] || printf './opt/somewhere/bin/sagepliers-%s\n' answer kernel verify push
+    echo ./prefix/lib/libsagepliers.a
+    echo ./prefix/lib/pkgconfig/sagepliers.pc
+    echo ./prefix/include/sagepliers.h
+    echo ./prefix/bin/sagepliers-sheets
+    echo ./prefix/share/doc/sagepliers/TUTORIAL.md
+    echo ./prefix/share/doc/sagepliers/examples/host.c
+    [ -z "$bin" ] || printf './prefix/bin/sagepliers-%s\n' answer kernel verify push
 } | sort >"$work/wanted"
 diff "$work/wanted" "$work/installed" || fail "the installed files are not those wanted"
-if grep -rn -e '@' -e "$work" "$stage/opt/somewhere/lib/pkgconfig/sagepliers.pc"; then fail "the pkg-config file names DESTDIR or has a gap"; fi
-install uninstall DESTDIR="$stage" PREFIX=/opt/somewhere >"$work/log" 2>&1 || { cat "$work/log"; fail "uninstall"; }
+if grep -rn -e '@' -e "$work" "$stage/prefix/lib/pkgconfig/sagepliers.pc"; then fail "the pkg-config file names DESTDIR or has a gap"; fi
+install uninstall DESTDIR="$stage" PREFIX=/prefix >"$work/log" 2>&1 || { cat "$work/log"; fail "uninstall"; }
 [ -z "$(find "$stage" -type f)" ] || fail "uninstall left files behind"
-[ ! -d "$stage/opt/somewhere/share/doc/sagepliers" ] || fail "uninstall left its directory behind"
+[ ! -d "$stage/prefix/share/doc/sagepliers" ] || fail "uninstall left its directory behind"
 
 step "make refuses what it cannot do"
 if make RT=false LIBRARY="$work/none.a" PREFIX="$work/no" install-library >"$work/log" 2>&1; then fail "a LIBRARY that is not there was installed"; fi

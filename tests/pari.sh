@@ -24,13 +24,7 @@ if ! command -v gp >/dev/null; then
     exit 0
 fi
 
-# A relative directory is meant from where the script was called.
-SAGEPLIERS_LIB_DIR=$(cd "$here" && cd "${SAGEPLIERS_LIB_DIR:-$CARGO_TARGET_DIR/../staticlib}" && pwd)
-export SAGEPLIERS_LIB_DIR
-if [ ! -f "$SAGEPLIERS_LIB_DIR/libsagepliers.a" ]; then
-    echo "no libsagepliers.a in $SAGEPLIERS_LIB_DIR" >&2
-    exit 1
-fi
+library_in "${SAGEPLIERS_LIB_DIR:-$CARGO_TARGET_DIR/../staticlib}"
 cargo build -q -j1 --release -p pari
 script=$CARGO_TARGET_DIR/pari.gp
 if ! "$CARGO_TARGET_DIR/release/pari" "$script"; then

@@ -13,12 +13,6 @@ if [ -z "${SAGEPLIERS_LIB_DIR:-}" ]; then
     echo "SAGEPLIERS_LIB_DIR is not set: no library to compare with"
     exit 0
 fi
-# A relative directory is meant from where the script was called.
-SAGEPLIERS_LIB_DIR=$(cd "$here" && cd "$SAGEPLIERS_LIB_DIR" && pwd)
-export SAGEPLIERS_LIB_DIR
-if [ ! -f "$SAGEPLIERS_LIB_DIR/libsagepliers.a" ]; then
-    echo "no libsagepliers.a in $SAGEPLIERS_LIB_DIR" >&2
-    exit 1
-fi
+library_in "$SAGEPLIERS_LIB_DIR"
 cargo build -q -j1 --release -p compare
 exec "$CARGO_TARGET_DIR/release/compare" "$@"

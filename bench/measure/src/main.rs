@@ -30,17 +30,8 @@ pub struct Row {
 
 /// What is timed must answer alike.
 fn compare(input: &Input) {
-    let Input {
-        bytes,
-        question,
-        kernel,
-        words,
-        point,
-        values,
-        g,
-        n,
-        ..
-    } = input;
+    let (bytes, point, values) = (&input.bytes, input.point, &input.values);
+    let (g, n, words) = (&input.g, &input.n, &input.words);
     assert_eq!((entries::check(bytes), same::check(bytes)), (0, 0));
     assert_eq!(entries::flint(values, g, n), 0);
     let count = words.len() as u64;
@@ -50,15 +41,15 @@ fn compare(input: &Input) {
         assert_eq!(&answer[..words.len()], words);
         answer.fill(0);
     };
-    holds(entries::solve(question, &mut answer), &mut answer);
-    holds(same::solve(question, &mut answer), &mut answer);
-    holds(entries::kernel(kernel, &mut answer), &mut answer);
-    holds(same::kernel(kernel, &mut answer), &mut answer);
-    let on_domain = reference::call::point_of(*point).expect("the number of a point");
+    holds(entries::solve(&input.question, &mut answer), &mut answer);
+    holds(same::solve(&input.question, &mut answer), &mut answer);
+    holds(entries::kernel(&input.kernel, &mut answer), &mut answer);
+    holds(same::kernel(&input.kernel, &mut answer), &mut answer);
+    let on_domain = reference::call::point_of(point).expect("the number of a point");
     let image = reference::services::image(&input.certificate, on_domain);
     let image = reference::call::point_number(image.expect("a point of the domain"));
     assert_eq!(
-        (entries::push(bytes, *point), same::push(bytes, *point)),
+        (entries::push(bytes, point), same::push(bytes, point)),
         (image, image)
     );
     for (number, bytes) in &input.refused {

@@ -5,10 +5,10 @@ use mathlib.Core.Path.{_≡_}
 use mathlib.Core.List.{List, [], _∷_, _++_}
 use Prim.Native.Nat.{ℕ, _+_, _*_, _/_, _%_, _^_, _<_, _≤_}
 use lib.Dec.{ltb}
-use lib.ListN.{length, take}
+use lib.ListN.{length, take, drop}
 use mathlib.Core.Bool.{cond}
 use Rattle.sheet.specs.declared.Form.the-variants.{Question as question-form, Kernel}
-use Rattle.sheet.specs.Word.{wordsOf}
+use Rattle.sheet.specs.Word.{wordAt, wordsOf}
 use Rattle.sheet.specs.Asked.{asked}
 use Rattle.sheet.specs.Reading.{valuesOf}
 use Rattle.sheet.specs.FirstNo.{Questions, AllYes, FirstNo}
@@ -79,6 +79,12 @@ pub record PushNumber (bytes : List ℕ) (k r : ℕ) : Type 0 where
   pub answer : Image
   pub right : PushAnswer bytes k answer
   pub number : r ≡ imageNumber answer
+
+-- ── the input of the push program: the point's number in eight bytes, the lowest first, then the certificate; fewer bytes have no word of one
+
+pub record PushInput (bytes : List ℕ) (answer : Image) : Type 0 where
+  pub short : length bytes < 8 → answer ≡ image.Refused 2
+  pub long : 8 ≤ length bytes → PushAnswer (drop 8 bytes) (wordAt bytes 0 + 2 ^ 32 * wordAt bytes 1) answer
 
 -- ── solve and kernel on words, and name: "told from a refusal by its kind", here by 2^57
 

@@ -2,9 +2,11 @@
 -- Assumes nothing.
 use mathlib.Core.Path.{_≡_, refl, sym, _∙_, ap}
 use mathlib.Core.List.{List, [], _∷_, _++_}
-use Prim.Native.Nat.{ℕ, _^_, _≤_}
-use lib.ListN.{length}
-use Rattle.sheet.specs.Word.{wordsOf}
+use Prim.Native.Nat.{ℕ, _+_, _*_, _^_, _<_, _≤_}
+use native.Mathlib.Decide.{decLt}
+use native.Mathlib.Omega.{arith}
+use lib.ListN.{length, drop}
+use Rattle.sheet.specs.Word.{wordAt, wordsOf}
 use Rattle.sheet.specs.FirstNo.{Questions, AllYes, first-no-unique, not-both}
 use Rattle.answers.specs.declared.Verdict.{Verdict}
 use Rattle.answers.specs.declared.Verdict.the-variants as verdict
@@ -29,6 +31,7 @@ use Rattle.sagepliers.specs.Entry.{
   CheckNumber,
   PushAnswer,
   PushNumber,
+  PushInput,
   SolveNumber,
   KernelNumber,
   NameNumber,
@@ -75,6 +78,13 @@ module _ (bytes : List ℕ) (k : ℕ) where
 
   pub push-number-unique : (r s : ℕ) → PushNumber bytes k r → PushNumber bytes k s → r ≡ s
   push-number-unique r s h h′ = h .number ∙ ap imageNumber (push-answer-unique (h .answer) (h′ .answer) (h .right) (h′ .right)) ∙ sym (h′ .number)
+
+pub push-input-unique : (bytes : List ℕ) (r s : Image) → PushInput bytes r → PushInput bytes s → r ≡ s
+push-input-unique bytes r s h k = go (decLt (length bytes) 8)
+  where
+    go : Dec (length bytes < 8) → r ≡ s
+    go (yes l) = h .short l ∙ sym (k .short l)
+    go (no l) = push-answer-unique (drop 8 bytes) (wordAt bytes 0 + 2 ^ 32 * wordAt bytes 1) r s (h .long (omega arith)) (k .long (omega arith))
 
 -- ── solve and kernel, on words and on bytes
 

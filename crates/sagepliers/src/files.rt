@@ -8,7 +8,7 @@ ghost use mathlib.Core.Path.{_≡_};
 ghost use Prim.Native.Nat.{_+_, _*_, _^_, _<_, _≤_, min};
 ghost use lib.ListN.{length};
 ghost use Rattle.sheet.specs.Word.{wordAt};
-ghost use Rattle.sagepliers.specs.Entry.{pointOf, CheckAnswer, PushAnswer, SolveAnswer, KernelAnswer, Loaded};
+ghost use Rattle.sagepliers.specs.Entry.{pointOf, CheckAnswer, PushAnswer, PushInput, SolveAnswer, KernelAnswer, Loaded};
 
 // The point number of infinity, 2^56; smaller ones are u + 2^28·v.
 pub const INFINITY: u64 = 72057594037927936;
@@ -53,7 +53,7 @@ fn wide(x: u32) -> u64
 }
 
 // The number in eight bytes, lowest first.
-pub fn number(bytes: &[u8]) -> u64
+fn number(bytes: &[u8]) -> u64
     requires { ⌜ 8 ≤ length (now bytes) ⌝ }
     ensures { λ r. ⌜ r ≡ wordAt (now (bytes .entry)) 0 + 2 ^ 32 * wordAt (now (bytes .entry)) 1 ⌝ }
 {
@@ -124,4 +124,16 @@ pub fn kernel(bytes: &[u8], answer: &mut [u32]) -> Written
     let mut words = blank();
     let n = keep(bytes, &mut words);
     services::kernel(&words[..n], answer)
+}
+
+// Push on the input of the push program: a point's number in eight bytes, lowest first, and the certificate behind it. Fewer bytes hold no point, and
+// no word of a certificate: question 2.
+pub fn push_input(bytes: &[u8]) -> Image
+    ensures { λ r. ⌜ PushInput (now (bytes .entry)) r ⌝ }
+{
+    if bytes.len() < 8 {
+        return Image::Refused(2);
+    }
+    let point = number(bytes);
+    push(&bytes[8..], point)
 }

@@ -9,12 +9,6 @@ ghost use mathlib.Core.Path.{_≡_};
 ghost use Prim.Native.Nat.{_+_, _*_, _^_};
 ghost use Rattle.sagepliers.specs.Entry.{writtenNumber, CheckNumber, PushNumber, SolveNumber, KernelNumber, NameNumber};
 
-fn wide(x: u32) -> u64
-    ensures { λ r. ⌜ r ≡ x ⌝ }
-{
-    x as u64
-}
-
 #[no_mangle]
 pub extern "C" fn sagepliers_check(bytes: &[u8]) -> u32
     ensures { λ r. ⌜ CheckNumber (now (bytes .entry)) r ⌝ }
@@ -29,14 +23,14 @@ pub extern "C" fn sagepliers_check(bytes: &[u8]) -> u32
 pub fn point_number(u: u32, v: u32) -> u64
     ensures { λ r. ⌜ r ≡ u + 2 ^ 28 * v ⌝ }
 {
-    wide(u) + 268435456 * wide(v)
+    field::wide(u) + 268435456 * field::wide(v)
 }
 
 // 2^57 plus a refusal's number: no point, count or j-value is so large.
 fn refusal(n: u32) -> u64
     ensures { λ r. ⌜ r ≡ 2 ^ 57 + n ⌝ }
 {
-    144115188075855872 + wide(n)
+    144115188075855872 + field::wide(n)
 }
 
 #[no_mangle]
@@ -58,7 +52,7 @@ fn written_number(written: Written) -> u64
     ensures { λ r. ⌜ r ≡ writtenNumber written ⌝ }
 {
     match written {
-        Written::Count(c) => wide(c),
+        Written::Count(c) => field::wide(c),
         Written::Refused(n) => refusal(n),
     }
 }
@@ -83,7 +77,7 @@ pub extern "C" fn sagepliers_name(p: u32, a: u32, b: u32) -> u64
 {
     let name = services::name(p, a, b);
     match name {
-        Named::Value(j) => wide(j),
+        Named::Value(j) => field::wide(j),
         Named::Refused(n) => refusal(n),
     }
 }

@@ -61,9 +61,15 @@ fn of_kernel(curve: &Curve, l: u64, g: &Poly) -> Certificate {
         .expect("a subgroup of odd order is the kernel of a normalized isogeny")
 }
 
-/// A certificate for each wanted degree that turns up on some of the first
-/// `curves` random curves over p; each degree must pass question 4.
-pub fn from_points(random: &mut Random, p: u64, wanted: &[u64], curves: usize) -> Vec<Certificate> {
+/// What `find` finds for each wanted degree that turns up on some of the first
+/// `curves` random curves over p.
+pub fn on_curves<T>(
+    random: &mut Random,
+    p: u64,
+    wanted: &[u64],
+    curves: usize,
+    find: impl Fn(&mut Random, &Curve, &[u64]) -> Vec<(u64, T)>,
+) -> Vec<T> {
     let mut missing = wanted.to_vec();
     let mut found = Vec::new();
     for _ in 0..curves {
@@ -71,12 +77,21 @@ pub fn from_points(random: &mut Random, p: u64, wanted: &[u64], curves: usize) -
             break;
         }
         let curve = random_curve(random, p);
-        for (l, g) in kernels_over(random, &curve, &missing) {
+        for (l, one) in find(random, &curve, &missing) {
             missing.retain(|&other| other != l);
-            found.push(of_kernel(&curve, l, &g));
+            found.push(one);
         }
     }
     found
+}
+
+/// A certificate for each wanted degree that turns up on some of the first
+/// `curves` random curves over p; each degree must pass question 4.
+pub fn from_points(random: &mut Random, p: u64, wanted: &[u64], curves: usize) -> Vec<Certificate> {
+    on_curves(random, p, wanted, curves, |random, curve, missing| {
+        let kernels = kernels_over(random, curve, missing).into_iter();
+        kernels.map(|(l, g)| (l, of_kernel(curve, l, &g))).collect()
+    })
 }
 
 /// One step after the other. The composed kernel consists of the first kernel
