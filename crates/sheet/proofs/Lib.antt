@@ -1,13 +1,6 @@
-pub mod Table
-pub mod Sections
+pub mod Linear
 pub mod Places
+pub mod Down
 pub mod Answers
-pub mod Header
-pub mod Fields
 pub mod Singular
-pub mod Body
-pub mod Domains
-pub mod Questions
 pub mod Copies
-pub mod Accepted
-pub mod LongSheet

@@ -2,18 +2,19 @@
 -- Assumes nothing.
 use mathlib.Core.Path.{_≡_, refl, sym, _∙_, ap, ap₂}
 use mathlib.Core.Bool.{Bool, true, false, cond}
-use mathlib.Core.List.{List, [], _∷_, _++_, append-assoc}
+use mathlib.Core.List.{List, [], _∷_, _++_}
 use Prim.Native.Nat.{ℕ, zero, suc, _+_, _*_, _-_, _<_, _≤_}
 use native.Mathlib.Nat as N
 use native.Mathlib.Omega.{arith}
 use lib.Dec.{eqb, ltb, eqb→eq, ltb→lt}
-use lib.ListN.{getD, replicate}
+use lib.ListN.{length, getD, replicate}
 use Rattle.sheet.specs.declared.Form.{Form}
 use Rattle.sheet.specs.declared.Form.the-variants.{Question, Certificate, Kernel}
-use Rattle.sheet.specs.Form.{header, body, position, holds}
-use Rattle.sheet.specs.Place.{kindsOf, placeOf, columnOf}
-use Rattle.sheet.proofs.Table.{at}
-use Rattle.sheet.proofs.Sections.{Section, section, expand, has, base, slope, holds-sections, position-sections, total, base-most}
+use Rattle.sheet.specs.Form.{header, kindsOf, position, holds}
+use Rattle.sheet.specs.Place.{placeOf, columnOf}
+use Rattle.sheet.specs.Body.{last, certificate-words, kernel-words}
+use Rattle.sheet.specs.Table.{at}
+use Rattle.sheet.proofs.Linear.{Section, section, expand, has, base, slope, holds-sections, position-sections, total, base-most}
 
 -- ── the forms in sections
 
@@ -35,7 +36,7 @@ n-more d = omega arith
 
 in-sections : (form : Form) (d : ℕ) → kindsOf form d ≡ expand d (sections form)
 in-sections Question d = simp no-more
-in-sections Certificate d = simp (no-more, g-more, n-more, append-assoc)
+in-sections Certificate d = simp (no-more, g-more, n-more)
 in-sections Kernel d = simp (no-more, g-more)
 
 -- a number + a number · d
@@ -116,3 +117,25 @@ module _ (form : Form) (k d none : ℕ) where
       ap₂ (λ x y. x + (y - x) * d) (place-is form k 0 255) (place-is form k 1 255)
       ∙ present (has k (sections form)) (base k (sections form)) (slope k (sections form)) d none (early form k) (λ e. n (place-is form k 0 255 ∙ e))
       ∙ sym (place-is form k d none)
+
+-- ── the places that the reader and the writer ask for
+
+module _ (d none : ℕ) where
+  pub end-place : (form : Form) → placeOf form 15 d none ≡ last form d
+  end-place Question = place-is Question 15 d none ∙ omega arith
+  end-place Certificate = place-is Certificate 15 d none ∙ omega (arith, certificate-words d)
+  end-place Kernel = place-is Kernel 15 d none ∙ omega (arith, kernel-words d)
+
+  -- where the form has no coefficients of g, they would stand at the end
+  pub g-place : (form : Form) → none ≡ last form d → placeOf form 8 d none ≡ length (header form)
+  g-place Question e = place-is Question 8 d none ∙ omega arith
+  g-place Certificate e = place-is Certificate 8 d none ∙ omega arith
+  g-place Kernel e = place-is Kernel 8 d none ∙ omega arith
+
+  pub n-place : placeOf Certificate 9 d none ≡ d + 8
+  n-place = place-is Certificate 9 d none ∙ omega arith
+
+pub end-small : (d : ℕ) (form : Form) → last form d ≤ 3 * d + 10
+end-small d Question = omega arith
+end-small d Certificate = omega (arith, certificate-words d)
+end-small d Kernel = omega (arith, kernel-words d)

@@ -1,69 +1,63 @@
--- Document 01's questions 2 to 7, "Questions put to a sheet", each as a proposition about the words of a sheet of one of the forms.
+-- Document 01's questions 2 to 7. Those about values are asked of the values, 2 and 6 of the words.
 -- Assumes nothing.
 use mathlib.Core.Path.{_≡_}
+use mathlib.Core.Bool.{true}
 use mathlib.Core.List.{List, [], _∷_, map}
 use Prim.Native.Nat.{ℕ, _+_, _*_, _-_, _%_, _^_, _<_, _≤_}
 use lib.ListN.{length, getD, take, drop}
 use Rattle.zmod.specs.Zmod.{Zmod, mk}
 use Rattle.zmod.specs.Prime.{Prime}
 use Rattle.isogeny.specs.Curve.{Nonsingular}
+use Rattle.questions.specs.Questions.{Questions}
 use Rattle.sheet.specs.declared.Form.{Form}
-use Rattle.sheet.specs.declared.Form.the-variants.{Question, Certificate, Kernel}
+use Rattle.sheet.specs.declared.Values.{Values}
 use Rattle.sheet.specs.Word.{kindOf, valueOf}
-use Rattle.sheet.specs.Form.{header, body, entry, half}
-use Rattle.sheet.specs.FirstNo.{Questions}
+use Rattle.sheet.specs.Form.{header, body, holds}
+use Rattle.sheet.specs.Values.{valuesOf, half}
 
--- 3. "Is p a prime from 11 to 2^28 − 1?"
+-- 2: each word of the header is there, and of its kind
+unfoldable pub Asked2 : Form → List ℕ → Type 0
+Asked2 form ws = map kindOf (take (length (header form)) ws) ≡ header form
+
+-- 3: which p are allowed
 pub record PrimeAllowed (p : ℕ) : Type 0 where
   pub prime : Prime p
   pub least : 11 ≤ p
   pub most : p < 2 ^ 28
 
-module _ (form : Form) (ws : List ℕ) where
-  abbrev p : ℕ
-  p = entry form 1 ws
+-- 4: which degrees are allowed over p
+pub record DegreeAllowed (ℓ p : ℕ) : Type 0 where
+  pub odd : ℓ % 2 ≡ 1
+  pub least : 3 ≤ ℓ
+  pub most : ℓ ≤ 255
+  pub small : 2 * ℓ - 1 < p
 
-  abbrev ℓ : ℕ
-  ℓ = entry form 6 ws
+-- 5: the values of the curves, and σ, are below p; a value that the form has not is 0
+pub record ValuesBelow (v : Values) : Type 0 where
+  pub a : v .a < v .p
+  pub b : v .b < v .p
+  pub atilde : v .atilde < v .p
+  pub btilde : v .btilde < v .p
+  pub sigma : v .sigma < v .p
 
-  -- 2. "Are the words before any coefficients (seven, or a kernel sheet's four) all there, each of its kind?"
-  unfoldable pub Asked2 : Type 0
-  Asked2 = map kindOf (take (length (header form)) ws) ≡ header form
+-- 6: the words after the header are those of the form, with values below p up to the end, whose value is 0
+pub record Asked6 (form : Form) (ws : List ℕ) : Type 0 where
+  pub kinds : map kindOf (drop (length (header form)) ws) ≡ body form (half (valuesOf form ws))
+  pub below : (i : ℕ) → length (header form) ≤ i → i + 1 < length ws → valueOf (getD ws i 0) < valuesOf form ws .p
+  pub end : valueOf (getD ws (length ws - 1) 0) ≡ 0
 
-  abbrev pub Asked3 : Type 0
-  Asked3 = PrimeAllowed p
-
-  -- 4. "Is ℓ odd, from 3 to 255, with 2ℓ − 1 < p?"
-  pub record Asked4 : Type 0 where
-    pub odd : ℓ % 2 ≡ 1
-    pub least : 3 ≤ ℓ
-    pub most : ℓ ≤ 255
-    pub small : 2 * ℓ - 1 < p
-
-  -- 5. "Are the curve values, and σ where it stands, below p?"
-  pub record Asked5 : Type 0 where
-    pub A : entry form 2 ws < p
-    pub B : entry form 3 ws < p
-    pub Ã : entry form 4 ws < p
-    pub B̃ : entry form 5 ws < p
-    pub σ : entry form 7 ws < p
-
-  -- 6. "Are the remaining words exactly those of the sheet, coefficients below p, end value 0, nothing after?"
-  pub record Asked6 : Type 0 where
-    pub kinds : map kindOf (drop (length (header form)) ws) ≡ body form (half form ws)
-    pub below : (i : ℕ) → length (header form) ≤ i → i + 1 < length ws → valueOf (getD ws i 0) < p
-    pub end : valueOf (getD ws (length ws - 1) 0) ≡ 0
-
--- 7. "Is each curve on the sheet free of 4A³ + 27B² = 0?"
-abbrev pub Curve : Form → List ℕ → ℕ → ℕ → Type 0
-Curve form ws a b = Nonsingular (Zmod (entry form 1 ws)) (mk (entry form 1 ws) (entry form a ws)) (mk (entry form 1 ws) (entry form b ws))
-
-unfoldable pub Asked7 : Form → List ℕ → Type 0
-Asked7 Question ws = Curve Question ws 2 3 × Curve Question ws 4 5
-Asked7 Certificate ws = Curve Certificate ws 2 3 × Curve Certificate ws 4 5
-Asked7 Kernel ws = Curve Kernel ws 2 3
+-- 7: the domain is a curve, and so is the codomain, if the header has it
+pub record Curves (form : Form) (v : Values) : Type 0 where
+  pub domain : Nonsingular (Zmod (v .p)) (mk (v .p) (v .a)) (mk (v .p) (v .b))
+  pub codomain : holds 4 (header form) ≡ true → Nonsingular (Zmod (v .p)) (mk (v .p) (v .atilde)) (mk (v .p) (v .btilde))
 
 -- in this order
 abbrev pub asked : Form → List ℕ → Questions
 asked form ws =
-    (2, Asked2 form ws) ∷ (3, Asked3 form ws) ∷ (4, Asked4 form ws) ∷ (5, Asked5 form ws) ∷ (6, Asked6 form ws) ∷ (7, Asked7 form ws) ∷ []
+    (2, Asked2 form ws)
+    ∷ (3, PrimeAllowed (valuesOf form ws .p))
+    ∷ (4, DegreeAllowed (valuesOf form ws .degree) (valuesOf form ws .p))
+    ∷ (5, ValuesBelow (valuesOf form ws))
+    ∷ (6, Asked6 form ws)
+    ∷ (7, Curves form (valuesOf form ws))
+    ∷ []

@@ -1,7 +1,15 @@
 pub mod Word
 pub mod Form
 pub mod Place
-pub mod FirstNo
+pub mod Table
+pub mod Kinds
+pub mod Values
 pub mod Asked
+pub mod Ready
 pub mod Reading
 pub mod Leaf
+pub mod Header
+pub mod Fields
+pub mod Body
+pub mod Accepted
+pub mod LongSheet

@@ -1,16 +1,11 @@
 -- Where the words of a kind stand in a sheet of a form: what the table of places holds.
 -- Assumes nothing.
 use mathlib.Core.Path.{_≡_}
-use mathlib.Core.List.{List, _++_}
 use mathlib.Core.Bool.{cond}
 use Prim.Native.Nat.{ℕ, _-_, _<_}
 use Rattle.sheet.specs.declared.Form.{Form}
 use Rattle.sheet.specs.declared.Form.the-variants.{Question, Certificate, Kernel}
-use Rattle.sheet.specs.Form.{header, body, position, holds}
-
--- the kinds of all words of a form, where ℓ = 2 d + 1
-abbrev pub kindsOf : Form → ℕ → List ℕ
-kindsOf form d = header form ++ body form d
+use Rattle.sheet.specs.Form.{kindsOf, position, holds}
 
 -- the place of the first word of a kind; `none` where the form has no such word
 abbrev pub placeOf : Form → ℕ → ℕ → ℕ → ℕ

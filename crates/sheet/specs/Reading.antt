@@ -1,36 +1,39 @@
 -- What the reader of sheets answers: the values of an accepted sheet, or the number of the first no.
 -- Assumes nothing.
-use mathlib.Core.Path.{_≡_, sym, _∙_, ap}
+use mathlib.Core.Path.{_≡_, refl, sym, _∙_, ap}
 use mathlib.Core.List.{List}
 use Prim.Native.Nat.{ℕ}
+use native.Mathlib.Omega.{arith}
+use Rattle.questions.specs.Answers.{Outcome, result, refused, Answers, answers-unique}
 use Rattle.sheet.specs.declared.Form.{Form}
 use Rattle.sheet.specs.declared.Values.{Values}
 use Rattle.sheet.specs.declared.Reading.{Reading}
 use Rattle.sheet.specs.declared.Reading.the-variants.{Accepted, Refused}
-use Rattle.sheet.specs.Form.{entry, half}
-use Rattle.sheet.specs.FirstNo.{AllYes, FirstNo, first-no-unique, not-both}
+use Rattle.sheet.specs.Values.{valuesOf}
 use Rattle.sheet.specs.Asked.{asked}
 
--- the values on a sheet
-abbrev pub valuesOf : Form → List ℕ → Values
-valuesOf form ws = record {
-  p = entry form 1 ws;
-  a = entry form 2 ws;
-  b = entry form 3 ws;
-  atilde = entry form 4 ws;
-  btilde = entry form 5 ws;
-  degree = entry form 6 ws;
-  sigma = entry form 7 ws;
-}
+-- what each case of the answer stands for
+abbrev pub readingOutcome : Reading → Outcome Values
+readingOutcome (Accepted v) = result v
+readingOutcome (Refused n) = refused n
 
 -- the answer that is right for a sheet
 abbrev pub Right : Form → List ℕ → Reading → Type 0
-Right form ws (Accepted v) = AllYes (asked form ws) × (v ≡ valuesOf form ws)
-Right form ws (Refused n) = FirstNo (asked form ws) n
+Right form ws r = Answers (asked form ws) (λ v. v ≡ valuesOf form ws) (readingOutcome r)
 
 -- there is one at most
+same-outcome : (r s : Reading) → readingOutcome r ≡ readingOutcome s → r ≡ s
+same-outcome (Accepted v) (Accepted w) e = cc
+same-outcome (Accepted v) (Refused n) e = absurd (apart v n e)
+  where
+    apart : (v : Values) (n : ℕ) → result v ≡ refused n → ⊥
+    apart v n e = let z : _≡_ {A = ℕ} 0 1 = cc in omega arith
+same-outcome (Refused m) (Accepted w) e = absurd (apart w m (sym e))
+  where
+    apart : (v : Values) (n : ℕ) → result v ≡ refused n → ⊥
+    apart v n e = let z : _≡_ {A = ℕ} 0 1 = cc in omega arith
+same-outcome (Refused m) (Refused n) e = cc
+
 pub reading-unique : (form : Form) (ws : List ℕ) (r s : Reading) → Right form ws r → Right form ws s → r ≡ s
-reading-unique form ws (Accepted v) (Accepted w) h k = ap Accepted (h .1 ∙ sym (k .1))
-reading-unique form ws (Accepted v) (Refused n) h k = absurd (not-both (asked form ws) n (h .0) k)
-reading-unique form ws (Refused m) (Accepted w) h k = absurd (not-both (asked form ws) m (k .0) h)
-reading-unique form ws (Refused m) (Refused n) h k = ap Refused (first-no-unique (asked form ws) m n h k)
+reading-unique form ws r s h k =
+    same-outcome r s (answers-unique (asked form ws) (λ v. v ≡ valuesOf form ws) (λ _ v w e f. e ∙ sym f) (readingOutcome r) (readingOutcome s) h k)

@@ -1,4 +1,4 @@
--- Words: "The top four bits of a word are its kind, the low 28 its value", and "a word is four bytes, lowest first".
+-- Words of 32 bits: the kind is in the top four, the value in the other 28; and words from bytes, the lowest of the four first.
 -- Assumes nothing.
 use mathlib.Core.List.{List}
 use Prim.Native.Nat.{ℕ, _+_, _*_, _/_, _%_, _^_}

@@ -9,11 +9,13 @@ ghost use Rattle.zmod.specs.Zmod.{Zmod, mk};
 ghost use Rattle.zmod.specs.Residues.{Residue};
 ghost use Rattle.isogeny.specs.Curve.{discriminant, Nonsingular};
 ghost use Rattle.sheet.specs.Word.{kindOf, valueOf, wordAt, wordsOf};
-ghost use Rattle.sheet.specs.Form.{header, entry, half};
+ghost use Rattle.sheet.specs.Form.{header, entry};
 ghost use Rattle.sheet.specs.Place.{placeOf, columnOf, Cell};
-ghost use Rattle.sheet.specs.Asked.{PrimeAllowed, Asked2, Asked6};
-ghost use Rattle.sheet.specs.Reading.{valuesOf, Right};
-ghost use Rattle.sheet.specs.Leaf.{Stands, DegreeAllowed, ValuesBelow, Section, Curves};
+ghost use Rattle.sheet.specs.Values.{valuesOf, half};
+ghost use Rattle.sheet.specs.Asked.{PrimeAllowed, DegreeAllowed, ValuesBelow, Curves, Asked2, Asked6};
+ghost use Rattle.sheet.specs.Reading.{Right};
+ghost use Rattle.sheet.specs.Leaf.{Stands, Section, Sections};
+ghost use Rattle.sheet.specs.Body.{last};
 
 // The form in which a sheet is read.
 pub enum Form {
@@ -117,16 +119,16 @@ pub fn entry_of(form: Form, kind: usize, ws: &[u32]) -> u32
     if at < ws.len() { value(ws[at]) } else { 0 }
 }
 
-// d = (ℓ − 1) / 2
-pub fn half_of(form: Form, ws: &[u32]) -> usize
-    ensures { λ r. ⌜ (r ≡ half form (now (ws .entry))) × (r < 2 ^ 27) ⌝ }
+// d = (ℓ − 1)/2
+pub fn half_degree(v: Values) -> usize
+    ensures { λ r. ⌜ (r ≡ half v) × (r < 2 ^ 31) ⌝ }
 {
-    let l = entry_of(form, 6, ws);
+    let l = v.degree;
     if l == 0 { 0 } else { ((l - 1) / 2) as usize }
 }
 
 pub fn values_of(form: Form, ws: &[u32]) -> Values
-    ensures { λ r. ⌜ (r ≡ valuesOf form (now (ws .entry))) × (r .p < 2 ^ 28) ⌝ }
+    ensures { λ r. ⌜ (r ≡ valuesOf form (now (ws .entry))) × (r .p < 2 ^ 28) × (r .degree < 2 ^ 28) ⌝ }
 {
     Values {
         p: entry_of(form, 1, ws),
@@ -230,12 +232,31 @@ fn section(ws: &[u32], from: usize, to: usize, k: usize, p: u32) -> bool
     true
 }
 
+// Whether the words between the header and the end are of their kinds, with values below p. From the end down, each kind's words stand before those of
+// the next kind that the form has.
+fn sections(form: Form, ws: &[u32], d: usize, end: usize, p: u32) -> bool
+    requires { ⌜ (d ≤ 2 ^ 28) × (end ≡ last form d) × (end < length (now ws)) ⌝ }
+    ensures { λ r. ⌜ (r ≡ true) ↔ Sections form d (length (header form)) end p (now (ws .entry)) ⌝ }
+{
+    let mut to = end;
+    let mut k = 15;
+    while 8 < k {
+        k -= 1;
+        let from = place(form, k, d, to);
+        if !section(ws, from, to, k, p) {
+            return false;
+        }
+        to = from;
+    }
+    true
+}
+
 // Question 6.
-pub fn exact(form: Form, ws: &[u32]) -> bool
+fn exact(form: Form, v: Values, ws: &[u32]) -> bool
+    requires { ⌜ (v ≡ valuesOf form (now ws)) × (v .degree < 2 ^ 28) ⌝ }
     ensures { λ r. ⌜ (r ≡ true) ↔ Asked6 form (now (ws .entry)) ⌝ }
 {
-    let p = entry_of(form, 1, ws);
-    let d = half_of(form, ws);
+    let d = half_degree(v);
     let end = place(form, 15, d, 0);
     if ws.len() != end + 1 {
         return false;
@@ -243,12 +264,7 @@ pub fn exact(form: Form, ws: &[u32]) -> bool
     if ws[end] != 0xF0000000 {
         return false;
     }
-    let n = place(form, 9, d, end);
-    let g = place(form, 8, d, end);
-    if !section(ws, g, n, 8, p) {
-        return false;
-    }
-    section(ws, n, end, 9, p)
+    sections(form, ws, d, end, v.p)
 }
 
 // The residue of 4 a³ + 27 b².
@@ -273,14 +289,14 @@ pub fn nonsingular(a: u32, b: u32, p: u32) -> bool
 }
 
 // Question 7: of the domain, and of the codomain where the form has one.
-pub fn curves(form: Form, v: Values) -> bool
+fn curves(form: Form, v: Values) -> bool
     requires { ⌜ (0 < v .p) × (v .p ≤ 2 ^ 28) ⌝ }
     ensures { λ r. ⌜ (r ≡ true) ↔ Curves form v ⌝ }
 {
     if !nonsingular(v.a, v.b, v.p) {
         return false;
     }
-    if let Form::Kernel = form {
+    if place(form, 4, 0, 255) == 255 {
         return true;
     }
     nonsingular(v.atilde, v.btilde, v.p)
@@ -303,7 +319,7 @@ pub fn read(form: Form, ws: &[u32]) -> Reading
     if !values_below(v) {
         return Reading::Refused(5);
     }
-    if !exact(form, ws) {
+    if !exact(form, v, ws) {
         return Reading::Refused(6);
     }
     if !curves(form, v) {
@@ -337,8 +353,7 @@ pub fn n_coefficients(ws: &[u32], d: usize, out: &mut [u32])
     requires { ⌜ (d ≤ 2 ^ 28) × (d + 8 + length (now out) ≤ length (now ws)) ⌝ }
     ensures { λ _. ⌜ now (out .exit) ≡ map valueOf (take (length (now (out .entry))) (drop (d + 8) (now (ws .entry)))) ⌝ }
 {
-    let end = place(Form::Certificate, 15, d, 0);
-    let from = place(Form::Certificate, 9, d, end);
+    let from = place(Form::Certificate, 9, d, 0);
     coefficients(ws, from, out);
 }
 

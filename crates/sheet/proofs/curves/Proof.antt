@@ -1,9 +1,11 @@
 -- `sheet::curves` meets its contract.
 -- Assumes nothing.
 use borrow.Author.Needs.{needs}
+use mathlib.Core.Path.{sym, _∙_}
+use native.Mathlib.Omega.{arith}
 use borrow.Author.Tests.{not-true, not-false}
+use Rattle.sheet.specs.Header.{place-no, place-yes}
 use Rattle.sheet.proofs.Answers.{says-no, says-yes, was-no, was-yes}
-use Rattle.sheet.proofs.Domains.{domain, kernel-curves, two-curves, codomain}
 use Rattle.sheet.proofs.curves.Statement.{statement}
 use Rattle.sheet.proofs.curves.Tie as tie
 
@@ -11,24 +13,40 @@ nonsingular-requires : tie.Need-nonsingular-requires
 nonsingular-requires c κs = search needs
 
 returns : tie.Need-returns
-returns c = says-no (λ h. was-no (c .before .nonsingular .ensures) (not-true _ (c .if1 .taken)) (domain (c .before .before .args .form) (c .before .before .args .v) h))
+returns c = says-no (λ h. was-no (c .before .nonsingular .ensures) (not-true _ (c .if1 .taken)) (h .domain))
 
-enum-told : tie.Need-enum-told
-enum-told c = search needs
+place-requires : tie.Need-place-requires
+place-requires c κs = search needs
 
+-- the form has no codomain
 returns-2 : tie.Need-returns-2
-returns-2 c = says-yes (kernel-curves (c .before .before .before .before .args .v) (c .enum-told .given .1) (was-yes (c .before .before .before .nonsingular .ensures) (not-false _ (c .before .before .if1 .left))))
+returns-2 c =
+    let place = c .before in
+    let first = place .before in
+    says-yes (record {
+      domain = was-yes (first .before .nonsingular .ensures) (not-false _ (first .if1 .left));
+      codomain = λ t. absurd (place-no 4 (first .before .before .args .form) (omega arith) (sym (place .place .ensures) ∙ c .if2 .taken) t);
+    })
 
 nonsingular-requires-2 : tie.Need-nonsingular-requires-2
 nonsingular-requires-2 c κs = search needs
 
 returns-3 : tie.Need-returns-3
-returns-3 c = (
-  λ t. two-curves (c .before .before .before .before .args .form) (c .before .before .before .before .args .v) (c .before .match .keys2) (was-yes (c .before .before .before .nonsingular .ensures) (not-false _ (c .before .before .if1 .left))) (was-yes (c .nonsingular2 .ensures) t),
-  λ h. c .nonsingular2 .ensures .1 (codomain (c .before .before .before .before .args .form) (c .before .before .before .before .args .v) (c .before .match .keys2) h),
-)
+returns-3 c =
+    let place = c .before .before in
+    let first = place .before in
+    let has = place-yes 4 (first .before .before .args .form) (omega arith) (λ e. c .before .if2 .left (place .place .ensures ∙ e)) in (
+      λ t. record { domain = was-yes (first .before .nonsingular .ensures) (not-false _ (first .if1 .left)); codomain = λ _. was-yes (c .nonsingular2 .ensures) t },
+      λ h. c .nonsingular2 .ensures .1 (h .codomain (has .0)),
+    )
 
 pub curves-spec : {M : Type 1} → statement M
 curves-spec =
     tie.close
-    (tie.spec nonsingular-requires returns enum-told returns-2 nonsingular-requires-2 returns-3)
+    (tie.spec
+    nonsingular-requires
+    returns
+    place-requires
+    returns-2
+    nonsingular-requires-2
+    returns-3)

@@ -1,31 +1,48 @@
 -- `sheet::exact` meets its contract.
 -- Assumes nothing.
 use borrow.Author.Needs.{needs}
-use mathlib.Core.Path.{_≡_, refl, sym, ap, _∙_}
-use Prim.Native.Nat.{_+_, _≤_, _<_, _^_}
-use lib.ListN.{length, getD}
+use mathlib.Core.Path.{_≡_, refl, _∙_}
+use mathlib.Core.Logic.{_↔_}
+use Prim.Native.Nat.{_+_, _<_}
 use native.Mathlib.Omega.{arith}
-use borrow.Author.Tests.{not-true, not-false}
-use Rattle.sheet.specs.Leaf.{Section}
-use Rattle.sheet.proofs.Answers.{says-no, says-yes, was-no, was-yes}
-use Rattle.sheet.proofs.Body.{exact-count, exact-end, exact-g, exact-n, exact-all, n-inside, end-small}
+use lib.ListN.{length}
+use Rattle.sheet.specs.Asked.{Asked6}
+use Rattle.sheet.specs.Body.{last}
+use Rattle.sheet.proofs.Answers.{says-no}
+use Rattle.sheet.proofs.Places.{end-small}
+use Rattle.sheet.proofs.Down.{Rest, end-last, rest}
 use Rattle.sheet.proofs.exact.Statement.{statement}
 use Rattle.sheet.proofs.exact.Tie as tie
 
-entry-of-requires : tie.Need-entry-of-requires
-entry-of-requires c κs = search needs
-
-half-of-requires : tie.Need-half-of-requires
-half-of-requires c κs = search needs
+half-degree-requires : tie.Need-half-degree-requires
+half-degree-requires c κs = search needs
 
 place-requires : tie.Need-place-requires
 place-requires c κs = search needs
 
+-- the end's place, and question 6 by it
+end-at : (c : tie.After-place) → c .place .result ≡ last (c .before .before .before .args .form) (c .before .half-degree .result)
+end-at c =
+    let half = c .before in
+    let start = half .before .before in
+    end-last (start .args .form) (start .args .ws .now) (half .half-degree .result) (c .place .result) (start .pre .0) (half .half-degree .ensures .0) (c .place .ensures)
+
+asked : (c : tie.After-place)
+    → Asked6 (c .before .before .before .args .form) (c .before .before .before .args .ws .now)
+    ↔ Rest (c .before .before .before .args .form) (c .before .before .before .args .ws .now) (c .before .before .before .args .v .p)
+    (c .before .half-degree .result) (c .place .result)
+asked c =
+    let half = c .before in
+    let start = half .before .before in
+    rest (start .args .form) (start .args .ws .now) (half .half-degree .result) (c .place .result) (start .pre .0) (half .half-degree .ensures .0) (c .place .ensures)
+
 add-if1 : tie.Need-add-if1
-add-if1 c = omega (arith, end-small (c .before .half-of .result) 0 (c .before .before .before .before .args .form), c .before .half-of .ensures .1, c .place .ensures)
+add-if1 c =
+    let half = c .before in
+    omega (arith, end-at c, end-small (half .half-degree .result) (half .before .before .args .form), half .half-degree .ensures .1)
 
 returns : tie.Need-returns
-returns c = says-no (λ a. omega (arith, c .if1 .taken, exact-count (c .before .before .before .before .before .args .form) (c .before .before .before .before .before .args .ws .now) (c .before .before .before .entry-of .ensures .0) (c .before .before .half-of .ensures .0) (c .before .place .ensures) refl refl a))
+returns c = says-no (λ a. omega (arith, c .if1 .taken, asked (c .before) .0 a .count))
 
 mul-if2 : tie.Need-mul-if2
 mul-if2 c = search needs
@@ -34,46 +51,33 @@ shared-slice-read-if2 : tie.Need-shared-slice-read-if2
 shared-slice-read-if2 c = search needs
 
 returns-2 : tie.Need-returns-2
-returns-2 c = says-no (λ a. omega (arith, c .if2 .taken, exact-end (c .before .before .before .before .before .before .before .args .form) (c .before .before .before .before .before .before .before .args .ws .now) (c .before .before .before .before .before .entry-of .ensures .0) (c .before .before .before .before .half-of .ensures .0) (c .before .before .before .place .ensures) refl refl a))
+returns-2 c = says-no (λ a. omega (arith, c .if2 .taken, asked (c .before .before .before) .0 a .end-word))
 
-place-requires-2 : tie.Need-place-requires-2
-place-requires-2 c κs = search needs
-
-place-requires-3 : tie.Need-place-requires-3
-place-requires-3 c κs = search needs
-
-section-requires : tie.Need-section-requires
-section-requires c κs =
-    let inside = n-inside (c .before .before .before .before .before .before .before .before .before .args .form) (c .before .before .before .before .before .before .before .before .before .args .ws .now) (c .before .before .before .before .before .before .before .entry-of .ensures .0) (c .before .before .before .before .before .before .half-of .ensures .0) (c .before .before .before .before .before .place .ensures) (c .before .place2 .ensures) (c .place3 .ensures) in
-    omega (arith, inside, c .before .before .before .before .if1 .left)
+sections-requires : tie.Need-sections-requires
+sections-requires c κs =
+    let first = c .before .before in
+    let place = first .before in
+    (omega (arith, place .before .half-degree .ensures, place .before .before .before .pre .1), end-at place, omega (arith, first .if1 .left))
 
 returns-3 : tie.Need-returns-3
-returns-3 c = says-no (λ a. was-no (c .before .section .ensures) (not-true _ (c .if3 .taken)) (exact-g (c .before .before .before .before .before .before .before .before .before .before .before .args .form) (c .before .before .before .before .before .before .before .before .before .before .before .args .ws .now) (c .before .before .before .before .before .before .before .before .before .entry-of .ensures .0) (c .before .before .before .before .before .before .before .before .half-of .ensures .0) (c .before .before .before .before .before .before .before .place .ensures) (c .before .before .before .place2 .ensures) (c .before .before .place3 .ensures) a))
-
-section-requires-2 : tie.Need-section-requires-2
-section-requires-2 c κs = search needs
-
-returns-4 : tie.Need-returns-4
-returns-4 c = (
-  λ t. exact-all (c .before .before .before .before .before .before .before .before .before .before .before .before .args .form) (c .before .before .before .before .before .before .before .before .before .before .before .before .args .ws .now) (c .before .before .before .before .before .before .before .before .before .before .entry-of .ensures .0) (c .before .before .before .before .before .before .before .before .before .half-of .ensures .0) (c .before .before .before .before .before .before .before .before .place .ensures) (c .before .before .before .before .place2 .ensures) (c .before .before .before .place3 .ensures) (omega (arith, c .before .before .before .before .before .before .before .if1 .left)) (omega (arith, c .before .before .before .before .before .if2 .left)) (was-yes (c .before .before .section .ensures) (not-false _ (c .before .if3 .left))) (was-yes (c .section2 .ensures) t),
-  λ a. c .section2 .ensures .1 (exact-n (c .before .before .before .before .before .before .before .before .before .before .before .before .args .form) (c .before .before .before .before .before .before .before .before .before .before .before .before .args .ws .now) (c .before .before .before .before .before .before .before .before .before .before .entry-of .ensures .0) (c .before .before .before .before .before .before .before .before .before .half-of .ensures .0) (c .before .before .before .before .before .before .before .before .place .ensures) (c .before .before .before .before .place2 .ensures) (c .before .before .before .place3 .ensures) a),
-)
+returns-3 c =
+    let second = c .before in
+    let first = second .before .before in
+    let all = asked (first .before) in (
+      λ t. all .1 (record { count = omega (arith, first .if1 .left); end-word = omega (arith, second .if2 .left); sections = c .sections .ensures .0 t }),
+      λ a. c .sections .ensures .1 (all .0 a .sections),
+    )
 
 pub exact-spec : {M : Type 1} → statement M
 exact-spec =
     tie.close
     (tie.spec
-    entry-of-requires
-    half-of-requires
+    half-degree-requires
     place-requires
     add-if1
     returns
     mul-if2
     shared-slice-read-if2
     returns-2
-    place-requires-2
-    place-requires-3
-    section-requires
-    returns-3
-    section-requires-2
-    returns-4)
+    sections-requires
+    returns-3)

@@ -1,12 +1,12 @@
 -- `sheet::g_coefficients` meets its contract. Assumes nothing.
-use mathlib.Core.Path.{_≡_, _∙_, ap, sym}
+use mathlib.Core.Path.{_≡_, _∙_, ap}
 use mathlib.Core.List.{map}
 use native.Mathlib.Omega.{arith}
 use lib.ListN.{length, take, drop}
 use borrow.Author.Needs.{needs}
 use Rattle.sheet.specs.Word.{valueOf}
 use Rattle.sheet.specs.Form.{header}
-use Rattle.sheet.proofs.Body.{end-place, g-place}
+use Rattle.sheet.proofs.Places.{end-place, g-place}
 use Rattle.sheet.proofs.g_coefficients.Statement.{statement}
 use Rattle.sheet.proofs.g_coefficients.Tie as tie
 
@@ -16,22 +16,24 @@ place-requires c κs = search needs
 place-requires-2 : tie.Need-place-requires-2
 place-requires-2 c κs = search needs
 
+-- the coefficients begin behind the header
+from-header : (c : tie.After-place2) → c .place2 .result ≡ length (header (c .before .before .before .before .args .form))
+from-header c =
+    let end = c .before in
+    let a = end .before .before .before .args in
+    c .place2 .ensures ∙ g-place (a .d) (end .place .result) (a .form) (end .place .ensures ∙ end-place (a .d) 0 (a .form))
+
 coefficients-requires : tie.Need-coefficients-requires
-coefficients-requires c κs =
-    let a = c .before .before .before .before .before .args in
-    let at : c .before .place2 .result ≡ length (header (a .form)) =
-    c .before .place2 .ensures ∙ g-place (a .d) (c .before .before .place .result) (a .form) (c .before .before .place .ensures ∙ end-place (a .d) 0 (a .form)) in
-    omega (arith, at, c .before .before .before .before .before .pre)
+coefficients-requires c κs = omega (arith, from-header (c .before), c .before .before .before .before .before .pre)
 
 same-length : tie.Need-same-length
 same-length c = search needs
 
 returns : tie.Need-returns
 returns c =
-    let a = c .before .before .before .before .before .before .before .before .args in
-    let at : c .before .before .before .before .place2 .result ≡ length (header (a .form)) =
-    c .before .before .before .before .place2 .ensures ∙ g-place (a .d) (c .before .before .before .before .before .place .result) (a .form) (c .before .before .before .before .before .place .ensures ∙ end-place (a .d) 0 (a .form)) in
-    c .before .before .coefficients .ensures ∙ ap (λ k. map valueOf (take (length (a .out .now)) (drop k (a .ws .now)))) at
+    let at = c .before .before .before .before in
+    let a = at .before .before .before .before .args in
+    c .before .before .coefficients .ensures ∙ ap (λ k. map valueOf (take (length (a .out .now)) (drop k (a .ws .now)))) (from-header at)
 
 pub g-coefficients-spec : {M : Type 1} → statement M
 g-coefficients-spec = tie.close (tie.spec place-requires place-requires-2 coefficients-requires same-length returns)

@@ -7,7 +7,7 @@ use borrow.Author.Tests.{eqb-true, eq-eqb}
 use native.Mathlib.Omega.{arith}
 use Rattle.sheet.specs.Word.{kindOf}
 use Rattle.sheet.proofs.Answers.{says-no, says-yes}
-use Rattle.sheet.proofs.Header.{stands-absent, stands-short, stands-there}
+use Rattle.sheet.specs.Header.{stands-absent, stands-short, stands-there}
 use Rattle.sheet.proofs.has_kind.Statement.{statement}
 use Rattle.sheet.proofs.has_kind.Tie as tie
 

@@ -8,7 +8,7 @@ use native.Mathlib.Omega.{arith}
 use borrow.Author.Tests.{not-true, not-false}
 use Rattle.sheet.specs.Leaf.{Stands}
 use Rattle.sheet.proofs.Answers.{says-no, says-yes, was-no, was-yes, more-from}
-use Rattle.sheet.proofs.Header.{asked2-stands, stands-asked2}
+use Rattle.sheet.specs.Header.{asked2-stands, stands-asked2}
 use Rattle.sheet.proofs.headed.Statement.{statement}
 use Rattle.sheet.proofs.headed.Tie as tie
 

@@ -5,35 +5,29 @@ use Prim.Native.Nat.{_+_}
 use native.Mathlib.Omega.{arith}
 use lib.ListN.{length, take, drop}
 use borrow.Author.Needs.{needs}
-use Rattle.sheet.specs.declared.Form.the-variants.{Certificate}
 use Rattle.sheet.specs.Word.{valueOf}
-use Rattle.sheet.proofs.Body.{end-place, n-place}
+use Rattle.sheet.proofs.Places.{n-place}
 use Rattle.sheet.proofs.n_coefficients.Statement.{statement}
 use Rattle.sheet.proofs.n_coefficients.Tie as tie
 
 place-requires : tie.Need-place-requires
 place-requires c κs = search needs
 
-place-requires-2 : tie.Need-place-requires-2
-place-requires-2 c κs = search needs
+-- the place of N's first coefficient
+from-g : (c : tie.After-place) → c .place .result ≡ c .before .before .before .args .d + 8
+from-g c = c .place .ensures ∙ n-place (c .before .before .before .args .d) 0
 
 coefficients-requires : tie.Need-coefficients-requires
-coefficients-requires c κs =
-    let a = c .before .before .before .before .before .args in
-    let at : c .before .place2 .result ≡ 7 + (a .d + 1) =
-    c .before .place2 .ensures ∙ n-place (a .d) (c .before .before .place .result) Certificate (c .before .before .place .ensures ∙ end-place (a .d) 0 Certificate) in
-    omega (arith, at, c .before .before .before .before .before .pre)
+coefficients-requires c κs = omega (arith, from-g (c .before), c .before .before .before .before .pre)
 
 same-length : tie.Need-same-length
 same-length c = search needs
 
 returns : tie.Need-returns
 returns c =
-    let a = c .before .before .before .before .before .before .before .before .args in
-    let at : c .before .before .before .before .place2 .result ≡ 7 + (a .d + 1) =
-    c .before .before .before .before .place2 .ensures ∙ n-place (a .d) (c .before .before .before .before .before .place .result) Certificate (c .before .before .before .before .before .place .ensures ∙ end-place (a .d) 0 Certificate) in
-    let from : c .before .before .before .before .place2 .result ≡ a .d + 8 = at ∙ omega arith in
-    c .before .before .coefficients .ensures ∙ ap (λ k. map valueOf (take (length (a .out .now)) (drop k (a .ws .now)))) from
+    let at = c .before .before .before .before in
+    let a = at .before .before .before .args in
+    c .before .before .coefficients .ensures ∙ ap (λ k. map valueOf (take (length (a .out .now)) (drop k (a .ws .now)))) (from-g at)
 
 pub n-coefficients-spec : {M : Type 1} → statement M
-n-coefficients-spec = tie.close (tie.spec place-requires place-requires-2 coefficients-requires same-length returns)
+n-coefficients-spec = tie.close (tie.spec place-requires coefficients-requires same-length returns)

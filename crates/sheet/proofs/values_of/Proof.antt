@@ -2,7 +2,7 @@
 -- Assumes nothing.
 use borrow.Author.Needs.{needs}
 use mathlib.Core.Path.{_≡_}
-use Rattle.sheet.proofs.Fields.{same}
+use Rattle.sheet.specs.Fields.{same}
 use Rattle.sheet.proofs.values_of.Statement.{statement}
 use Rattle.sheet.proofs.values_of.Tie as tie
 
@@ -29,7 +29,17 @@ entry-of-requires-7 c κs = search needs
 
 returns : tie.Need-returns
 returns c =
-    (same (c .before .before .before .before .before .before .entry-of .ensures .0) (c .before .before .before .before .before .entry-of2 .ensures .0) (c .before .before .before .before .entry-of3 .ensures .0) (c .before .before .before .entry-of4 .ensures .0) (c .before .before .entry-of5 .ensures .0) (c .before .entry-of6 .ensures .0) (c .entry-of7 .ensures .0), c .before .before .before .before .before .before .entry-of .ensures .1)
+    let sixth = c .before in
+    let fifth = sixth .before in
+    let fourth = fifth .before in
+    let third = fourth .before in
+    let second = third .before in
+    let first = second .before .entry-of .ensures in (
+      same (first .0) (second .entry-of2 .ensures .0) (third .entry-of3 .ensures .0) (fourth .entry-of4 .ensures .0) (fifth .entry-of5 .ensures .0)
+          (sixth .entry-of6 .ensures .0) (c .entry-of7 .ensures .0),
+      first .1,
+      sixth .entry-of6 .ensures .1,
+    )
 
 pub values-of-spec : {M : Type 1} → statement M
 values-of-spec =

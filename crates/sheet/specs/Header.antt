@@ -3,22 +3,22 @@
 use mathlib.Core.Path.{_≡_, refl, sym, _∙_, ap, ap₂, subst}
 use mathlib.Core.Logic.{_↔_}
 use mathlib.Core.Bool.{Bool, true, false, cond, false≢true}
-use mathlib.Core.List.{List, [], _∷_, _++_, map, append-assoc}
+use mathlib.Core.List.{List, [], _∷_, _++_, map}
 use Prim.Native.Nat.{ℕ, zero, suc, _+_, _*_, _<_, _≤_}
 use native.Mathlib.Nat.{not-suc-le-zero, le-of-suc-le-suc}
 use native.Mathlib.Omega.{arith}
-use borrow.Author.Tests.{eqb-true, ne-eqb, ltb-true}
+use borrow.Author.Tests.{eqb-true}
 use lib.Dec.{T, eqb, ltb, eqb→eq, ltb→lt}
-use lib.ListN.{length, getD, take, drop, replicate, List·getD-eq-default}
+use lib.ListN.{length, getD, take, drop, List·getD-eq-default}
 use Rattle.sheet.specs.declared.Form.{Form}
 use Rattle.sheet.specs.declared.Form.the-variants.{Question, Certificate, Kernel}
 use Rattle.sheet.specs.Word.{kindOf, valueOf}
-use Rattle.sheet.specs.Form.{header, body, position, holds, entry}
-use Rattle.sheet.specs.Place.{kindsOf, placeOf}
+use Rattle.sheet.specs.Form.{header, body, kindsOf, position, holds, entry}
+use Rattle.sheet.specs.Place.{placeOf}
+use Rattle.sheet.specs.Kinds.{not-held, body-rises}
 use Rattle.sheet.specs.Asked.{Asked2}
 use Rattle.sheet.specs.Leaf.{Stands}
-use Rattle.sheet.proofs.Table.{at, every, both, both-left, both-right}
-use Rattle.sheet.proofs.Sections.{holds-past}
+use Rattle.sheet.specs.Table.{at, every, both, both-left, both-right}
 
 -- ── a kind in two lists after each other
 
@@ -71,13 +71,7 @@ module _ (k : ℕ) where
 -- ── the kinds 1 to 7 stand in headers only
 
 body-free : (form : Form) (d k : ℕ) → k < 8 → holds k (body form d) ≡ false
-body-free Question d k h = rw (ne-eqb k 15 (λ e. omega arith)) refl
-body-free Certificate d k h =
-    ap (holds k) (append-assoc (replicate (d + 1) 8) (replicate (2 * d + 2) 9) (15 ∷ []))
-    ∙ holds-past k 8 _ (d + 1) (ne-eqb k 8 (λ e. omega arith))
-    ∙ holds-past k 9 _ (2 * d + 2) (ne-eqb k 9 (λ e. omega arith))
-    ∙ rw (ne-eqb k 15 (λ e. omega arith)) refl
-body-free Kernel d k h = holds-past k 8 _ (d + 1) (ne-eqb k 8 (λ e. omega arith)) ∙ rw (ne-eqb k 15 (λ e. omega arith)) refl
+body-free form d k l = not-held k 8 (body form d) l (body-rises form d)
 
 pub header-place : (form : Form) (k d none : ℕ) → k < 8 → placeOf form k d none ≡ cond (holds k (header form)) (position k (header form)) none
 header-place form k d none h = go (holds k (header form)) refl
@@ -109,13 +103,13 @@ entry-at form k ws h =
 -- ── question 2, kind by kind
 
 module _ (k : ℕ) where
-  place-no : (form : Form) → k < 8 → placeOf form k 0 255 ≡ 255 → holds k (header form) ≡ true → ⊥
+  pub place-no : (form : Form) → k < 8 → placeOf form k 0 255 ≡ 255 → holds k (header form) ≡ true → ⊥
   place-no form h e t =
       let i : position k (header form) < length (header form) = position-inside k (header form) t in
       let q : placeOf form k 0 255 ≡ position k (header form) = header-place form k 0 255 h ∙ ap (λ (t : Bool). cond t (position k (header form)) 255) t in
       omega (arith, short-header form)
 
-  place-yes : (form : Form) → k < 8 → (placeOf form k 0 255 ≡ 255 → ⊥) → (holds k (header form) ≡ true) × (placeOf form k 0 255 ≡ position k (header form))
+  pub place-yes : (form : Form) → k < 8 → (placeOf form k 0 255 ≡ 255 → ⊥) → (holds k (header form) ≡ true) × (placeOf form k 0 255 ≡ position k (header form))
   place-yes form h n = go (holds k (header form)) refl
     where
       go : (t : Bool) → holds k (header form) ≡ t → (holds k (header form) ≡ true) × (placeOf form k 0 255 ≡ position k (header form))

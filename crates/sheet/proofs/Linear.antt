@@ -1,4 +1,4 @@
--- Lists of kinds that come in sections: a section of kind k with a + b·d words. Where a kind stands first is then a number + a number · d.
+-- Lists of kinds in sections whose lengths are linear in d: a section of kind k has a + b·d words. Where a kind stands first is then linear in d too.
 -- Assumes nothing.
 use mathlib.Core.Path.{_≡_, refl, sym, _∙_, ap, ap₂}
 use mathlib.Core.Bool.{Bool, true, false, cond}

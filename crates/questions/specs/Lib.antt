@@ -1,0 +1,6 @@
+pub mod Questions
+pub mod Answers
+pub mod Numbered
+pub mod Joined
+pub mod Judged
+pub mod Alike

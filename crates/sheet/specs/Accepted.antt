@@ -1,0 +1,91 @@
+-- What holds of a sheet that passes questions 2 to 7: its length, and its coefficients.
+-- Assumes nothing.
+use mathlib.Core.Path.{_≡_, refl, sym, _∙_, ap}
+use mathlib.Core.List.{List, map}
+use Prim.Native.Nat.{ℕ, _+_, _*_, _<_, _≤_}
+use native.Mathlib.Decide.{decLt}
+use native.Mathlib.Omega.{arith}
+use lib.ListN.{length, getD, take, drop, length-take, length-drop, length-map, List·getD-map, List·getD-eq-default}
+use lib.Seq.{getD-take, getD-drop, length-take-le}
+use Rattle.zmod.specs.Residues.{Reduced}
+use Rattle.questions.specs.Questions.{AllYes}
+use Rattle.questions.specs.Numbered.{yes-to}
+use Rattle.sheet.specs.declared.Form.{Form}
+use Rattle.sheet.specs.declared.Form.the-variants.{Question, Certificate, Kernel}
+use Rattle.sheet.specs.Word.{valueOf}
+use Rattle.sheet.specs.Form.{header, kindsOf, certificateWords}
+use Rattle.sheet.specs.Values.{valuesOf, half, gOf, nOf}
+use Rattle.sheet.specs.Asked.{asked}
+use Rattle.sheet.specs.Body.{kinds-length, certificate-words, kernel-words}
+
+-- ── a part of the words
+
+module _ (ws : List ℕ) (from count : ℕ) (room : from + count ≤ length ws) where
+  pub part-length : length (map valueOf (take count (drop from ws))) ≡ count
+  part-length = length-map (take count (drop from ws)) valueOf ∙ length-take-le count (drop from ws) (omega (arith, length-drop from ws))
+
+  -- values below p
+  pub part-reduced : (p : ℕ) → 0 < p → ((i : ℕ) → from ≤ i → i < from + count → valueOf (getD ws i 0) < p)
+      → Reduced p (map valueOf (take count (drop from ws)))
+  part-reduced p pos small i = go (decLt i count)
+    where
+      go : Dec (i < count) → getD (map valueOf (take count (drop from ws))) i 0 < p
+      go (yes l) =
+          let e : getD (map valueOf (take count (drop from ws))) i 0 ≡ valueOf (getD ws (from + i) 0) =
+          List·getD-map valueOf (take count (drop from ws)) i 0 ∙ ap valueOf (getD-take count (drop from ws) i 0 l ∙ getD-drop from ws i 0) in
+          omega (arith, e, small (from + i) (omega arith) (omega arith))
+      go (no l) =
+          let z : getD (map valueOf (take count (drop from ws))) i 0 ≡ 0 =
+          List·getD-eq-default (map valueOf (take count (drop from ws))) 0 (omega (arith, length-map (take count (drop from ws)) valueOf, length-take count (drop from ws))) in
+          omega arith
+
+-- ── an accepted sheet
+
+module _ (form : Form) (ws : List ℕ) (all : AllYes (asked form ws)) where
+  abbrev d : ℕ
+  d = half (valuesOf form ws)
+
+  pub words-count : length ws ≡ length (kindsOf form d)
+  words-count = kinds-length form d ws (yes-to (asked form ws) 6 all .kinds)
+
+  -- a section that ends before the end
+  reduced-section : (from count : ℕ) → length (header form) ≤ from → from + count < length ws
+      → Reduced (valuesOf form ws .p) (map valueOf (take count (drop from ws)))
+  reduced-section from count l m =
+      part-reduced ws from count (omega arith) (valuesOf form ws .p) (omega (arith, yes-to (asked form ws) 3 all .least)) (λ i a b.
+      yes-to (asked form ws) 6 all .below i (omega arith) (omega arith))
+
+module _ (ws : List ℕ) (all : AllYes (asked Certificate ws)) where
+  abbrev e : ℕ
+  e = half (valuesOf Certificate ws)
+
+  pub certificate-length : length ws ≡ certificateWords e
+  certificate-length = words-count Certificate ws all ∙ certificate-words e
+
+  pub certificate-g-length : length (gOf Certificate ws) ≡ e + 1
+  certificate-g-length = part-length ws 7 (e + 1) (omega (arith, certificate-length))
+
+  pub certificate-g-reduced : Reduced (valuesOf Certificate ws .p) (gOf Certificate ws)
+  certificate-g-reduced = reduced-section Certificate ws all 7 (e + 1) (omega arith) (omega (arith, certificate-length))
+
+  pub certificate-n-length : length (nOf Certificate ws) ≡ 2 * e + 2
+  certificate-n-length = part-length ws (7 + (e + 1)) (2 * e + 2) (omega (arith, certificate-length))
+
+  pub certificate-n-reduced : Reduced (valuesOf Certificate ws .p) (nOf Certificate ws)
+  certificate-n-reduced = reduced-section Certificate ws all (7 + (e + 1)) (2 * e + 2) (omega arith) (omega (arith, certificate-length))
+
+module _ (ws : List ℕ) (all : AllYes (asked Kernel ws)) where
+  abbrev k : ℕ
+  k = half (valuesOf Kernel ws)
+
+  pub kernel-length : length ws ≡ k + 6
+  kernel-length = words-count Kernel ws all ∙ kernel-words k
+
+  pub kernel-g-length : length (gOf Kernel ws) ≡ k + 1
+  kernel-g-length = part-length ws 4 (k + 1) (omega (arith, kernel-length))
+
+  pub kernel-g-reduced : Reduced (valuesOf Kernel ws .p) (gOf Kernel ws)
+  kernel-g-reduced = reduced-section Kernel ws all 4 (k + 1) (omega arith) (omega (arith, kernel-length))
+
+pub question-length : (ws : List ℕ) → AllYes (asked Question ws) → length ws ≡ 8
+question-length ws all = words-count Question ws all

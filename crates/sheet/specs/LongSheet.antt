@@ -1,0 +1,119 @@
+-- A sheet longer than any lawful one gets its answer from its front: questions 2 to 5 look at seven words at most, and 6 is answered with no for the
+-- front as for the whole, as long as the front is longer than the largest certificate.
+-- Assumes nothing.
+use mathlib.Core.Path.{_≡_, refl, sym, _∙_, ap, subst}
+use mathlib.Core.Logic.{_↔_}
+use mathlib.Core.Bool.{Bool, true, false, cond}
+use mathlib.Core.List.{List, map}
+use Prim.Native.Nat.{ℕ, _+_, _<_, _≤_}
+use native.Mathlib.Decide.{decLt}
+use native.Mathlib.Omega.{arith}
+use lib.ListN.{length, getD, take}
+use lib.Seq.{getD-take, take-take, take-all, length-take-le}
+use Rattle.questions.specs.Questions.{AllYes, FirstNo}
+use Rattle.questions.specs.Numbered.{yes-to}
+use Rattle.questions.specs.Alike.{Alike, alike-no, alike-yes, alike-sym}
+use Rattle.sheet.specs.declared.Form.{Form}
+use Rattle.sheet.specs.declared.Values.{Values}
+use Rattle.sheet.specs.Word.{kindOf, valueOf}
+use Rattle.sheet.specs.Form.{header, entry, holds, position, mostWords}
+use Rattle.sheet.specs.Values.{valuesOf, half}
+use Rattle.sheet.specs.Asked.{Asked2, Asked6, PrimeAllowed, DegreeAllowed, ValuesBelow, Curves, asked}
+use Rattle.sheet.specs.Fields.{same}
+use Rattle.sheet.specs.Header.{position-inside, short-header}
+use Rattle.sheet.specs.Body.{kinds-length, words-most}
+
+-- no lawful sheet is longer than the largest certificate
+lawful-length : (form : Form) (ws : List ℕ) → DegreeAllowed (valuesOf form ws .degree) (valuesOf form ws .p) → Asked6 form ws → length ws ≤ mostWords
+lawful-length form ws a4 a6 =
+    let d : ℕ = half (valuesOf form ws) in
+    let few : half (valuesOf form ws) ≤ 127 = omega (arith, a4 .most) in
+    omega (arith, kinds-length form (half (valuesOf form ws)) ws (a6 .kinds), words-most form (half (valuesOf form ws)) few)
+
+module _ (form : Form) (ws : List ℕ) (n : ℕ) (long : mostWords < n) where
+  entry-front : (k : ℕ) → entry form k (take n ws) ≡ entry form k ws
+  entry-front k = go (holds k (header form)) refl
+    where
+      go : (t : Bool) → holds k (header form) ≡ t
+          → cond t (valueOf (getD (take n ws) (position k (header form)) 0)) 0 ≡ cond t (valueOf (getD ws (position k (header form)) 0)) 0
+      go true e =
+          let i : position k (header form) < length (header form) = position-inside k (header form) e in
+          ap valueOf (getD-take n ws (position k (header form)) 0 (omega (arith, short-header form)))
+      go false e = refl
+
+  pub values-front : valuesOf form (take n ws) ≡ valuesOf form ws
+  values-front = same (entry-front 1) (entry-front 2) (entry-front 3) (entry-front 4) (entry-front 5) (entry-front 6) (entry-front 7)
+
+  -- what is asked of the values
+  to : (P : Values → Type 0) → P (valuesOf form (take n ws)) → P (valuesOf form ws)
+  to P h = subst P values-front h
+
+  from : (P : Values → Type 0) → P (valuesOf form ws) → P (valuesOf form (take n ws))
+  from P h = subst P (sym values-front) h
+
+  front2 : map kindOf (take (length (header form)) (take n ws)) ≡ map kindOf (take (length (header form)) ws)
+  front2 = ap (map kindOf) (take-take (length (header form)) n ws (omega (arith, short-header form)))
+
+  to6 : DegreeAllowed (valuesOf form (take n ws) .degree) (valuesOf form (take n ws) .p) → Asked6 form (take n ws) → Asked6 form ws
+  to6 a4 a6 = go (decLt n (length ws))
+    where
+      go : Dec (n < length ws) → Asked6 form ws
+      go (yes l) = absurd (omega (arith, lawful-length form (take n ws) a4 a6, length-take-le n ws (omega arith)))
+      go (no l) = subst (Asked6 form) (take-all n ws (omega arith)) a6
+
+  from6 : DegreeAllowed (valuesOf form ws .degree) (valuesOf form ws .p) → Asked6 form ws → Asked6 form (take n ws)
+  from6 a4 a6 = go (decLt n (length ws))
+    where
+      go : Dec (n < length ws) → Asked6 form (take n ws)
+      go (yes l) = absurd (omega (arith, lawful-length form ws a4 a6))
+      go (no l) = subst (Asked6 form) (sym (take-all n ws (omega arith))) a6
+
+  abbrev Degree : Values → Type 0
+  Degree v = DegreeAllowed (v .degree) (v .p)
+
+  abbrev PrimeOf : Values → Type 0
+  PrimeOf v = PrimeAllowed (v .p)
+
+  seventh : (q : ℕ) → (q ≡ q) × (Curves form (valuesOf form (take n ws)) → Curves form (valuesOf form ws))
+      × (Curves form (valuesOf form ws) → Curves form (valuesOf form (take n ws))) × (Curves form (valuesOf form (take n ws)) → Unit {0})
+  seventh q = (refl, to (Curves form), from (Curves form), λ _. tt)
+
+  pub alike : Alike (asked form (take n ws)) (asked form ws)
+  unfolding Asked2
+  alike = (
+    refl,
+    λ h. sym front2 ∙ h,
+    λ h. front2 ∙ h,
+    λ _. (
+      refl,
+      to PrimeOf,
+      from PrimeOf,
+      λ _. (
+        refl,
+        to Degree,
+        from Degree,
+        λ a4. (
+          refl,
+          to ValuesBelow,
+          from ValuesBelow,
+          λ _. (refl, to6 a4, from6 (to Degree a4), λ _. seventh 7),
+        ),
+      ),
+    ),
+  )
+
+  pub front-yes : AllYes (asked form (take n ws)) ↔ AllYes (asked form ws)
+  front-yes = (
+    alike-yes (asked form (take n ws)) (asked form ws) alike,
+    alike-yes (asked form ws) (asked form (take n ws)) (alike-sym (asked form (take n ws)) (asked form ws) alike),
+  )
+
+  pub front-no : (m : ℕ) → FirstNo (asked form (take n ws)) m ↔ FirstNo (asked form ws) m
+  front-no m = (
+    alike-no (asked form (take n ws)) (asked form ws) m alike,
+    alike-no (asked form ws) (asked form (take n ws)) m (alike-sym (asked form (take n ws)) (asked form ws) alike),
+  )
+
+  -- an accepted sheet is no longer than its front
+  pub front-all : AllYes (asked form ws) → take n ws ≡ ws
+  front-all all = take-all n ws (omega (arith, lawful-length form ws (yes-to (asked form ws) 4 all) (yes-to (asked form ws) 6 all)))

@@ -1,0 +1,45 @@
+-- What a sheet says: its values, the question that they put over ℤ/p, and the coefficients of g and N.
+-- Assumes nothing.
+use mathlib.Core.List.{List, map}
+use Prim.Native.Nat.{ℕ, _+_, _*_, _-_, _/_}
+use lib.ListN.{length, take, drop}
+use Rattle.zmod.specs.Zmod.{Zmod, mk}
+use Rattle.isogeny.specs.Rules.{Question}
+use Rattle.sheet.specs.declared.Form.{Form}
+use Rattle.sheet.specs.declared.Values.{Values}
+use Rattle.sheet.specs.Word.{valueOf}
+use Rattle.sheet.specs.Form.{header, entry}
+
+-- the values in the header, 0 where the form has no such word
+abbrev pub valuesOf : Form → List ℕ → Values
+valuesOf form ws = record {
+  p = entry form 1 ws;
+  a = entry form 2 ws;
+  b = entry form 3 ws;
+  atilde = entry form 4 ws;
+  btilde = entry form 5 ws;
+  degree = entry form 6 ws;
+  sigma = entry form 7 ws;
+}
+
+-- d = (ℓ − 1)/2
+abbrev pub half : Values → ℕ
+half v = (v .degree - 1) / 2
+
+-- what the rules are asked of
+abbrev pub question : (v : Values) → Question (Zmod (v .p))
+question v = record {
+  A = mk (v .p) (v .a);
+  B = mk (v .p) (v .b);
+  Ã = mk (v .p) (v .atilde);
+  B̃ = mk (v .p) (v .btilde);
+  d = half v;
+  σ = mk (v .p) (v .sigma);
+}
+
+-- the values of the coefficients of g, and of N
+abbrev pub gOf : Form → List ℕ → List ℕ
+gOf form ws = map valueOf (take (half (valuesOf form ws) + 1) (drop (length (header form)) ws))
+
+abbrev pub nOf : Form → List ℕ → List ℕ
+nOf form ws = map valueOf (take (2 * half (valuesOf form ws) + 2) (drop (length (header form) + (half (valuesOf form ws) + 1)) ws))
