@@ -6,10 +6,10 @@ use Rattle.zmod.specs.Prime.{Prime}
 use Rattle.sheet.specs.declared.Form.{Form}
 use Rattle.sheet.specs.declared.Values.{Values}
 use Rattle.sheet.specs.Asked.{asked}
-use Rattle.sheet.specs.FirstNo.{AllYes}
-use Rattle.sheet.specs.Reading.{valuesOf}
+use Rattle.questions.specs.Questions.{AllYes}
+use Rattle.sheet.specs.Values.{valuesOf}
 use Rattle.rules.specs.Ready as R
-use Rattle.rules.specs.Ready.{Ready}
+use Rattle.sheet.specs.Ready.{Ready}
 
 -- what solve asks of the values
 abbrev pub Permits : Values → Type 0

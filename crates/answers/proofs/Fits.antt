@@ -5,7 +5,7 @@ use Prim.Native.Nat.{ℕ, _≤_, _^_, _<_}
 use native.Mathlib.Omega.{arith}
 use Rattle.zmod.specs.Residues.{Reduced}
 use Rattle.sheet.specs.declared.Values.{Values}
-use Rattle.rules.specs.Ready.{Ready}
+use Rattle.sheet.specs.Ready.{Ready}
 use Rattle.certificate.specs.Certificate.{ValuesFit}
 
 pub values-fit : (v : Values) → Ready v → v .p < 2 ^ 28 → ValuesFit v

@@ -5,8 +5,8 @@ use mathlib.Core.Logic.{_↔_, inl, inr}
 use mathlib.Core.Bool.{Bool, true, false, not, false≢true}
 use Prim.Native.Nat.{ℕ}
 use borrow.Author.Tests.{not-true, not-false}
-use Rattle.sheet.specs.FirstNo.{Questions, AllYes, FirstNo}
-use Rattle.answers.specs.Judged.{Judged}
+use Rattle.questions.specs.Questions.{Questions, AllYes, FirstNo}
+use Rattle.questions.specs.Judged.{Judged}
 
 -- what a test `if !f(..)` shows, of a function f that decides A
 pub refuted : {A : Type 0} {r : Bool} → (r ≡ true) ↔ A → not r ≡ true → A → ⊥

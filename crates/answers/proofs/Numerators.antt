@@ -10,8 +10,8 @@ use Rattle.zmod.specs.Zmod.{Zmod}
 use Rattle.zmod.specs.Residues.{Residues, poly, poly-past, residues-poly}
 use Rattle.isogeny.specs.Rules.{N}
 use Rattle.sheet.specs.declared.Values.{Values}
-use Rattle.rules.specs.Question.{question, half}
-use Rattle.rules.specs.Ready.{Ready}
+use Rattle.sheet.specs.Values.{question, half}
+use Rattle.sheet.specs.Ready.{Ready}
 use Rattle.rules.specs.Numerator.{N-below}
 
 module _ (v : Values) (ready : Ready v) (g n : List ℕ) (n-length : length n ≡ 2 * half v + 2)

@@ -12,11 +12,10 @@ use Rattle.isogeny.specs.Rules as Rules
 use Rattle.isogeny.specs.Rules.{N, Meets, g-at}
 use Rattle.sheet.specs.declared.Form.the-variants.{Question as question-form, Certificate, Kernel}
 use Rattle.sheet.specs.declared.Values.{Values}
-use Rattle.sheet.specs.Form.{entry, gOf}
-use Rattle.sheet.specs.Reading.{valuesOf}
+use Rattle.sheet.specs.Form.{entry}
+use Rattle.sheet.specs.Values.{gOf, valuesOf, question, half}
 use Rattle.certificate.specs.Certificate.{certificate}
-use Rattle.sheet.specs.FirstNo.{AllYes, FirstNo}
-use Rattle.rules.specs.Question.{question, half}
+use Rattle.questions.specs.Questions.{AllYes, FirstNo}
 use Rattle.answers.specs.declared.Verdict.{Verdict}
 use Rattle.answers.specs.declared.Verdict.the-variants as verdict
 use Rattle.answers.specs.declared.Written.{Written}

@@ -12,11 +12,10 @@ use Rattle.isogeny.specs.Rules.{Question, N, R1, R3, Meets}
 use Rattle.sheet.specs.declared.Form.{Form}
 use Rattle.sheet.specs.declared.Form.the-variants.{Question as question-form, Certificate, Kernel}
 use Rattle.sheet.specs.declared.Values.{Values}
-use Rattle.sheet.specs.Form.{entry, gOf, nOf}
+use Rattle.sheet.specs.Form.{entry}
+use Rattle.sheet.specs.Values.{gOf, nOf, valuesOf, question, half}
 use Rattle.sheet.specs.Asked.{PrimeAllowed, asked}
-use Rattle.sheet.specs.Reading.{valuesOf}
-use Rattle.sheet.specs.FirstNo.{Questions}
-use Rattle.rules.specs.Question.{question, half}
+use Rattle.questions.specs.Questions.{Questions}
 use Rattle.answers.specs.declared.Point.{Point}
 use Rattle.answers.specs.declared.Point.the-variants.{Affine, Infinity}
 

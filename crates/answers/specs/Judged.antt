@@ -3,7 +3,7 @@
 use mathlib.Core.Path.{_≡_}
 use mathlib.Core.Logic.{_⊎_}
 use Prim.Native.Nat.{ℕ}
-use Rattle.sheet.specs.FirstNo.{Questions, AllYes, FirstNo}
+use Rattle.questions.specs.Questions.{Questions, AllYes, FirstNo}
 
 -- 0 where all are answered with yes, else the number of the first no
 abbrev pub Judged : Questions → ℕ → Type 0

@@ -11,8 +11,12 @@ use Rattle.sheet.specs.declared.Form.the-variants.{Certificate}
 use Rattle.sheet.specs.declared.Values.{Values}
 use Rattle.sheet.specs.Word.{word}
 use Rattle.sheet.specs.Place.{placeOf}
-use Rattle.certificate.specs.Certificate.{headerWords, certificate, valueAt, ValuesFit, Writable, Written}
-use Rattle.sheet.proofs.Table.{at}
+use Rattle.sheet.specs.Form.{certificateWords}
+use Rattle.sheet.specs.Values.{half}
+use Rattle.sheet.specs.Ready.{Ready}
+use Rattle.certificate.specs.Certificate.{headerWords, certificate, valueAt, Writable, Stored}
+use Rattle.certificate.specs.Fits.{ValuesFit, values-fit}
+use Rattle.sheet.specs.Table.{at}
 use Rattle.sheet.proofs.Places.{place-is}
 use Rattle.certificate.proofs.Stores.{Front, front-paste, front-one, front-length}
 
@@ -35,8 +39,8 @@ fits-at v f (suc (suc (suc (suc (suc (suc (suc i))))))) = small
     small : 0 < 2 ^ 28
     small = omega arith
 
-pub value-fits : (v : Values) → ValuesFit v → (k : ℕ) → valueAt v k < 2 ^ 28
-value-fits v f k = fits-at v f (k - 1)
+pub value-fits : (v : Values) → Ready v → (k : ℕ) → valueAt v k < 2 ^ 28
+value-fits v ready k = fits-at v (values-fit v ready) (k - 1)
 
 -- a kind of a header that is none of the first six
 from-four : (k : ℕ) → 1 ≤ k → (k ≡ 1 → ⊥) → (k ≡ 2 → ⊥) → (k ≡ 3 → ⊥) → 4 ≤ k
@@ -78,40 +82,38 @@ end-at d none = place-is Certificate 15 d none ∙ omega arith
 
 module _ (v : Values) (g n before : List ℕ) (can : Writable v g n (length before)) {o₁ : List ℕ} (header : o₁ ≡ headerWords v ++ drop 7 before) where
   pub first-length : length o₁ ≡ length before
-  first-length = front-length before (headerWords v) header (omega (arith, can .enough, can .some))
+  first-length = front-length before (headerWords v) header (omega arith)
 
   module _ {e₈ : ℕ} (at₈ : e₈ ≡ 7) {o₂ : List ℕ} (put₈ : o₂ ≡ paste o₁ e₈ (map (word 8) g) (length g)) where
     front₂ : Front before (headerWords v ++ map (word 8) g) o₂
     front₂ = front-paste before (headerWords v) (map (word 8) g) e₈ (length g) (sym (length-map g (word 8))) at₈ header put₈
 
-    length₂ : length (headerWords v ++ map (word 8) g) ≡ length g + 7
+    length₂ : length (headerWords v ++ map (word 8) g) ≡ half v + 8
     length₂ = length-append (headerWords v) (map (word 8) g) ∙ ap (λ n. 7 + n) (length-map g (word 8)) ∙ omega arith
 
     pub second-length : length o₂ ≡ length before
-    second-length = front-length before (headerWords v ++ map (word 8) g) front₂ (omega (arith, length₂, can .enough, can .some))
+    second-length = front-length before (headerWords v ++ map (word 8) g) front₂ (omega (arith, length₂))
 
-    module _ {e₉ : ℕ} (at₉ : e₉ ≡ length g + 7) {o₃ : List ℕ} (put₉ : o₃ ≡ paste o₂ e₉ (map (word 9) n) (length n)) where
+    module _ {e₉ : ℕ} (at₉ : e₉ ≡ half v + 8) {o₃ : List ℕ} (put₉ : o₃ ≡ paste o₂ e₉ (map (word 9) n) (length n)) where
       front₃ : Front before (headerWords v ++ map (word 8) g ++ map (word 9) n) o₃
       front₃ =
           front-paste before (headerWords v ++ map (word 8) g) (map (word 9) n) e₉ (length n) (sym (length-map n (word 9))) (at₉ ∙ sym length₂) front₂ put₉
 
-      length₃ : length (headerWords v ++ map (word 8) g ++ map (word 9) n) ≡ 3 * length g + 7
+      length₃ : length (headerWords v ++ map (word 8) g ++ map (word 9) n) ≡ 3 * half v + 10
       length₃ =
           length-append (headerWords v ++ map (word 8) g) (map (word 9) n)
           ∙ ap₂ _+_ length₂ (length-map n (word 9))
-          ∙ omega (arith, can .twice)
+          ∙ omega arith
 
       pub third-length : length o₃ ≡ length before
-      third-length =
-          front-length before (headerWords v ++ map (word 8) g ++ map (word 9) n) front₃ (omega (arith, length₃, can .enough))
+      third-length = front-length before (headerWords v ++ map (word 8) g ++ map (word 9) n) front₃ (omega (arith, length₃))
 
-      pub written : {e w r : ℕ} → e ≡ 3 * length g + 7 → w ≡ word 15 0 → r ≡ e + 1 → Written v g n before (set o₃ e w) r
+      pub written : {e w r : ℕ} → e ≡ 3 * half v + 10 → w ≡ word 15 0 → r ≡ e + 1 → Stored v g n before (set o₃ e w) r
       written {e} {w} {r} at-end is-end count-is = let whole : length (certificate v g n) ≡ r =
           length-append (headerWords v ++ map (word 8) g ++ map (word 9) n) (word 15 0 ∷ []) ∙ omega (arith, length₃, at-end, count-is) in record {
+            count = omega (arith, at-end, count-is);
             words =
                 ap (set o₃ e) is-end
-                ∙ front-one before (headerWords v ++ map (word 8) g ++ map (word 9) n) e (word 15 0) (at-end ∙ sym length₃)
-                (omega (arith, at-end, can .enough)) front₃
+                ∙ front-one before (headerWords v ++ map (word 8) g ++ map (word 9) n) e (word 15 0) (at-end ∙ sym length₃) (omega (arith, at-end)) front₃
                 ∙ ap (λ k. certificate v g n ++ drop k before) whole;
-            count = omega (arith, at-end, count-is);
           }

@@ -1,12 +1,14 @@
--- The words of a certificate: "kinds 1 to 7, then d + 1 words of kind 8 and 2d + 2 of kind 9, both from the constant term up, end".
+-- The words of a certificate: the values of the header by their kinds, the coefficients of g and of N from the constant term up, and the end.
 -- Assumes nothing.
 use mathlib.Core.Path.{_≡_}
 use mathlib.Core.List.{List, [], _∷_, _++_, map}
-use Prim.Native.Nat.{ℕ, _+_, _-_, _*_, _^_, _<_, _≤_}
-use lib.ListN.{length, getD, drop}
-use Rattle.zmod.specs.Residues.{Reduced}
+use Prim.Native.Nat.{ℕ, _-_, _≤_}
+use lib.ListN.{getD, drop}
 use Rattle.sheet.specs.declared.Values.{Values}
 use Rattle.sheet.specs.Word.{word}
+use Rattle.sheet.specs.Form.{certificateWords}
+use Rattle.sheet.specs.Values.{half}
+use Rattle.sheet.specs.Ready.{Ready, HoldsG, HoldsN}
 
 -- the words before any coefficients
 abbrev pub headerWords : Values → List ℕ
@@ -22,25 +24,12 @@ valueAt v k = getD (v .p ∷ v .a ∷ v .b ∷ v .atilde ∷ v .btilde ∷ v .de
 
 -- ── what the writer needs and leaves
 
-pub record ValuesFit (v : Values) : Type 0 where
-  pub p : v .p < 2 ^ 28
-  pub a : v .a < 2 ^ 28
-  pub b : v .b < 2 ^ 28
-  pub atilde : v .atilde < 2 ^ 28
-  pub btilde : v .btilde < 2 ^ 28
-  pub degree : v .degree < 2 ^ 28
-  pub sigma : v .sigma < 2 ^ 28
-
--- d + 1 coefficients of g and 2 d + 2 of N, all values of words, and room for 3 d + 11 words
 pub record Writable (v : Values) (g n : List ℕ) (room : ℕ) : Type 0 where
-  pub values : ValuesFit v
-  pub some : 0 < length g
-  pub few : length g ≤ 128
-  pub twice : length n ≡ 2 * length g
-  pub enough : 3 * length g + 8 ≤ room
-  pub g-fit : Reduced (2 ^ 28) g
-  pub n-fit : Reduced (2 ^ 28) n
+  pub ready : Ready v
+  pub g-words : HoldsG v g
+  pub n-words : HoldsN v n
+  pub enough : certificateWords (half v) ≤ room
 
-pub record Written (v : Values) (g n before after : List ℕ) (r : ℕ) : Type 0 where
+pub record Stored (v : Values) (g n before after : List ℕ) (r : ℕ) : Type 0 where
+  pub count : r ≡ certificateWords (half v)
   pub words : after ≡ certificate v g n ++ drop r before
-  pub count : r ≡ 3 * length g + 8

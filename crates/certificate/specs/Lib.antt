@@ -1,1 +1,3 @@
 pub mod Certificate
+pub mod Fits
+pub mod RoundTrip

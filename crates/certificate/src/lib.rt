@@ -8,7 +8,8 @@ ghost use lib.ListN.{length, drop};
 ghost use lib.Seq.{paste};
 ghost use Rattle.zmod.specs.Residues.{Reduced};
 ghost use Rattle.sheet.specs.Word.{word};
-ghost use Rattle.certificate.specs.Certificate.{headerWords, valueAt, ValuesFit, Writable, Written};
+ghost use Rattle.certificate.specs.Certificate.{headerWords, valueAt, Writable, Stored};
+ghost use Rattle.sheet.specs.Ready.{Ready};
 
 fn word_of(kind: usize, value: u32) -> u32
     requires { ⌜ (kind < 16) × (value < 2 ^ 28) ⌝ }
@@ -34,7 +35,7 @@ fn header_value(v: Values, k: usize) -> u32
 }
 
 fn write_header(v: Values, out: &mut [u32])
-    requires { ⌜ (7 ≤ length (now out)) × ValuesFit v ⌝ }
+    requires { ⌜ (7 ≤ length (now out)) × Ready v ⌝ }
     ensures { λ _. ⌜ now (out .exit) ≡ headerWords v ++ drop 7 (now (out .entry)) ⌝ }
 {
     for k in 1..8 {
@@ -56,7 +57,7 @@ fn write_section(k: usize, xs: &[u32], from: usize, out: &mut [u32])
 // The words of a certificate, to the front of `out`; the rest of it stays. The answer is their count.
 pub fn write(v: Values, g: &[u32], n: &[u32], out: &mut [u32]) -> usize
     requires { ⌜ Writable v (now g) (now n) (length (now out)) ⌝ }
-    ensures { λ r. ⌜ Written v (now (g .entry)) (now (n .entry)) (now (out .entry)) (now (out .exit)) r ⌝ }
+    ensures { λ r. ⌜ Stored v (now (g .entry)) (now (n .entry)) (now (out .entry)) (now (out .exit)) r ⌝ }
 {
     let d = g.len() - 1;
     write_header(v, out);

@@ -5,11 +5,11 @@ use mathlib.Core.List.{List}
 use Prim.Native.Nat.{ℕ}
 use Rattle.sheet.specs.declared.Form.the-variants.{Certificate}
 use Rattle.sheet.specs.Asked.{asked}
-use Rattle.sheet.specs.FirstNo.{AllYes, FirstNo, no-before, no-after, all-all}
+use Rattle.questions.specs.Questions.{AllYes, FirstNo}
+use Rattle.questions.specs.Joined.{no-before, no-after, all-all}
 use Rattle.answers.specs.Asked.{check-asks}
-use Rattle.answers.specs.Judged.{Judged}
+use Rattle.questions.specs.Judged.{Judged, judged-yes, judged-no}
 use Rattle.checking.specs.RulesAsked.{rules-asks}
-use Rattle.answers.proofs.Judging.{judged-yes, judged-no}
 
 module _ (ws : List ℕ) where
   pub check-unread : (k : ℕ) → FirstNo (asked Certificate ws) k → FirstNo (check-asks ws) k

@@ -9,13 +9,12 @@ use Rattle.zmod.specs.Residues.{Reduced}
 use Rattle.sheet.specs.declared.Form.the-variants.{Certificate}
 use Rattle.sheet.specs.declared.Values.{Values}
 use Rattle.sheet.specs.Word.{valueOf}
-use Rattle.sheet.specs.Form.{half, gOf, nOf}
+use Rattle.sheet.specs.Values.{half, gOf, nOf, valuesOf}
 use Rattle.sheet.specs.Asked.{asked}
-use Rattle.sheet.specs.FirstNo.{AllYes}
-use Rattle.sheet.specs.Reading.{valuesOf}
-use Rattle.sheet.proofs.Accepted.{certificate-length, certificate-g-length, certificate-g-reduced, certificate-n-length, certificate-n-reduced}
+use Rattle.questions.specs.Questions.{AllYes}
+use Rattle.sheet.specs.Accepted.{certificate-length, certificate-g-length, certificate-g-reduced, certificate-n-length, certificate-n-reduced}
 use Rattle.rules.specs.Question as Q
-use Rattle.answers.specs.Judged.{Judged}
+use Rattle.questions.specs.Judged.{Judged}
 use Rattle.checking.specs.RulesAsked.{rules-ask, rules-asks}
 
 pub record Fit (ws : List ℕ) (v : Values) (g n : List ℕ) : Type 0 where

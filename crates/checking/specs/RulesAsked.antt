@@ -8,10 +8,8 @@ use Rattle.zmod.specs.Residues.{poly}
 use Rattle.isogeny.specs.Rules.{N, R1, R3}
 use Rattle.sheet.specs.declared.Form.the-variants.{Certificate}
 use Rattle.sheet.specs.declared.Values.{Values}
-use Rattle.sheet.specs.Form.{gOf, nOf}
-use Rattle.sheet.specs.Reading.{valuesOf}
-use Rattle.sheet.specs.FirstNo.{Questions}
-use Rattle.rules.specs.Question.{question}
+use Rattle.sheet.specs.Values.{gOf, nOf, valuesOf, question}
+use Rattle.questions.specs.Questions.{Questions}
 
 -- questions 8 to 10 for the values v and the coefficients g and n
 abbrev pub rules-ask : Values → List ℕ → List ℕ → Questions

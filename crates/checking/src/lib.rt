@@ -12,13 +12,12 @@ ghost use Rattle.zmod.specs.Zmod.{Zmod};
 ghost use Rattle.zmod.specs.Prime.{Prime};
 ghost use Rattle.zmod.specs.Residues.{Reduced, poly};
 ghost use Rattle.isogeny.specs.Rules.{N};
-ghost use Rattle.rules.specs.Question.{question, half};
-ghost use Rattle.rules.specs.Ready.{Ready};
+ghost use Rattle.sheet.specs.Values.{question, half, valuesOf};
+ghost use Rattle.sheet.specs.Ready.{Ready};
 ghost use Rattle.sheet.specs.declared.Form.the-variants.{Certificate};
 ghost use Rattle.sheet.specs.Asked.{asked};
-ghost use Rattle.sheet.specs.FirstNo.{AllYes};
-ghost use Rattle.sheet.specs.Reading.{valuesOf};
-ghost use Rattle.answers.specs.Judged.{Judged};
+ghost use Rattle.questions.specs.Questions.{AllYes};
+ghost use Rattle.questions.specs.Judged.{Judged};
 ghost use Rattle.answers.specs.Answer.{CheckRight};
 ghost use Rattle.checking.specs.RulesAsked.{rules-asks, rules-ask};
 

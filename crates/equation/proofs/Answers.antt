@@ -12,8 +12,8 @@ use Rattle.zmod.specs.Zmod.{Zmod}
 use Rattle.zmod.specs.Residues.{Reduced, poly, poly-past, Residues, residues-poly}
 use Rattle.isogeny.specs.Rules.{R3, left, right}
 use Rattle.sheet.specs.declared.Values.{Values}
-use Rattle.rules.specs.Question.{half, question}
-use Rattle.rules.specs.Ready.{Ready}
+use Rattle.sheet.specs.Values.{half, question}
+use Rattle.sheet.specs.Ready.{Ready}
 use Rattle.equation.specs.Sides.{left-below, right-below}
 
 module _ (v : Values) (ready : Ready v) (g : List ℕ) (size : length g ≡ half v + 1) (low : Reduced (v .p) g) where

@@ -17,8 +17,8 @@ use Rattle.isogeny.specs.Expansion.{Short, Recurs, expansion, power-sums}
 use Rattle.isogeny.specs.Proof.Terms.{expansion-same, short-same}
 use Rattle.isogeny.specs.Theorems.{fast}
 use Rattle.sheet.specs.declared.Values.{Values}
-use Rattle.rules.specs.Question.{half, question}
-use Rattle.rules.specs.Ready.{Ready}
+use Rattle.sheet.specs.Values.{half, question}
+use Rattle.sheet.specs.Ready.{Ready, half-least, degree-half}
 
 -- ── the conditions, tested
 
@@ -49,14 +49,14 @@ module _ (v : Values) (h : List ℕ) where
         λ t. record {
           first = same 5 1 (v .a) (v .atilde) x₁ y₁ hx₁ hy₁ .0 e₁;
           second = same 7 2 (v .b) (v .btilde) x₂ y₂ hx₂ hy₂ .0 e₂;
-          recurs = λ k l m. more .0 t k l (omega (arith, ready .odd));
+          recurs = λ k l m. more .0 t k l (omega (arith, degree-half v ready));
         },
-        λ short. more .1 (λ k l m. short .recurs k l (omega (arith, ready .odd))),
+        λ short. more .1 (λ k l m. short .recurs k l (omega (arith, degree-half v ready))),
       )
 
 -- ── from the conditions to R3
 
-module _ (v : Values) (ready : Ready v) (P : Prime (v .p)) (large : 3 * v .degree - 3 < v .p) (g s h : List ℕ)
+module _ (v : Values) (ready : Ready v) (large : 3 * v .degree - 3 < v .p) (g s h : List ℕ)
     (r1 : R1 (Zmod (v .p)) (question v) (poly (v .p) g)) (s-size : length s ≡ v .degree + 2) (h-size : length h ≡ v .degree + 1)
     (sums : Residues (v .p) (power-sums (Zmod (v .p)) (half v) (poly (v .p) g)) s)
     (expanded : Residues (v .p) (expansion (Zmod (v .p)) (question v .A) (question v .B) (poly (v .p) s)) h) where
@@ -68,17 +68,17 @@ module _ (v : Values) (ready : Ready v) (P : Prime (v .p)) (large : 3 * v .degre
 
   whole : Before (Elt (v .p)) (suc (ℓ R q)) (poly (v .p) h) (expansion R (q .A) (q .B) (power-sums R (half v) (poly (v .p) g)))
   whole i l =
-      expanded .coefficients i (omega (arith, ready .odd))
-      ∙ expansion-same R (q .A) (q .B) (suc (ℓ R q)) (poly (v .p) s) (power-sums R (half v) (poly (v .p) g)) (λ j m. sums .coefficients j (omega (arith, ready .odd))) i l
+      expanded .coefficients i (omega (arith, degree-half v ready))
+      ∙ expansion-same R (q .A) (q .B) (suc (ℓ R q)) (poly (v .p) s) (power-sums R (half v) (poly (v .p) g)) (λ j m. sums .coefficients j (omega (arith, degree-half v ready))) i l
 
   pub decided : (r : Bool) → (r ≡ true) ↔ Short R q (poly (v .p) h) → (r ≡ true) ↔ R3 R q (poly (v .p) g) (N R q (poly (v .p) g))
   decided r test = (
-    λ t. by-theorem .1 (short-same R q (poly (v .p) h) _ whole (ready .least) (test .0 t)),
-    λ r3. test .1 (short-same R q _ (poly (v .p) h) (λ i l. sym (whole i l)) (ready .least) (by-theorem .0 r3)),
+    λ t. by-theorem .1 (short-same R q (poly (v .p) h) _ whole (half-least v ready) (test .0 t)),
+    λ r3. test .1 (short-same R q _ (poly (v .p) h) (λ i l. sym (whole i l)) (half-least v ready) (by-theorem .0 r3)),
   )
     where
       by-theorem : R3 R q (poly (v .p) g) (N R q (poly (v .p) g)) ↔ Short R q (expansion R (q .A) (q .B) (power-sums R (half v) (poly (v .p) g)))
-      by-theorem = fast P q (ready .least) (poly (v .p) g) r1 (omega (arith, ready .odd))
+      by-theorem = fast (ready .prime .prime) q (half-least v ready) (poly (v .p) g) r1 (omega (arith, degree-half v ready))
 
 -- R3 of the words of N is R3 of N
 pub of-words : (v : Values) (g n : List ℕ) (r : Bool) → poly (v .p) n ≡ N (Zmod (v .p)) (question v) (poly (v .p) g)

@@ -12,7 +12,7 @@ use Rattle.zmod.specs.Zmod.{Zmod, mk, plus}
 use Rattle.zmod.specs.Residues.{Reduced, poly, poly-at}
 use Rattle.isogeny.specs.Rules.{f}
 use Rattle.sheet.specs.declared.Values.{Values}
-use Rattle.rules.specs.Question.{question}
+use Rattle.sheet.specs.Values.{question}
 
 pub poly-nil : (p : ℕ) → poly p [] ≡ zeros (Zmod p)
 poly-nil p = fun-ext λ i. poly-at p [] i

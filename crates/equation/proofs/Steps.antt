@@ -14,7 +14,7 @@ use Rattle.zmod.specs.Zmod.{Zmod, mk, minus}
 use Rattle.zmod.specs.Residues.{poly, poly-past, Residues, residues-same, residues-poly, residues-sums, residues-scaled}
 use Rattle.isogeny.specs.Rules.{W, f, left, right}
 use Rattle.sheet.specs.declared.Values.{Values}
-use Rattle.rules.specs.Question.{half, question}
+use Rattle.sheet.specs.Values.{half, question}
 use Rattle.rules.specs.Numerator.{scaled-minus}
 use Rattle.rules.specs.Words.{Whole, whole, whole-same}
 use Rattle.rules.proofs.Steps.{from-derivative, from-product}

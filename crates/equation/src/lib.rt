@@ -13,14 +13,14 @@ ghost use Rattle.zmod.specs.Zmod.{Zmod};
 ghost use Rattle.zmod.specs.Prime.{Prime};
 ghost use Rattle.zmod.specs.Residues.{Reduced, poly};
 ghost use Rattle.isogeny.specs.Rules.{N, R1, R3};
-ghost use Rattle.rules.specs.Question.{half, question};
-ghost use Rattle.rules.specs.Ready.{Ready};
+ghost use Rattle.sheet.specs.Values.{half, question};
+ghost use Rattle.sheet.specs.Ready.{Ready, HoldsG, HoldsN};
 
 // Does R3 hold?
 pub fn rule_three(v: Values, g: &[u32], n: &[u32]) -> bool
-    requires { ⌜ (Ready v) × Prime (v .p) ⌝ }
-    requires { ⌜ (length (now g) ≡ half v + 1) × (Reduced (v .p) (now g)) × R1 (Zmod (v .p)) (question v) (poly (v .p) (now g)) ⌝ }
-    requires { ⌜ (length (now n) ≡ 2 * half v + 2) × (Reduced (v .p) (now n)) × (poly (v .p) (now n) ≡ N (Zmod (v .p)) (question v) (poly (v .p) (now g))) ⌝ }
+    requires { ⌜ Ready v ⌝ }
+    requires { ⌜ HoldsG v (now g) × R1 (Zmod (v .p)) (question v) (poly (v .p) (now g)) ⌝ }
+    requires { ⌜ HoldsN v (now n) × (poly (v .p) (now n) ≡ N (Zmod (v .p)) (question v) (poly (v .p) (now g))) ⌝ }
     ensures { λ r. ⌜ (r ≡ true) ↔ (R3 (Zmod (v .p)) (question v) (poly (v .p) (now (g .entry))) (poly (v .p) (now (n .entry)))) ⌝ }
 {
     if 3 * v.degree - 3 < v.p {

@@ -10,8 +10,8 @@ ghost use Rattle.zmod.specs.Prime.{Prime};
 ghost use Rattle.zmod.specs.Residues.{Reduced, poly};
 ghost use Rattle.isogeny.specs.Rules.{N, R1, R3};
 ghost use Rattle.isogeny.specs.Expansion.{Short};
-ghost use Rattle.rules.specs.Question.{half, question};
-ghost use Rattle.rules.specs.Ready.{Ready};
+ghost use Rattle.sheet.specs.Values.{half, question};
+ghost use Rattle.sheet.specs.Ready.{Ready, HoldsG, HoldsN};
 
 // Room for the power sums, and for the expansion. (As the result of a call its words stay out of the callers' proofs.)
 fn blank257() -> [u32; 257] {
@@ -35,8 +35,8 @@ fn conditions(v: Values, h: &[u32]) -> bool
 
 // Does R3 hold? s takes the power sums, and h the expansion.
 fn by_expansion_in(v: Values, g: &[u32], s: &mut [u32], h: &mut [u32]) -> bool
-    requires { ⌜ (Ready v) × Prime (v .p) × (3 * v .degree - 3 < v .p) ⌝ }
-    requires { ⌜ (length (now g) ≡ half v + 1) × (Reduced (v .p) (now g)) × R1 (Zmod (v .p)) (question v) (poly (v .p) (now g)) ⌝ }
+    requires { ⌜ (Ready v) × (3 * v .degree - 3 < v .p) ⌝ }
+    requires { ⌜ HoldsG v (now g) × R1 (Zmod (v .p)) (question v) (poly (v .p) (now g)) ⌝ }
     requires { ⌜ (length (now s) ≡ v .degree + 2) × (length (now h) ≡ v .degree + 1) ⌝ }
     ensures { λ r. ⌜ (r ≡ true) ↔ (R3 (Zmod (v .p)) (question v) (poly (v .p) (now (g .entry))) (N (Zmod (v .p)) (question v) (poly (v .p) (now (g .entry))))) ⌝ }
 {
@@ -47,8 +47,8 @@ fn by_expansion_in(v: Values, g: &[u32], s: &mut [u32], h: &mut [u32]) -> bool
 
 // The same, with room of its own.
 pub fn by_expansion(v: Values, g: &[u32]) -> bool
-    requires { ⌜ (Ready v) × Prime (v .p) × (3 * v .degree - 3 < v .p) ⌝ }
-    requires { ⌜ (length (now g) ≡ half v + 1) × (Reduced (v .p) (now g)) × R1 (Zmod (v .p)) (question v) (poly (v .p) (now g)) ⌝ }
+    requires { ⌜ (Ready v) × (3 * v .degree - 3 < v .p) ⌝ }
+    requires { ⌜ HoldsG v (now g) × R1 (Zmod (v .p)) (question v) (poly (v .p) (now g)) ⌝ }
     ensures { λ r. ⌜ (r ≡ true) ↔ (R3 (Zmod (v .p)) (question v) (poly (v .p) (now (g .entry))) (N (Zmod (v .p)) (question v) (poly (v .p) (now (g .entry))))) ⌝ }
 {
     let n = v.degree as usize;

@@ -9,8 +9,8 @@ ghost use Rattle.series.specs.Series.{conv, sums, scaled, ∂};
 ghost use Rattle.zmod.specs.Zmod.{Zmod, mk};
 ghost use Rattle.zmod.specs.Residues.{Reduced, poly, Residues};
 ghost use Rattle.isogeny.specs.Rules.{R3, f, left, right};
-ghost use Rattle.rules.specs.Question.{half, question};
-ghost use Rattle.rules.specs.Ready.{Ready};
+ghost use Rattle.sheet.specs.Values.{half, question};
+ghost use Rattle.sheet.specs.Ready.{Ready, HoldsG, HoldsN};
 ghost use Rattle.rules.specs.Words.{Whole};
 ghost use Rattle.equation.specs.Sides.{factor, crossed};
 
@@ -68,8 +68,8 @@ fn add_terms(n: &[u32], s: &[u32], h: &[u32], t: &[u32], b: u32, out: &mut [u32]
 
 // The right side of R3.
 fn right_side(v: Values, g: &[u32], n: &[u32], out: &mut [u32])
-    requires { ⌜ (Ready v) × (length (now g) ≡ half v + 1) × (Reduced (v .p) (now g)) ⌝ }
-    requires { ⌜ (length (now n) ≡ 2 * half v + 2) × (Reduced (v .p) (now n)) ⌝ }
+    requires { ⌜ (Ready v) × HoldsG v (now g) ⌝ }
+    requires { ⌜ HoldsN v (now n) ⌝ }
     ensures { λ _. ⌜ Residues (v .p) (right (Zmod (v .p)) (question v) (poly (v .p) (now (g .entry))) (poly (v .p) (now (n .entry)))) (now (out .exit)) ⌝ }
 {
     let d = g.len() - 1;
@@ -104,8 +104,8 @@ fn cross766(g: &[u32], n: &[u32], dg: &[u32], dn: &[u32], k: usize, p: u32) -> [
 
 // The left side of R3.
 fn left_side(v: Values, g: &[u32], n: &[u32], out: &mut [u32])
-    requires { ⌜ (Ready v) × (length (now g) ≡ half v + 1) × (Reduced (v .p) (now g)) ⌝ }
-    requires { ⌜ (length (now n) ≡ 2 * half v + 2) × (Reduced (v .p) (now n)) ⌝ }
+    requires { ⌜ (Ready v) × HoldsG v (now g) ⌝ }
+    requires { ⌜ HoldsN v (now n) ⌝ }
     ensures { λ _. ⌜ Residues (v .p) (left (Zmod (v .p)) (question v) (poly (v .p) (now (g .entry))) (poly (v .p) (now (n .entry)))) (now (out .exit)) ⌝ }
 {
     let d = g.len() - 1;
@@ -122,8 +122,8 @@ fn left_side(v: Values, g: &[u32], n: &[u32], out: &mut [u32])
 
 // Does R3 hold? l and r take the two sides, which have 3ℓ + 1 coefficients.
 fn sides_agree(v: Values, g: &[u32], n: &[u32], l: &mut [u32], r: &mut [u32]) -> bool
-    requires { ⌜ (Ready v) × (length (now g) ≡ half v + 1) × (Reduced (v .p) (now g)) ⌝ }
-    requires { ⌜ (length (now n) ≡ 2 * half v + 2) × (Reduced (v .p) (now n)) ⌝ }
+    requires { ⌜ (Ready v) × HoldsG v (now g) ⌝ }
+    requires { ⌜ HoldsN v (now n) ⌝ }
     requires { ⌜ (length (now l) ≡ 6 * half v + 4) × (length (now r) ≡ 6 * half v + 4) ⌝ }
     ensures { λ b. ⌜ (b ≡ true) ↔ (R3 (Zmod (v .p)) (question v) (poly (v .p) (now (g .entry))) (poly (v .p) (now (n .entry)))) ⌝ }
 {
@@ -134,8 +134,8 @@ fn sides_agree(v: Values, g: &[u32], n: &[u32], l: &mut [u32], r: &mut [u32]) ->
 
 // Does R3 hold?
 pub fn compare(v: Values, g: &[u32], n: &[u32]) -> bool
-    requires { ⌜ (Ready v) × (length (now g) ≡ half v + 1) × (Reduced (v .p) (now g)) ⌝ }
-    requires { ⌜ (length (now n) ≡ 2 * half v + 2) × (Reduced (v .p) (now n)) ⌝ }
+    requires { ⌜ (Ready v) × HoldsG v (now g) ⌝ }
+    requires { ⌜ HoldsN v (now n) ⌝ }
     ensures { λ r. ⌜ (r ≡ true) ↔ (R3 (Zmod (v .p)) (question v) (poly (v .p) (now (g .entry))) (poly (v .p) (now (n .entry)))) ⌝ }
 {
     let d = g.len() - 1;

@@ -10,8 +10,8 @@ ghost use Rattle.series.specs.Reversal.{rev};
 ghost use Rattle.zmod.specs.Zmod.{Zmod, mk, plus, times};
 ghost use Rattle.zmod.specs.Residues.{Residue, Reduced, poly, Residues};
 ghost use Rattle.isogeny.specs.Expansion.{expansion as expansion-of, power-sums, recurrence as recurrence-of, Recurs, sum-to};
-ghost use Rattle.rules.specs.Question.{half, question};
-ghost use Rattle.rules.specs.Ready.{Ready};
+ghost use Rattle.sheet.specs.Values.{half, question};
+ghost use Rattle.sheet.specs.Ready.{Ready, HoldsG};
 ghost use Rattle.expansion.specs.Multiple.{Multiple};
 ghost use Rattle.expansion.specs.Equations.{SumAt, ReducedTo, Solves};
 
@@ -86,7 +86,7 @@ fn power_sums_from(v: Values, c: &[u32], s: &mut [u32])
 // The same from g, with room c for g reversed.
 fn power_sums_in(v: Values, g: &[u32], c: &mut [u32], s: &mut [u32])
     requires { ⌜ Ready v ⌝ }
-    requires { ⌜ (length (now g) ≡ half v + 1) × Reduced (v .p) (now g) × (length (now c) ≡ half v + 1) × (length (now s) ≤ 1024) ⌝ }
+    requires { ⌜ HoldsG v (now g) × (length (now c) ≡ half v + 1) × (length (now s) ≤ 1024) ⌝ }
     ensures { λ r. ⌜ Residues (v .p) (power-sums (Zmod (v .p)) (half v) (poly (v .p) (now (g .entry)))) (now (s .exit)) ⌝ }
 {
     reverse(g, c);
@@ -96,7 +96,7 @@ fn power_sums_in(v: Values, g: &[u32], c: &mut [u32], s: &mut [u32])
 // s = the power sums of g's roots, each counted twice.
 pub fn power_sums(v: Values, g: &[u32], s: &mut [u32])
     requires { ⌜ Ready v ⌝ }
-    requires { ⌜ (length (now g) ≡ half v + 1) × Reduced (v .p) (now g) × (length (now s) ≤ 1024) ⌝ }
+    requires { ⌜ HoldsG v (now g) × (length (now s) ≤ 1024) ⌝ }
     ensures { λ r. ⌜ Residues (v .p) (power-sums (Zmod (v .p)) (half v) (poly (v .p) (now (g .entry)))) (now (s .exit)) ⌝ }
 {
     let n = g.len();

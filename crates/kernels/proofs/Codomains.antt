@@ -21,13 +21,12 @@ use Rattle.isogeny.specs.Kernel.{kernel-question, codomain-A, codomain-B, Passe
 use Rattle.isogeny.specs.Theorems as T
 use Rattle.sheet.specs.declared.Values.{Values}
 use Rattle.sheet.specs.declared.Form.the-variants.{Kernel}
-use Rattle.sheet.specs.FirstNo.{AllYes, FirstNo, no-before, no-after, all-all}
+use Rattle.questions.specs.Questions.{AllYes, FirstNo}
+use Rattle.questions.specs.Joined.{no-before, no-after, all-all}
 use Rattle.sheet.specs.Asked.{asked}
-use Rattle.sheet.specs.Form.{gOf}
-use Rattle.sheet.specs.Reading.{valuesOf}
+use Rattle.sheet.specs.Values.{gOf, valuesOf, question, half}
 use Rattle.certificate.specs.Certificate.{certificate}
-use Rattle.rules.specs.Question.{question, half}
-use Rattle.rules.specs.Ready.{Ready}
+use Rattle.sheet.specs.Ready.{Ready}
 use Rattle.answers.specs.declared.Written.{Written}
 use Rattle.answers.specs.declared.Written.the-variants.{Count, Refused}
 use Rattle.answers.specs.Asked.{enough, Leading, Passing, Codomain, kernel-asks}

@@ -8,11 +8,11 @@ use Rattle.zmod.specs.Residues.{Reduced}
 use Rattle.sheet.specs.declared.Form.the-variants.{Kernel}
 use Rattle.sheet.specs.declared.Values.{Values}
 use Rattle.sheet.specs.Word.{valueOf}
-use Rattle.sheet.specs.Form.{entry, gOf}
+use Rattle.sheet.specs.Form.{entry}
+use Rattle.sheet.specs.Values.{gOf, valuesOf}
 use Rattle.sheet.specs.Asked.{asked}
-use Rattle.sheet.specs.FirstNo.{AllYes}
-use Rattle.sheet.specs.Reading.{valuesOf}
-use Rattle.sheet.proofs.Accepted.{kernel-length, kernel-g-reduced}
+use Rattle.questions.specs.Questions.{AllYes}
+use Rattle.sheet.specs.Accepted.{kernel-length, kernel-g-reduced}
 use Rattle.rules.specs.Question as Q
 
 module _ (ws : List ℕ) (v : Values) (e : v ≡ valuesOf Kernel ws) (all : AllYes (asked Kernel ws)) where

@@ -10,8 +10,8 @@ use Rattle.isogeny.specs.Curve.{Nonsingular}
 use Rattle.isogeny.specs.Expansion.{power-sums}
 use Rattle.isogeny.specs.Kernel.{codomain-A, codomain-B}
 use Rattle.sheet.specs.declared.Values.{Values}
-use Rattle.sheet.specs.FirstNo.{Questions, FirstNo}
-use Rattle.rules.specs.Question.{question, half}
+use Rattle.questions.specs.Questions.{Questions, FirstNo}
+use Rattle.sheet.specs.Values.{question, half}
 use Rattle.answers.specs.declared.Written.{Written}
 use Rattle.answers.specs.declared.Written.the-variants.{Count, Refused}
 use Rattle.answers.specs.Asked.{Passing}

@@ -13,12 +13,11 @@ ghost use Rattle.zmod.specs.Prime.{Prime};
 ghost use Rattle.zmod.specs.Residues.{Residue, Reduced, Residues, poly};
 ghost use Rattle.isogeny.specs.Curve.{Nonsingular};
 ghost use Rattle.isogeny.specs.Rules.{N, R1, R3};
-ghost use Rattle.rules.specs.Question.{question, half};
-ghost use Rattle.rules.specs.Ready.{Ready};
+ghost use Rattle.sheet.specs.Values.{question, half, valuesOf};
+ghost use Rattle.sheet.specs.Ready.{Ready};
 ghost use Rattle.sheet.specs.declared.Form.the-variants.{Kernel};
 ghost use Rattle.sheet.specs.Asked.{asked};
-ghost use Rattle.sheet.specs.FirstNo.{AllYes};
-ghost use Rattle.sheet.specs.Reading.{valuesOf};
+ghost use Rattle.questions.specs.Questions.{AllYes};
 ghost use Rattle.answers.specs.Answer.{KernelRight};
 ghost use Rattle.kernels.specs.Kernels.{Completed, Finished};
 

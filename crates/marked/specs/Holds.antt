@@ -17,12 +17,11 @@ use Rattle.isogeny.specs.Rules as Rules
 use Rattle.isogeny.specs.Rules.{N, R1, R3, Meets}
 use Rattle.sheet.specs.declared.Form.the-variants.{Question, Certificate, Kernel}
 use Rattle.sheet.specs.declared.Values.{Values}
-use Rattle.sheet.specs.Form.{gOf, nOf}
+use Rattle.sheet.specs.Values.{gOf, nOf, valuesOf, half}
 use Rattle.sheet.specs.Asked.{asked}
-use Rattle.sheet.specs.Reading.{valuesOf}
 use Rattle.certificate.specs.Certificate.{certificate}
-use Rattle.sheet.specs.FirstNo.{Questions, AllYes, FirstNo, all-all, no-after}
-use Rattle.rules.specs.Question.{half}
+use Rattle.questions.specs.Questions.{Questions, AllYes, FirstNo}
+use Rattle.questions.specs.Joined.{all-all, no-after}
 use Rattle.answers.specs.declared.Written.the-variants as written
 use Rattle.answers.specs.declared.Point.{Point}
 use Rattle.answers.specs.declared.Point.the-variants as point

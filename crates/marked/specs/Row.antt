@@ -10,7 +10,7 @@ use Rattle.isogeny.specs.Rules.{R3}
 use Rattle.sheet.specs.declared.Values.{Values}
 use Rattle.sheet.specs.Word.{word}
 use Rattle.certificate.specs.Certificate.{certificate}
-use Rattle.rules.specs.Question.{question, half}
+use Rattle.sheet.specs.Values.{question, half}
 use Rattle.answers.specs.declared.Verdict.the-variants as verdict
 use Rattle.answers.specs.declared.Written.the-variants as written
 use Rattle.answers.specs.declared.Point.{Point}

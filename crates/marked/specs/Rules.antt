@@ -28,7 +28,7 @@ use Rattle.zmod.specs.Calculation.Stand.{none, _and_}
 use Rattle.isogeny.specs.Curve.{discriminant, Nonsingular, OnCurve}
 use Rattle.isogeny.specs.Rules.{N, f, W, left, right, R1, R3, Meets, g-at, W-at, Image}
 use Rattle.sheet.specs.declared.Values.{Values}
-use Rattle.rules.specs.Question.{question, half}
+use Rattle.sheet.specs.Values.{question, half}
 
 -- ── the rules as expressions
 

@@ -11,7 +11,7 @@ use Rattle.zmod.specs.Residues.{poly}
 use Rattle.zmod.specs.Calculation.{prime-yes}
 use Rattle.isogeny.specs.Rules.{N, Meets}
 use Rattle.sheet.specs.declared.Values.{Values}
-use Rattle.rules.specs.Question.{question}
+use Rattle.sheet.specs.Values.{question}
 use Rattle.marked.specs.Rules.{R2-by-computing, meets-by-computing, none-by-computing}
 
 -- Q 1009, 1, 3, 265, 877, 3, σ

@@ -14,8 +14,9 @@ use Rattle.zmod.specs.Calculation.{primeTest, prime-yes}
 use Rattle.sheet.specs.declared.Form.{Form}
 use Rattle.sheet.specs.declared.Form.the-variants.{Question, Certificate, Kernel}
 use Rattle.sheet.specs.Word.{kindOf, valueOf}
-use Rattle.sheet.specs.Form.{header, body, entry, half}
-use Rattle.sheet.specs.FirstNo.{AllYes}
+use Rattle.sheet.specs.Form.{header, body, entry}
+use Rattle.sheet.specs.Values.{half}
+use Rattle.questions.specs.Questions.{AllYes}
 use Rattle.sheet.specs.Asked.{asked, Asked2, Asked7}
 use Rattle.marked.specs.Tests.{every, Every, every-yes, same-list, same-list-yes, below, below-yes}
 use Rattle.marked.specs.Rules.{nonsingular-test, nonsingular-by-computing}

@@ -9,7 +9,7 @@ use Rattle.zmod.specs.Zmod.{Zmod, mk}
 use Rattle.isogeny.specs.Curve.{Nonsingular}
 use Rattle.sheet.specs.Asked.{PrimeAllowed}
 use Rattle.answers.specs.Asked.{name-asks}
-use Rattle.answers.specs.Judged.{Judged}
+use Rattle.questions.specs.Judged.{Judged}
 
 module _ (p a b : ℕ) where
   pub no-prime : (PrimeAllowed p → ⊥) → Judged (name-asks p a b) 3

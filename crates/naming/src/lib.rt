@@ -6,7 +6,7 @@ ghost use Rattle.zmod.specs.Prime.{Prime};
 ghost use Rattle.isogeny.specs.Curve.{Nonsingular, JValue};
 ghost use Rattle.answers.specs.Asked.{name-asks};
 ghost use Rattle.answers.specs.Answer.{NameRight};
-ghost use Rattle.answers.specs.Judged.{Judged};
+ghost use Rattle.questions.specs.Judged.{Judged};
 
 // The number of the first question that the curve does not pass, or 0.
 fn name_number(p: u32, a: u32, b: u32) -> u32

@@ -21,11 +21,10 @@ use Rattle.isogeny.specs.Theorems.{W-at-is}
 use Rattle.field.specs.Inverse.{InverseOf}
 use Rattle.sheet.specs.declared.Values.{Values}
 use Rattle.sheet.specs.declared.Form.the-variants.{Certificate}
-use Rattle.sheet.specs.FirstNo.{AllYes, no-after, all-all}
+use Rattle.questions.specs.Questions.{AllYes}
+use Rattle.questions.specs.Joined.{no-after, all-all}
 use Rattle.sheet.specs.Word.{valueOf}
-use Rattle.sheet.specs.Form.{gOf, nOf}
-use Rattle.sheet.specs.Reading.{valuesOf}
-use Rattle.rules.specs.Question.{question, half}
+use Rattle.sheet.specs.Values.{gOf, nOf, valuesOf, question, half}
 use Rattle.answers.specs.declared.Point.{Point}
 use Rattle.answers.specs.declared.Point.the-variants as point
 use Rattle.answers.specs.declared.Image.{Image}

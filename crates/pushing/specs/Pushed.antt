@@ -9,7 +9,7 @@ use Rattle.isogeny.specs.Curve.{OnCurve}
 use Rattle.isogeny.specs.Rules as Rules
 use Rattle.isogeny.specs.Rules.{g-at}
 use Rattle.sheet.specs.declared.Values.{Values}
-use Rattle.rules.specs.Question.{question}
+use Rattle.sheet.specs.Values.{question}
 use Rattle.answers.specs.declared.Image.{Image}
 use Rattle.answers.specs.declared.Image.the-variants.{Affine, Infinity, Refused}
 

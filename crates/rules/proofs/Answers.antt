@@ -15,8 +15,8 @@ use Rattle.zmod.specs.Zmod.{Zmod, mk, minus, times, mk-apart, cast-mk}
 use Rattle.zmod.specs.Residues.{Residue, Reduced, poly, poly-at, poly-past, residue-same}
 use Rattle.isogeny.specs.Rules.{R1}
 use Rattle.sheet.specs.declared.Values.{Values}
-use Rattle.rules.specs.Question.{half, question}
-use Rattle.rules.specs.Ready.{Ready}
+use Rattle.sheet.specs.Values.{half, question}
+use Rattle.sheet.specs.Ready.{Ready}
 
 module _ (v : Values) (ready : Ready v) (g : List ℕ) (size : length g ≡ half v + 1) (low : Reduced (v .p) g) where
   abbrev p : ℕ
@@ -46,7 +46,7 @@ module _ (v : Values) (ready : Ready v) (g : List ℕ) (size : length g ≡ half
     }
 
     from : R1 (Zmod p) (question v) (poly p g) → m ≡ v .sigma
-    from r = mk-apart {p = p} (omega arith) m (v .sigma) (is .below) (ready .sigma-below) (is .class ∙ twice ∙ sym (r .sigma))
+    from r = mk-apart {p = p} (omega arith) m (v .sigma) (is .below) (ready .below .sigma) (is .class ∙ twice ∙ sym (r .sigma))
 
     last : getD g (half v) 0 ≡ 1 → (eqb m (v .sigma) ≡ true) ↔ (R1 (Zmod p) (question v) (poly p g))
     last e = (λ h. to e (eqb-true m (v .sigma) h), λ r. eq-eqb m (v .sigma) (from r))

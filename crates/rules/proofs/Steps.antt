@@ -15,10 +15,10 @@ use Rattle.zmod.specs.Zmod.{Zmod, mk, plus, minus, times, mk-add, mk-mul, mk-co
 use Rattle.zmod.specs.Residues.{Residue, Reduced, poly, poly-at, poly-past, Residues, residue-same, residues-same}
 use Rattle.isogeny.specs.Rules.{N}
 use Rattle.sheet.specs.declared.Values.{Values}
-use Rattle.rules.specs.Question.{half, question}
+use Rattle.sheet.specs.Values.{half, question}
 use Rattle.rules.specs.Degrees.{below-∂, below-conv}
 use Rattle.rules.specs.Numerator.{shifted, shifted-low, shifted-high, lowered, lowered-at, lowered-below, bent, joined, joined-at, N-is}
-use Rattle.rules.specs.Ready.{Ready}
+use Rattle.sheet.specs.Ready.{Ready, degree-half}
 use Rattle.rules.specs.Words.{Whole, whole, whole-same}
 
 module _ (p : ℕ) where
@@ -91,7 +91,7 @@ module _ (v : Values) where
       ∙ ap₂ (plus p)
       (ap (mk p) ex ∙ mk-combination p (v .degree) s₁ m (getD s k 0) n (getD t k 0)
       ∙ ap₂ (plus p)
-      (ap₂ (plus p) (ap₂ (times p) (ap (mk p) (ready .odd) ∙ sym (cast-mk p (2 * half v + 1))) hs₁) (ap₂ (times p) (hm .class) (sym (poly-at p s k))))
+      (ap₂ (plus p) (ap₂ (times p) (ap (mk p) (degree-half v ready) ∙ sym (cast-mk p (2 * half v + 1))) hs₁) (ap₂ (times p) (hm .class) (sym (poly-at p s k))))
       (ap₂ (times p) (hn .class) (sym (poly-at p t k))))
       (ap (mk p) ey ∙ mk-combination p o t₂ (v .a) e₁ (v .b) (getD e k 0)
       ∙ ap₂ (plus p) (ap₂ (plus p) (ap₂ (times p) ho ht₂) (ap (times p (mk p (v .a))) he₁)) (ap (times p (mk p (v .b))) (sym (poly-at p e k)))))

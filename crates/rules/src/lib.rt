@@ -9,8 +9,8 @@ ghost use Rattle.series.specs.Series.{∂};
 ghost use Rattle.zmod.specs.Zmod.{Zmod, mk, minus, times};
 ghost use Rattle.zmod.specs.Residues.{Residue, Reduced, poly, Residues};
 ghost use Rattle.isogeny.specs.Rules.{N, R1};
-ghost use Rattle.rules.specs.Question.{half, question};
-ghost use Rattle.rules.specs.Ready.{Ready};
+ghost use Rattle.sheet.specs.Values.{half, question};
+ghost use Rattle.sheet.specs.Ready.{Ready, HoldsG, HoldsN};
 ghost use Rattle.rules.specs.Numerator.{lowered, joined};
 use sheet::Values;
 
@@ -26,7 +26,7 @@ fn minus_twice(x: u32, p: u32) -> u32
 
 // Does g meet R1?
 pub fn rule_one(v: Values, g: &[u32]) -> bool
-    requires { ⌜ (Ready v) × (length (now g) ≡ half v + 1) × (Reduced (v .p) (now g)) ⌝ }
+    requires { ⌜ (Ready v) × HoldsG v (now g) ⌝ }
     ensures { λ r. ⌜ (r ≡ true) ↔ (R1 (Zmod (v .p)) (question v) (poly (v .p) (now (g .entry)))) ⌝ }
 {
     let d = g.len() - 1;
@@ -120,7 +120,7 @@ fn numerator_in(
     e: &mut [u32],
     out: &mut [u32],
 )
-    requires { ⌜ (Ready v) × (length (now g) ≡ half v + 1) × (Reduced (v .p) (now g)) ⌝ }
+    requires { ⌜ (Ready v) × HoldsG v (now g) ⌝ }
     requires { ⌜ (length (now s) ≡ 2 * half v + 1) × (length (now t) ≡ 2 * half v) × (length (now h) ≡ half v) ⌝ }
     requires { ⌜ (length (now q) ≡ 2 * half v - 1) × (length (now e) ≡ 2 * half v - 1) ⌝ }
     ensures { λ _. ⌜ Residues (v .p) (N (Zmod (v .p)) (question v) (poly (v .p) (now (g .entry)))) (now (out .exit)) ⌝ }
@@ -140,7 +140,7 @@ fn blank() -> [u32; 255] {
 
 // The N that R2 gives.
 pub fn numerator(v: Values, g: &[u32], out: &mut [u32])
-    requires { ⌜ (Ready v) × (length (now g) ≡ half v + 1) × (Reduced (v .p) (now g)) ⌝ }
+    requires { ⌜ (Ready v) × HoldsG v (now g) ⌝ }
     requires { ⌜ length (now out) ≡ 2 * half v + 2 ⌝ }
     ensures { λ _. ⌜ Residues (v .p) (N (Zmod (v .p)) (question v) (poly (v .p) (now (g .entry)))) (now (out .exit)) ⌝ }
 {

@@ -7,7 +7,8 @@ use Prim.Native.Nat.{ℕ, _^_, _≤_, _<_}
 use native.Mathlib.Omega.{arith}
 use lib.ListN.{length, take}
 use Rattle.sheet.specs.Word.{wordsOf}
-use Rattle.sheet.specs.FirstNo.{Questions, AllYes, FirstNo, no-before, no-after, all-all}
+use Rattle.questions.specs.Questions.{Questions, AllYes, FirstNo}
+use Rattle.questions.specs.Joined.{no-before, no-after, all-all}
 use Rattle.answers.specs.declared.Verdict.{Verdict}
 use Rattle.answers.specs.declared.Verdict.the-variants as verdict
 use Rattle.answers.specs.declared.Written.{Written}

@@ -7,11 +7,12 @@ use mathlib.Core.List.{List, [], _∷_, _++_}
 use Prim.Native.Nat.{ℕ}
 use native.Mathlib.Omega.{arith}
 use lib.ListN.{take}
-use Rattle.sheet.proofs.LongSheet.{front-yes, front-no, front-all}
+use Rattle.sheet.specs.LongSheet.{front-yes, front-no, front-all}
 use Rattle.sheet.specs.declared.Form.{Form}
 use Rattle.sheet.specs.declared.Form.the-variants.{Question as question-form, Certificate, Kernel}
 use Rattle.sheet.specs.Asked.{asked}
-use Rattle.sheet.specs.FirstNo.{Questions, AllYes, FirstNo, no-before}
+use Rattle.questions.specs.Questions.{Questions, AllYes, FirstNo}
+use Rattle.questions.specs.Joined.{no-before}
 use Rattle.answers.specs.declared.Verdict.{Verdict}
 use Rattle.answers.specs.declared.Verdict.the-variants as verdict
 use Rattle.answers.specs.declared.Written.{Written}

@@ -3,7 +3,7 @@
 use mathlib.Core.Logic.{_⊎_, inl, inr, ⊎-elim}
 use mathlib.Core.List.{List, [], _∷_, _++_}
 use Prim.Native.Nat.{ℕ}
-use Rattle.sheet.specs.FirstNo.{Questions, AllYes, FirstNo}
+use Rattle.questions.specs.Questions.{Questions, AllYes, FirstNo}
 
 pub no-split : (qs rs : Questions) (n : ℕ) → FirstNo (qs ++ rs) n → FirstNo qs n ⊎ (AllYes qs × FirstNo rs n)
 no-split [] rs n h = inr (tt, h)

@@ -10,8 +10,8 @@ use mathlib.Core.Bool.{cond}
 use Rattle.sheet.specs.declared.Form.the-variants.{Question as question-form, Kernel}
 use Rattle.sheet.specs.Word.{wordAt, wordsOf}
 use Rattle.sheet.specs.Asked.{asked}
-use Rattle.sheet.specs.Reading.{valuesOf}
-use Rattle.sheet.specs.FirstNo.{Questions, AllYes, FirstNo}
+use Rattle.sheet.specs.Values.{valuesOf}
+use Rattle.questions.specs.Questions.{Questions, AllYes, FirstNo}
 use Rattle.answers.specs.declared.Verdict.{Verdict}
 use Rattle.answers.specs.declared.Verdict.the-variants as verdict
 use Rattle.answers.specs.declared.Written.{Written}

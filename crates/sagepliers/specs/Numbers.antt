@@ -10,7 +10,7 @@ use native.Mathlib.Omega.{arith}
 use borrow.Author.Tests.{lt-ltb, le-ltb, ne-eqb}
 use lib.Dec.{ltb, eqb}
 use Rattle.sheet.specs.Word.{wordsOf}
-use Rattle.sheet.specs.FirstNo.{Questions, FirstNo}
+use Rattle.questions.specs.Questions.{Questions, FirstNo}
 use Rattle.answers.specs.declared.Verdict.{Verdict}
 use Rattle.answers.specs.declared.Verdict.the-variants as verdict
 use Rattle.answers.specs.declared.Written.{Written}

@@ -7,7 +7,7 @@ use native.Mathlib.Decide.{decLt}
 use native.Mathlib.Omega.{arith}
 use lib.ListN.{length, drop}
 use Rattle.sheet.specs.Word.{wordAt, wordsOf}
-use Rattle.sheet.specs.FirstNo.{Questions, AllYes, first-no-unique, not-both}
+use Rattle.questions.specs.Questions.{Questions, AllYes, first-no-unique, not-both}
 use Rattle.answers.specs.declared.Verdict.{Verdict}
 use Rattle.answers.specs.declared.Verdict.the-variants as verdict
 use Rattle.answers.specs.declared.Written.{Written}
@@ -17,27 +17,7 @@ use Rattle.answers.specs.declared.Image.the-variants as image
 use Rattle.answers.specs.Asked.{Given, check-asks, push-asks}
 use Rattle.services.specs.Theorems.{solve-unique}
 use Rattle.services.specs.MoreTheorems.{push-unique, kernel-unique, name-unique}
-use Rattle.sagepliers.specs.Entry.{
-  bytes-ask,
-  push-number-asks,
-  solve-bytes-ask,
-  kernel-bytes-ask,
-  pointOf,
-  verdictNumber,
-  imageNumber,
-  writtenNumber,
-  nameNumber,
-  CheckAnswer,
-  CheckNumber,
-  PushAnswer,
-  PushNumber,
-  PushInput,
-  SolveNumber,
-  KernelNumber,
-  NameNumber,
-  SolveAnswer,
-  KernelAnswer,
-}
+use Rattle.sagepliers.specs.Entry.{bytes-ask, push-number-asks, solve-bytes-ask, kernel-bytes-ask, pointOf, verdictNumber, imageNumber, writtenNumber, nameNumber, CheckAnswer, CheckNumber, PushAnswer, PushNumber, PushInput, SolveNumber, KernelNumber, NameNumber, SolveAnswer, KernelAnswer}
 
 -- ── check
 

@@ -11,14 +11,13 @@ use Rattle.zmod.specs.Residues.{Reduced, poly}
 use Rattle.isogeny.specs.Rules.{N, R3}
 use Rattle.sheet.specs.declared.Form.the-variants.{Certificate}
 use Rattle.sheet.specs.declared.Values.{Values}
-use Rattle.sheet.specs.Form.{gOf, nOf}
-use Rattle.sheet.specs.Asked.{asked, PrimeAllowed}
+use Rattle.sheet.specs.Values.{gOf, nOf, question}
+use Rattle.sheet.specs.Asked.{asked, PrimeAllowed, DegreeAllowed, ValuesBelow, Curves}
 use Rattle.certificate.specs.Certificate.{certificate, ValuesFit}
-use Rattle.sheet.specs.FirstNo.{AllYes, all-all}
-use Rattle.sheet.specs.Leaf.{DegreeAllowed, ValuesBelow, Curves}
+use Rattle.questions.specs.Questions.{AllYes}
+use Rattle.questions.specs.Joined.{all-all}
 use Rattle.certificate.proofs.RoundTrip.{values-back, g-back, n-back, count-back, all-back}
-use Rattle.rules.specs.Question.{question}
-use Rattle.rules.specs.Ready.{Ready}
+use Rattle.sheet.specs.Ready.{Ready}
 use Rattle.answers.specs.Asked.{check-asks}
 use Rattle.answers.specs.Answer.{Filled}
 use Rattle.checking.specs.RulesAsked.{rules-ask, rules-asks}

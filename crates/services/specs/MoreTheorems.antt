@@ -18,13 +18,12 @@ use Rattle.isogeny.specs.Kernel.{codomain-A, codomain-B}
 use Rattle.isogeny.specs.Theorems as T
 use Rattle.sheet.specs.declared.Form.the-variants.{Certificate, Kernel}
 use Rattle.sheet.specs.Word.{valueOf}
-use Rattle.sheet.specs.Form.{entry, gOf, nOf}
-use Rattle.sheet.specs.Reading.{valuesOf}
+use Rattle.sheet.specs.Form.{entry}
+use Rattle.sheet.specs.Values.{gOf, nOf, valuesOf, question, half}
 use Rattle.certificate.specs.Certificate.{certificate}
-use Rattle.sheet.specs.FirstNo.{AllYes, first-no-unique, not-both}
-use Rattle.rules.specs.Question.{question, half}
-use Rattle.rules.specs.Ready.{Ready, ready}
-use Rattle.sheet.specs.Leaf.{Curves}
+use Rattle.questions.specs.Questions.{AllYes, first-no-unique, not-both}
+use Rattle.sheet.specs.Ready.{Ready, ready}
+use Rattle.sheet.specs.Asked.{Curves}
 use Rattle.sheet.proofs.Questions.{from3, from4, from7}
 use Rattle.services.specs.Certified.{filled-certified}
 use Rattle.answers.specs.declared.Point.{Point}

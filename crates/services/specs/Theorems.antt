@@ -15,14 +15,13 @@ use Rattle.isogeny.specs.Rules.{N, Meets}
 use Rattle.isogeny.specs.Theorems.{unique}
 use Rattle.sheet.specs.declared.Form.the-variants.{Question, Certificate}
 use Rattle.sheet.specs.declared.Values.{Values}
-use Rattle.sheet.specs.Asked.{asked}
+use Rattle.sheet.specs.Asked.{asked, Curves}
 use Rattle.certificate.specs.Certificate.{certificate}
-use Rattle.sheet.specs.FirstNo.{Questions, AllYes, FirstNo, first-no-unique, not-both, no-after}
-use Rattle.sheet.specs.Leaf.{Curves}
-use Rattle.sheet.specs.Reading.{valuesOf}
+use Rattle.questions.specs.Questions.{Questions, AllYes, FirstNo, first-no-unique, not-both}
+use Rattle.questions.specs.Joined.{no-after}
+use Rattle.sheet.specs.Values.{valuesOf, question}
 use Rattle.sheet.proofs.Questions.{from3, from4, from5, from7}
-use Rattle.rules.specs.Question.{question}
-use Rattle.rules.specs.Ready.{Ready}
+use Rattle.sheet.specs.Ready.{Ready}
 use Rattle.answers.specs.declared.Verdict.{Verdict}
 use Rattle.answers.specs.declared.Verdict.the-variants as verdict
 use Rattle.answers.specs.declared.Written.{Written}

@@ -16,6 +16,7 @@ use Rattle.sheet.specs.Word.{valueOf}
 use Rattle.sheet.specs.Form.{header, kindsOf, certificateWords}
 use Rattle.sheet.specs.Values.{valuesOf, half, gOf, nOf}
 use Rattle.sheet.specs.Asked.{asked}
+use Rattle.sheet.specs.Ready.{HoldsG, HoldsN}
 use Rattle.sheet.specs.Body.{kinds-length, certificate-words, kernel-words}
 
 -- ── a part of the words
@@ -62,17 +63,24 @@ module _ (ws : List ℕ) (all : AllYes (asked Certificate ws)) where
   pub certificate-length : length ws ≡ certificateWords e
   certificate-length = words-count Certificate ws all ∙ certificate-words e
 
-  pub certificate-g-length : length (gOf Certificate ws) ≡ e + 1
+  certificate-g-length : length (gOf Certificate ws) ≡ e + 1
   certificate-g-length = part-length ws 7 (e + 1) (omega (arith, certificate-length))
 
-  pub certificate-g-reduced : Reduced (valuesOf Certificate ws .p) (gOf Certificate ws)
+  certificate-g-reduced : Reduced (valuesOf Certificate ws .p) (gOf Certificate ws)
   certificate-g-reduced = reduced-section Certificate ws all 7 (e + 1) (omega arith) (omega (arith, certificate-length))
 
-  pub certificate-n-length : length (nOf Certificate ws) ≡ 2 * e + 2
+  certificate-n-length : length (nOf Certificate ws) ≡ 2 * e + 2
   certificate-n-length = part-length ws (7 + (e + 1)) (2 * e + 2) (omega (arith, certificate-length))
 
-  pub certificate-n-reduced : Reduced (valuesOf Certificate ws .p) (nOf Certificate ws)
+  certificate-n-reduced : Reduced (valuesOf Certificate ws .p) (nOf Certificate ws)
   certificate-n-reduced = reduced-section Certificate ws all (7 + (e + 1)) (2 * e + 2) (omega arith) (omega (arith, certificate-length))
+
+  -- the coefficients on it
+  pub certificate-g : HoldsG (valuesOf Certificate ws) (gOf Certificate ws)
+  certificate-g = record { count = certificate-g-length; reduced = certificate-g-reduced }
+
+  pub certificate-n : HoldsN (valuesOf Certificate ws) (nOf Certificate ws)
+  certificate-n = record { count = certificate-n-length; reduced = certificate-n-reduced }
 
 module _ (ws : List ℕ) (all : AllYes (asked Kernel ws)) where
   abbrev k : ℕ
@@ -81,11 +89,14 @@ module _ (ws : List ℕ) (all : AllYes (asked Kernel ws)) where
   pub kernel-length : length ws ≡ k + 6
   kernel-length = words-count Kernel ws all ∙ kernel-words k
 
-  pub kernel-g-length : length (gOf Kernel ws) ≡ k + 1
+  kernel-g-length : length (gOf Kernel ws) ≡ k + 1
   kernel-g-length = part-length ws 4 (k + 1) (omega (arith, kernel-length))
 
-  pub kernel-g-reduced : Reduced (valuesOf Kernel ws .p) (gOf Kernel ws)
+  kernel-g-reduced : Reduced (valuesOf Kernel ws .p) (gOf Kernel ws)
   kernel-g-reduced = reduced-section Kernel ws all 4 (k + 1) (omega arith) (omega (arith, kernel-length))
+
+  pub kernel-g : HoldsG (valuesOf Kernel ws) (gOf Kernel ws)
+  kernel-g = record { count = kernel-g-length; reduced = kernel-g-reduced }
 
 pub question-length : (ws : List ℕ) → AllYes (asked Question ws) → length ws ≡ 8
 question-length ws all = words-count Question ws all

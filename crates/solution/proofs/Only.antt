@@ -16,9 +16,9 @@ use Rattle.isogeny.specs.Expansion.{from-sums}
 use Rattle.isogeny.specs.Solution.{Computed, Coefficients}
 use Rattle.isogeny.specs.Theorems.{solution-R1, is-solution}
 use Rattle.sheet.specs.declared.Values.{Values}
-use Rattle.rules.specs.Question.{half, question}
+use Rattle.sheet.specs.Values.{half, question}
 use Rattle.solution.specs.Candidate.{Candidate}
-use Rattle.rules.specs.Ready.{Ready}
+use Rattle.sheet.specs.Ready.{Ready, half-least, degree-half}
 use Rattle.solution.specs.Equations.{HAt, SAt, CAt}
 use Rattle.expansion.specs.Equations.{Solved}
 use Rattle.expansion.proofs.Stores.{solved-all}
@@ -59,21 +59,21 @@ module _ {p : ℕ} (q : Question (Zmod p)) (d≥1 : 1 ≤ q .d) (h s c g : List 
     only = is-solution P q d≥1 small computed coefficients
 
 -- as the contract has it
-pub answer : (v : Values) (h s c g : List ℕ) → Ready v → Prime (v .p) → 2 * v .degree - 1 < v .p → Solved (v .p) (HAt (Zmod (v .p)) (question v)) h (half v)
+pub answer : (v : Values) (h s c g : List ℕ) → Ready v → Solved (v .p) (HAt (Zmod (v .p)) (question v)) h (half v)
     → Solved (v .p) (SAt (Zmod (v .p)) (question v) (poly (v .p) h)) s (half v + 1) → Solved (v .p) (CAt (Zmod (v .p)) (poly (v .p) s)) c (half v + 1)
     → length c ≡ half v + 1 → length g ≡ half v + 1 → Filled (λ i w. w ≡ getD c (length c - 1 - i) 0) g (length c) → Candidate v g
-answer v h s c g ok P small hs ss cs cl gl back = record {
+answer v h s c g ok hs ss cs cl gl back = record {
   h = poly (v .p) h;
   s = poly (v .p) s;
   c = poly (v .p) c;
-  computed = computed (question v) (ok .least) h s c g hs ss cs cl gl back;
-  coefficients = coefficients (question v) (ok .least) h s c g hs ss cs cl gl back;
+  computed = computed (question v) (half-least v ok) h s c g hs ss cs cl gl back;
+  coefficients = coefficients (question v) (half-least v ok) h s c g hs ss cs cl gl back;
   reduced =
       reversed-reduced c g (half v) cl gl back (v .p)
-      (solved-all (v .p) (CAt (Zmod (v .p)) (poly (v .p) s)) (prime-pos P) c (half v + 1) (omega arith) cs);
-  r1 = first-rule (question v) (ok .least) h s c g hs ss cs cl gl back P bound;
-  only = only (question v) (ok .least) h s c g hs ss cs cl gl back P bound;
+      (solved-all (v .p) (CAt (Zmod (v .p)) (poly (v .p) s)) (prime-pos (ok .prime .prime)) c (half v + 1) (omega arith) cs);
+  r1 = first-rule (question v) (half-least v ok) h s c g hs ss cs cl gl back (ok .prime .prime) bound;
+  only = only (question v) (half-least v ok) h s c g hs ss cs cl gl back (ok .prime .prime) bound;
 }
   where
     bound : 2 * ℓ (Zmod (v .p)) (question v) - 1 < v .p
-    bound = omega (arith, ok .odd)
+    bound = omega (arith, degree-half v ok, ok .degree)

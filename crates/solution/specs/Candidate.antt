@@ -9,7 +9,7 @@ use Rattle.zmod.specs.Residues.{Reduced, poly}
 use Rattle.isogeny.specs.Rules.{R1, Meets}
 use Rattle.isogeny.specs.Solution.{Computed, Coefficients}
 use Rattle.sheet.specs.declared.Values.{Values}
-use Rattle.rules.specs.Question.{question}
+use Rattle.sheet.specs.Values.{question}
 
 -- the words of the polynomial that solving computes, which is the only one that can meet the rules
 pub record Candidate (v : Values) (g : List ℕ) : Type 0 where

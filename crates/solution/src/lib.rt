@@ -6,22 +6,13 @@ ghost use mathlib.Core.Path.{_≡_};
 ghost use Prim.Native.Nat.{_+_, _-_, _*_, _<_, _≤_};
 ghost use lib.ListN.{length};
 ghost use Rattle.zmod.specs.Zmod.{Zmod};
-ghost use Rattle.zmod.specs.Prime.{Prime};
 ghost use Rattle.zmod.specs.Residues.{Reduced, poly};
 ghost use Rattle.field.specs.Inverse.{Inverses};
-ghost use Rattle.rules.specs.Question.{half, question};
-ghost use Rattle.rules.specs.Ready.{Ready};
+ghost use Rattle.sheet.specs.Values.{half, question};
+ghost use Rattle.sheet.specs.Ready.{Ready};
 ghost use Rattle.expansion.specs.Equations.{ReducedTo, Solved, Solves};
 ghost use Rattle.solution.specs.Candidate.{Candidate};
 ghost use Rattle.solution.specs.Equations.{HAt, SAt, CAt, Quotient};
-
-// The degree d of g.
-fn half_degree(v: Values) -> usize
-    requires { ⌜ Ready v ⌝ }
-    ensures { λ r. ⌜ r ≡ half v ⌝ }
-{
-    ((v.degree - 1) / 2) as usize
-}
 
 // Room for a table or a sequence. (As the result of a call its 256 words stay out of the callers' proofs.)
 fn blank() -> [u32; 256] {
@@ -152,7 +143,7 @@ fn solution(
     c: &mut [u32],
     g: &mut [u32],
 )
-    requires { ⌜ Ready v × Prime (v .p) × (2 * v .degree - 1 < v .p) ⌝ }
+    requires { ⌜ Ready v ⌝ }
     requires { ⌜ (length (now table) ≡ 2 * half v + 2) × (length (now h) ≡ half v) ⌝ }
     requires { ⌜ (length (now s) ≡ half v + 1) × (length (now c) ≡ half v + 1) × (length (now g) ≡ half v + 1) ⌝ }
     ensures { λ r. ⌜ Candidate v (now (g .exit)) ⌝ }
@@ -166,11 +157,11 @@ fn solution(
 
 // g = the only polynomial that can meet the rules.
 pub fn candidate(v: Values, g: &mut [u32])
-    requires { ⌜ Ready v × Prime (v .p) × (2 * v .degree - 1 < v .p) ⌝ }
+    requires { ⌜ Ready v ⌝ }
     requires { ⌜ length (now g) ≡ half v + 1 ⌝ }
     ensures { λ r. ⌜ Candidate v (now (g .exit)) ⌝ }
 {
-    let d = half_degree(v);
+    let d = sheet::half_degree(v);
     let n = d + 1;
     let m = n + n;
     let mut table = blank();

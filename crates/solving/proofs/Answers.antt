@@ -9,8 +9,9 @@ use lib.ListN.{length}
 use Rattle.zmod.specs.Residues.{poly}
 use Rattle.sheet.specs.declared.Form.the-variants.{Question}
 use Rattle.sheet.specs.Asked.{asked}
-use Rattle.sheet.specs.FirstNo.{AllYes, FirstNo, no-before, no-after, all-all}
-use Rattle.sheet.specs.Reading.{valuesOf}
+use Rattle.questions.specs.Questions.{AllYes, FirstNo}
+use Rattle.questions.specs.Joined.{no-before, no-after, all-all}
+use Rattle.sheet.specs.Values.{valuesOf}
 use Rattle.answers.specs.declared.Written.{Written}
 use Rattle.answers.specs.declared.Written.the-variants.{Count, Refused}
 use Rattle.answers.specs.Asked.{enough, Solvable, solve-asks}

@@ -9,8 +9,8 @@ use Rattle.zmod.specs.Zmod.{Zmod}
 use Rattle.zmod.specs.Residues.{Residues, poly}
 use Rattle.isogeny.specs.Rules.{N, R3, Meets}
 use Rattle.sheet.specs.declared.Values.{Values}
-use Rattle.rules.specs.Question.{question, half}
-use Rattle.rules.specs.Ready.{Ready}
+use Rattle.sheet.specs.Values.{question, half}
+use Rattle.sheet.specs.Ready.{Ready}
 use Rattle.answers.proofs.Numerators.{whole-numerator}
 use Rattle.solution.specs.Candidate.{Candidate}
 

@@ -7,7 +7,7 @@ use Rattle.series.specs.Series.{Seq}
 use Rattle.zmod.specs.Zmod.{Zmod}
 use Rattle.isogeny.specs.Rules.{Meets}
 use Rattle.sheet.specs.declared.Values.{Values}
-use Rattle.rules.specs.Question.{question}
+use Rattle.sheet.specs.Values.{question}
 use Rattle.answers.specs.declared.Written.{Written}
 use Rattle.answers.specs.declared.Written.the-variants.{Count, Refused}
 use Rattle.answers.specs.Answer.{Filled}

@@ -7,8 +7,8 @@ ghost use mathlib.Core.Path.{_≡_};
 ghost use Prim.Native.Nat.{_+_, _*_, _-_, _^_, _<_, _≤_};
 ghost use lib.ListN.{length};
 ghost use Rattle.zmod.specs.Prime.{Prime};
-ghost use Rattle.rules.specs.Question.{half};
-ghost use Rattle.rules.specs.Ready.{Ready};
+ghost use Rattle.sheet.specs.Values.{half};
+ghost use Rattle.sheet.specs.Ready.{Ready};
 ghost use Rattle.answers.specs.Answer.{SolveRight};
 ghost use Rattle.solving.specs.Solved.{Solved};
 

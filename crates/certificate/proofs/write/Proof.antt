@@ -1,37 +1,98 @@
--- `certificate::write` meets its contract.
+-- `certificate::write` meets its contract: the header, the section of g, that of N, and the end, one after the other.
 -- Assumes nothing.
 use borrow.Author.Needs.{needs}
 use mathlib.Core.Path.{_≡_, _∙_}
-use Prim.Native.Nat.{_+_, _*_, _-_, _≤_}
+use Prim.Native.Nat.{_+_, _*_, _-_}
 use native.Mathlib.Omega.{arith}
 use lib.ListN.{length, length-set}
+use Rattle.sheet.specs.Values.{half}
+use Rattle.certificate.specs.Fits.{g-fit, n-fit}
 use Rattle.certificate.proofs.Writing.{g-at, n-at, end-at, first-length, second-length, third-length, written}
 use Rattle.certificate.proofs.write.Statement.{statement}
 use Rattle.certificate.proofs.write.Tie as tie
+
+-- ── the places: behind the header, behind g and behind N
+
+abbrev start : tie.After-write-header → tie.Start
+start c = c .before .before .before .before .before
+
+abbrev headed : tie.After-place → tie.After-write-header
+headed c = c .before .before .before
+
+abbrev with-g : tie.After-place2 → tie.After-place
+with-g c = c .before .before .before .before .before
+
+abbrev with-n : tie.After-place3 → tie.After-place2
+with-n c = c .before .before .before .before .before
+
+g-from : (c : tie.After-place) → c .place .result ≡ 7
+g-from c = c .place .ensures ∙ g-at (length (start (headed c) .args .g .now) - 1) 0
+
+n-from : (c : tie.After-place2) → c .place2 .result ≡ half (start (headed (with-g c)) .args .v) + 8
+n-from c =
+    let s = start (headed (with-g c)) in
+    c .place2 .ensures ∙ n-at (length (s .args .g .now) - 1) 0 ∙ omega (arith, s .pre .g-words .count)
+
+end-is : (c : tie.After-place3) → c .place3 .result ≡ 3 * half (start (headed (with-g (with-n c))) .args .v) + 10
+end-is c =
+    let s = start (headed (with-g (with-n c))) in
+    c .place3 .ensures ∙ end-at (length (s .args .g .now) - 1) 0 ∙ omega (arith, s .pre .g-words .count)
+
+-- the answer keeps its length
+long₁ : (c : tie.After-write-header) → length (c .write-header .last .1 .0) ≡ length (start c .args .out .now)
+long₁ c =
+    let a = start c .args in
+    first-length (a .v) (a .g .now) (a .n .now) (a .out .now) (start c .pre) (c .write-header .ensures)
+
+long₂ : (c : tie.After-place2) → length (c .before .before .before .write-section .last .1 .1 .1 .0) ≡ length (start (headed (with-g c)) .args .out .now)
+long₂ c =
+    let place = with-g c in
+    let s = start (headed place) in
+    let a = s .args in
+    second-length (a .v) (a .g .now) (a .n .now) (a .out .now) (s .pre) (headed place .write-header .ensures) (g-from place)
+    (c .before .before .before .write-section .ensures)
+
+long₃ : (c : tie.After-place3)
+    → length (c .before .before .before .write-section2 .last .1 .1 .1 .0) ≡ length (start (headed (with-g (with-n c))) .args .out .now)
+long₃ c =
+    let second = with-n c in
+    let place = with-g second in
+    let s = start (headed place) in
+    let a = s .args in
+    third-length (a .v) (a .g .now) (a .n .now) (a .out .now) (s .pre) (headed place .write-header .ensures) (g-from place)
+    (second .before .before .before .write-section .ensures) (n-from second) (c .before .before .before .write-section2 .ensures)
+
+-- ── the needs
 
 sub-d : tie.Need-sub-d
 sub-d c = search needs
 
 write-header-requires : tie.Need-write-header-requires
-write-header-requires c κs = search needs
+write-header-requires c κs = let s = c .before .before .before .before in (omega (arith, s .pre .enough), s .pre .ready)
 
 place-requires : tie.Need-place-requires
 place-requires c κs = search needs
 
 write-section-requires : tie.Need-write-section-requires
 write-section-requires c κs =
-    let l = first-length (c .before .before .before .before .before .before .before .before .before .args .v) (c .before .before .before .before .before .before .before .before .before .args .g .now) (c .before .before .before .before .before .before .before .before .before .args .n .now) (c .before .before .before .before .before .before .before .before .before .args .out .now) (c .before .before .before .before .before .before .before .before .before .pre) (c .before .before .before .before .write-header .ensures) in
-    let e = c .before .place .ensures ∙ g-at (length (c .before .before .before .before .before .before .before .before .before .args .g .now) - 1) 0 in
-    (omega arith, omega (arith, l, e, c .before .before .before .before .before .before .before .before .before .pre .enough, c .before .before .before .before .before .before .before .before .before .pre .some), c .before .before .before .before .before .before .before .before .before .pre .g-fit)
+    let place = c .before in
+    let s = start (headed place) in (
+      omega arith,
+      omega (arith, long₁ (headed place), g-from place, s .pre .enough, s .pre .g-words .count),
+      g-fit (s .args .v) (s .pre .ready) (s .args .g .now) (s .pre .g-words),
+    )
 
 place-requires-2 : tie.Need-place-requires-2
 place-requires-2 c κs = search needs
 
 write-section-requires-2 : tie.Need-write-section-requires-2
 write-section-requires-2 c κs =
-    let l = second-length (c .before .before .before .before .before .before .before .before .before .before .before .before .before .before .args .v) (c .before .before .before .before .before .before .before .before .before .before .before .before .before .before .args .g .now) (c .before .before .before .before .before .before .before .before .before .before .before .before .before .before .args .n .now) (c .before .before .before .before .before .before .before .before .before .before .before .before .before .before .args .out .now) (c .before .before .before .before .before .before .before .before .before .before .before .before .before .before .pre) (c .before .before .before .before .before .before .before .before .before .write-header .ensures) (c .before .before .before .before .before .before .place .ensures ∙ g-at (length (c .before .before .before .before .before .before .before .before .before .before .before .before .before .before .args .g .now) - 1) 0) (c .before .before .before .before .write-section .ensures) in
-    let e = c .before .place2 .ensures ∙ n-at (length (c .before .before .before .before .before .before .before .before .before .before .before .before .before .before .args .g .now) - 1) 0 in
-    (omega arith, omega (arith, l, e, c .before .before .before .before .before .before .before .before .before .before .before .before .before .before .pre .enough, c .before .before .before .before .before .before .before .before .before .before .before .before .before .before .pre .some, c .before .before .before .before .before .before .before .before .before .before .before .before .before .before .pre .twice), c .before .before .before .before .before .before .before .before .before .before .before .before .before .before .pre .n-fit)
+    let place = c .before in
+    let s = start (headed (with-g place)) in (
+      omega arith,
+      omega (arith, long₂ place, n-from place, s .pre .enough, s .pre .n-words .count),
+      n-fit (s .args .v) (s .pre .ready) (s .args .n .now) (s .pre .n-words),
+    )
 
 place-requires-3 : tie.Need-place-requires-3
 place-requires-3 c κs = search needs
@@ -40,28 +101,27 @@ word-of-requires : tie.Need-word-of-requires
 word-of-requires c κs = search needs
 
 mul-out : tie.Need-mul-out
-mul-out c =
-    let e = c .before .place3 .ensures ∙ end-at (length (c .before .before .before .before .before .before .before .before .before .before .before .before .before .before .before .before .before .before .before .args .g .now) - 1) 0 in
-    omega (arith, e, c .before .before .before .before .before .before .before .before .before .before .before .before .before .before .before .before .before .before .before .pre .few)
+mul-out c = omega (arith, end-is (c .before), start (headed (with-g (with-n (c .before)))) .pre .ready .degree)
 
 slice-write-out : tie.Need-slice-write-out
-slice-write-out c =
-    let l = third-length (c .before .before .before .before .before .before .before .before .before .before .before .before .before .before .before .before .before .before .before .args .v) (c .before .before .before .before .before .before .before .before .before .before .before .before .before .before .before .before .before .before .before .args .g .now) (c .before .before .before .before .before .before .before .before .before .before .before .before .before .before .before .before .before .before .before .args .n .now) (c .before .before .before .before .before .before .before .before .before .before .before .before .before .before .before .before .before .before .before .args .out .now) (c .before .before .before .before .before .before .before .before .before .before .before .before .before .before .before .before .before .before .before .pre) (c .before .before .before .before .before .before .before .before .before .before .before .before .before .before .write-header .ensures) (c .before .before .before .before .before .before .before .before .before .before .before .place .ensures ∙ g-at (length (c .before .before .before .before .before .before .before .before .before .before .before .before .before .before .before .before .before .before .before .args .g .now) - 1) 0) (c .before .before .before .before .before .before .before .before .before .write-section .ensures) (c .before .before .before .before .before .before .place2 .ensures ∙ n-at (length (c .before .before .before .before .before .before .before .before .before .before .before .before .before .before .before .before .before .before .before .args .g .now) - 1) 0 ∙ omega (arith, c .before .before .before .before .before .before .before .before .before .before .before .before .before .before .before .before .before .before .before .pre .some)) (c .before .before .before .before .write-section2 .ensures) in
-    let e = c .before .place3 .ensures ∙ end-at (length (c .before .before .before .before .before .before .before .before .before .before .before .before .before .before .before .before .before .before .before .args .g .now) - 1) 0 in
-    omega (arith, l, e, c .before .before .before .before .before .before .before .before .before .before .before .before .before .before .before .before .before .before .before .pre .enough, c .before .before .before .before .before .before .before .before .before .before .before .before .before .before .before .before .before .before .before .pre .some)
+slice-write-out c = omega (arith, long₃ (c .before), end-is (c .before), start (headed (with-g (with-n (c .before)))) .pre .enough)
 
 add-result : tie.Need-add-result
-add-result c =
-    let e = c .before .place3 .ensures ∙ end-at (length (c .before .before .before .before .before .before .before .before .before .before .before .before .before .before .before .before .before .before .before .args .g .now) - 1) 0 in
-    omega (arith, e, c .before .before .before .before .before .before .before .before .before .before .before .before .before .before .before .before .before .before .before .pre .few)
+add-result c = omega (arith, end-is (c .before), start (headed (with-g (with-n (c .before)))) .pre .ready .degree)
 
 same-length : tie.Need-same-length
-same-length c =
-    let l = third-length (c .before .before .before .before .before .before .before .before .before .before .before .before .before .before .before .before .before .before .before .args .v) (c .before .before .before .before .before .before .before .before .before .before .before .before .before .before .before .before .before .before .before .args .g .now) (c .before .before .before .before .before .before .before .before .before .before .before .before .before .before .before .before .before .before .before .args .n .now) (c .before .before .before .before .before .before .before .before .before .before .before .before .before .before .before .before .before .before .before .args .out .now) (c .before .before .before .before .before .before .before .before .before .before .before .before .before .before .before .before .before .before .before .pre) (c .before .before .before .before .before .before .before .before .before .before .before .before .before .before .write-header .ensures) (c .before .before .before .before .before .before .before .before .before .before .before .place .ensures ∙ g-at (length (c .before .before .before .before .before .before .before .before .before .before .before .before .before .before .before .before .before .before .before .args .g .now) - 1) 0) (c .before .before .before .before .before .before .before .before .before .write-section .ensures) (c .before .before .before .before .before .before .place2 .ensures ∙ n-at (length (c .before .before .before .before .before .before .before .before .before .before .before .before .before .before .before .before .before .before .before .args .g .now) - 1) 0 ∙ omega (arith, c .before .before .before .before .before .before .before .before .before .before .before .before .before .before .before .before .before .before .before .pre .some)) (c .before .before .before .before .write-section2 .ensures) in
-    simp length-set l
+same-length c = simp length-set (long₃ (c .before))
 
 returns : tie.Need-returns
-returns c = written (c .before .before .before .before .before .before .before .before .before .before .before .before .before .before .before .before .before .before .before .args .v) (c .before .before .before .before .before .before .before .before .before .before .before .before .before .before .before .before .before .before .before .args .g .now) (c .before .before .before .before .before .before .before .before .before .before .before .before .before .before .before .before .before .before .before .args .n .now) (c .before .before .before .before .before .before .before .before .before .before .before .before .before .before .before .before .before .before .before .args .out .now) (c .before .before .before .before .before .before .before .before .before .before .before .before .before .before .before .before .before .before .before .pre) (c .before .before .before .before .before .before .before .before .before .before .before .before .before .before .write-header .ensures) (c .before .before .before .before .before .before .before .before .before .before .before .place .ensures ∙ g-at (length (c .before .before .before .before .before .before .before .before .before .before .before .before .before .before .before .before .before .before .before .args .g .now) - 1) 0) (c .before .before .before .before .before .before .before .before .before .write-section .ensures) (c .before .before .before .before .before .before .place2 .ensures ∙ n-at (length (c .before .before .before .before .before .before .before .before .before .before .before .before .before .before .before .before .before .before .before .args .g .now) - 1) 0 ∙ omega (arith, c .before .before .before .before .before .before .before .before .before .before .before .before .before .before .before .before .before .before .before .pre .some)) (c .before .before .before .before .write-section2 .ensures) (c .before .place3 .ensures ∙ end-at (length (c .before .before .before .before .before .before .before .before .before .before .before .before .before .before .before .before .before .before .before .args .g .now) - 1) 0 ∙ omega (arith, c .before .before .before .before .before .before .before .before .before .before .before .before .before .before .before .before .before .before .before .pre .some)) (c .word-of .ensures) (omega arith)
+returns c =
+    let end = c .before in
+    let second = with-n end in
+    let place = with-g second in
+    let s = start (headed place) in
+    let a = s .args in
+    written (a .v) (a .g .now) (a .n .now) (a .out .now) (s .pre) (headed place .write-header .ensures) (g-from place)
+    (second .before .before .before .write-section .ensures) (n-from second) (end .before .before .before .write-section2 .ensures) (end-is end)
+    (c .word-of .ensures) (omega arith)
 
 pub write-spec : {M : Type 1} → statement M
 write-spec =

@@ -3,7 +3,7 @@ use mathlib.Core.Path.{sym, subst}
 use borrow.Author.Needs.{needs}
 use Rattle.sheet.specs.declared.Form.the-variants.{Certificate}
 use Rattle.sheet.specs.Reading.{Right}
-use Rattle.rules.specs.Ready.{Ready}
+use Rattle.sheet.specs.Ready.{Ready}
 use Rattle.answers.proofs.Accepted.{ready}
 use Rattle.checking.proofs.Answers.{check-unread, check-passes, check-refuses}
 use Rattle.checking.proofs.check.Statement.{statement}

@@ -3,7 +3,7 @@ use mathlib.Core.Path.{_≡_, sym, _∙_}
 use Prim.Native.Nat.{_+_, _*_}
 use native.Mathlib.Omega.{arith}
 use lib.ListN.{length}
-use Rattle.rules.specs.Question.{half}
+use Rattle.sheet.specs.Values.{half}
 use borrow.Author.Needs.{needs}
 use Rattle.answers.proofs.Judging.{decides}
 use Rattle.answers.proofs.Numerators.{whole-numerator-of}

@@ -7,7 +7,7 @@ use lib.ListN.{length, length-set}
 use Rattle.sheet.specs.declared.Values.{Values}
 use borrow.Author.Needs.{needs}
 use Rattle.slices.specs.Filling.{Filled, filled-none, filled-more}
-use Rattle.rules.specs.Question.{question}
+use Rattle.sheet.specs.Values.{question}
 use Rattle.isogeny.specs.Expansion.{expansion}
 use Rattle.zmod.specs.Residues.{Residue, poly, residues-filled, residue-self}
 use Rattle.zmod.specs.Zmod.{Zmod}
@@ -48,7 +48,7 @@ loop-holds c =
       omega arith,
       omega (arith, length-set (a .h .now) 0 0),
       filled-more (F v (a .s .now)) (a .h .now) 0 0 inside (filled-none (F v (a .s .now)) (a .h .now)) (residue-self 0 (omega arith)),
-      once (v .a) (start .pre .0 .a-below),
+      once (v .a) (start .pre .0 .below .a),
       none (question v .B) (omega arith),
     )
 

@@ -4,7 +4,7 @@ use Prim.Native.Nat.{_+_, _-_, _*_}
 use native.Mathlib.Omega.{arith}
 use lib.ListN.{getD}
 use borrow.Author.Needs.{needs}
-use Rattle.rules.specs.Question.{question}
+use Rattle.sheet.specs.Values.{question}
 use Rattle.zmod.specs.Residues.{residue-same}
 use Rattle.zmod.specs.Zmod.{mk, plus, times}
 use Rattle.expansion.proofs.Steps.{expands}

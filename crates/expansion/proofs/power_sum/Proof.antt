@@ -3,7 +3,7 @@ use mathlib.Core.Path.{_≡_, ap, _∙_}
 use Prim.Native.Nat.{_-_, _*_}
 use native.Mathlib.Omega.{arith}
 use borrow.Author.Needs.{needs}
-use Rattle.rules.specs.Question.{half}
+use Rattle.sheet.specs.Values.{half}
 use Rattle.zmod.specs.Residues.{residue-same}
 use Rattle.zmod.specs.Zmod.{mk}
 use Rattle.expansion.proofs.Parts.{part-reduced}

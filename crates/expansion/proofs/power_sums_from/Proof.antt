@@ -7,7 +7,7 @@ use lib.ListN.{length, length-set}
 use borrow.Author.Needs.{needs}
 use Rattle.zmod.specs.Zmod.{Zmod}
 use Rattle.zmod.specs.Residues.{poly}
-use Rattle.rules.specs.Question.{half}
+use Rattle.sheet.specs.Values.{half}
 use Rattle.expansion.specs.Equations.{SumAt, Solved}
 use Rattle.expansion.proofs.Stores.{solved-none, solved-more, solved-all}
 use Rattle.expansion.proofs.Causal.{sum-causal}

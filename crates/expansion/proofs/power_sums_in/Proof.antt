@@ -6,7 +6,7 @@ use lib.ListN.{length}
 use borrow.Author.Needs.{needs}
 use Rattle.expansion.proofs.Parts.{reversed-poly, reversed-reduced, rev-twice}
 use Rattle.isogeny.specs.Expansion.{power-sums}
-use Rattle.rules.specs.Question.{half}
+use Rattle.sheet.specs.Values.{half}
 use Rattle.zmod.specs.Zmod.{Zmod}
 use Rattle.series.specs.Reversal.{rev}
 use Rattle.zmod.specs.Residues.{poly, poly-past, residues-same}
@@ -21,8 +21,8 @@ power-sums-from-requires c κs =
     let start = c .before .before .before .before .before .before .before .before .before in
     let a = start .args in
     let back = c .before .before .before .before .reverse in
-    let len : length (back .last .1 .0) ≡ half (a .v) + 1 = back .kept .1 .0 ∙ start .pre .1 .2 in
-    (start .pre .0, (len, reversed-reduced (a .g .now) (back .last .1 .0) (half (a .v)) (start .pre .1 .0) len (back .ensures) (a .v .p) (start .pre .1 .1), omega arith))
+    let len : length (back .last .1 .0) ≡ half (a .v) + 1 = back .kept .1 .0 ∙ start .pre .1 .1 in
+    (start .pre .0, (len, reversed-reduced (a .g .now) (back .last .1 .0) (half (a .v)) (start .pre .1 .0 .count) len (back .ensures) (a .v .p) (start .pre .1 .0 .reduced), omega arith))
 
 same-length : tie.Need-same-length
 same-length c = search needs
@@ -39,7 +39,7 @@ returns c =
     let back = c .before .before .before .before .before .before .before .reverse in
     residues-same
     (ap (λ f. power-sums (Zmod p) (half v) (rev (Zmod p) (half v) f))
-    (reversed-poly (a .g .now) (back .last .1 .0) (half v) (start .pre .1 .0) (back .kept .1 .0 ∙ start .pre .1 .2) (back .ensures) p)
+    (reversed-poly (a .g .now) (back .last .1 .0) (half v) (start .pre .1 .0 .count) (back .kept .1 .0 ∙ start .pre .1 .1) (back .ensures) p)
     ∙ ap (power-sums (Zmod p) (half v)) (rev-twice (Zmod p) (half v) (poly p (a .g .now)) (λ i l. poly-past p (a .g .now) i (omega arith))))
     (c .before .before .power-sums-from .ensures)
 

@@ -8,7 +8,7 @@ use borrow.Author.Tests.{not-true, not-false}
 use borrow.Author.Needs.{needs}
 use borrow.Author.Count.{below-more}
 use Rattle.zmod.specs.Zmod.{Zmod}
-use Rattle.rules.specs.Question.{question}
+use Rattle.sheet.specs.Values.{question}
 use Rattle.zmod.specs.Residues.{poly}
 use Rattle.isogeny.specs.Expansion.{Recurs}
 use Rattle.expansion.specs.Multiple.{Multiple}

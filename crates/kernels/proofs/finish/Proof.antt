@@ -7,7 +7,7 @@ use native.Mathlib.Nat.{le-of-lt}
 use native.Mathlib.Omega.{arith}
 use Rattle.zmod.specs.Zmod.{mk}
 use Rattle.zmod.specs.Residues.{poly}
-use Rattle.rules.specs.Question.{half}
+use Rattle.sheet.specs.Values.{half}
 use Rattle.answers.proofs.Judging.{refuted, shown}
 use Rattle.answers.proofs.Fits.{values-fit, reduced-words}
 use Rattle.kernels.proofs.Codomains.{Facts, facts, is-leading, not-leading}

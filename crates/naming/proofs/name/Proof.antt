@@ -2,7 +2,7 @@
 use borrow.Author.Needs.{needs}
 use native.Mathlib.Nat.{le-of-lt}
 use Rattle.answers.specs.Asked.{name-asks}
-use Rattle.answers.proofs.Judging.{judged-yes, judged-no}
+use Rattle.questions.specs.Judged.{judged-yes, judged-no}
 use Rattle.naming.proofs.name.Statement.{statement}
 use Rattle.naming.proofs.name.Tie as tie
 

@@ -4,9 +4,9 @@ use mathlib.Core.Path.{sym, subst}
 use mathlib.Core.List.{[], _∷_}
 use Rattle.zmod.specs.Prime.{Prime}
 use Rattle.sheet.specs.declared.Form.the-variants.{Certificate}
-use Rattle.sheet.specs.FirstNo.{no-before}
+use Rattle.questions.specs.Joined.{no-before}
 use Rattle.sheet.specs.Reading.{Right}
-use Rattle.rules.specs.Ready.{Ready}
+use Rattle.sheet.specs.Ready.{Ready}
 use Rattle.answers.specs.Asked.{check-asks, Given}
 use Rattle.answers.proofs.Accepted.{ready}
 use Rattle.checking.proofs.Answers.{check-unread, check-passes, check-refuses}

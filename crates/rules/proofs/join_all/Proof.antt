@@ -6,7 +6,7 @@ use lib.ListN.{length}
 use Rattle.zmod.specs.Zmod.{Zmod}
 use Rattle.zmod.specs.Residues.{poly}
 use Rattle.poly.proofs.Stored.{Stored, Of, stored-none, stored-more, stored-all}
-use Rattle.rules.specs.Question.{question}
+use Rattle.sheet.specs.Values.{question}
 use Rattle.rules.specs.Numerator.{joined}
 use Rattle.rules.proofs.join_all.Statement.{statement}
 use Rattle.rules.proofs.join_all.Tie as tie
@@ -49,7 +49,7 @@ returns c =
     let start = c .before .before .before .before .before .before in
     let at = start .args in
     let loop = c .before .loop in
-    stored-all (at .v .p) _ (at .out .now) (loop .out) (loop .k) (omega (arith, start .pre .0 .large)) (search needs) (loop .inv)
+    stored-all (at .v .p) _ (at .out .now) (loop .out) (loop .k) (omega (arith, start .pre .0 .prime)) (search needs) (loop .inv)
 
 pub join-all-spec : {M : Type 1} → statement M
 join-all-spec = tie.close (tie.spec Inv-loop μ-loop loop-holds join-requires mul-out slice-write-out add-k loop-less loop-again same-length returns)

@@ -18,7 +18,7 @@ returns : tie.Need-returns
 returns c =
     let at = c .before .before .before .args in
     let pre = c .before .before .before .pre in
-    one-no (at .v) (pre .0) (at .g .now) (pre .1) (pre .2) _ (omega (arith, pre)) (c .if1 .taken)
+    one-no (at .v) (pre .0) (at .g .now) (pre .1 .count) (pre .1 .reduced) _ (omega (arith, pre)) (c .if1 .taken)
 
 sub-minus-twice : tie.Need-sub-minus-twice
 sub-minus-twice c = search needs
@@ -36,7 +36,7 @@ returns-2 : tie.Need-returns-2
 returns-2 c =
     let at = c .before .before .before .before .before .before .args in
     let pre = c .before .before .before .before .before .before .pre in
-    one-last (at .v) (pre .0) (at .g .now) (pre .1) (pre .2) _ (c .before .minus-twice .result) (omega (arith, pre)) (c .before .before .before .if1 .left) (c .before .minus-twice .ensures)
+    one-last (at .v) (pre .0) (at .g .now) (pre .1 .count) (pre .1 .reduced) _ (c .before .minus-twice .result) (omega (arith, pre)) (c .before .before .before .if1 .left) (c .before .minus-twice .ensures)
 
 pub rule-one-spec : {M : Type 1} → statement M
 rule-one-spec =

@@ -6,7 +6,7 @@ use native.Mathlib.Omega.{arith}
 use lib.ListN.{length, length-set}
 use borrow.Author.Needs.{needs}
 use Rattle.zmod.specs.Zmod.{Zmod}
-use Rattle.rules.specs.Question.{question}
+use Rattle.sheet.specs.Values.{question}
 use Rattle.solution.specs.Equations.{HAt}
 use Rattle.expansion.specs.Equations.{Solved}
 use Rattle.expansion.proofs.Stores.{solved-none, solved-more}

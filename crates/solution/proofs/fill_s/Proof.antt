@@ -7,7 +7,7 @@ use lib.ListN.{length, length-set}
 use borrow.Author.Needs.{needs}
 use Rattle.zmod.specs.Zmod.{Zmod}
 use Rattle.zmod.specs.Residues.{poly}
-use Rattle.rules.specs.Question.{question}
+use Rattle.sheet.specs.Values.{question}
 use Rattle.solution.specs.Equations.{SAt}
 use Rattle.expansion.specs.Equations.{Solved}
 use Rattle.expansion.proofs.Stores.{solved-none, solved-more}

@@ -1,7 +1,7 @@
 -- `solution::next_h` meets its contract. Assumes nothing.
 use native.Mathlib.Omega.{arith}
 use borrow.Author.Needs.{needs}
-use Rattle.rules.specs.Question.{question}
+use Rattle.sheet.specs.Values.{question}
 use Rattle.solution.proofs.Steps.{h-zero, h-first, h-second, h-more}
 use Rattle.solution.proofs.next_h.Statement.{statement}
 use Rattle.solution.proofs.next_h.Tie as tie

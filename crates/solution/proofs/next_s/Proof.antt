@@ -5,7 +5,7 @@ use native.Mathlib.Omega.{arith}
 use lib.ListN.{getD}
 use borrow.Author.Needs.{needs}
 use Rattle.zmod.specs.Zmod.{mk, times}
-use Rattle.rules.specs.Question.{half, question}
+use Rattle.sheet.specs.Values.{half, question}
 use Rattle.zmod.specs.Residues.{residue-same, residue-self}
 use Rattle.solution.proofs.Steps.{s-zero, s-one, s-more}
 use Rattle.solution.proofs.next_s.Statement.{statement}

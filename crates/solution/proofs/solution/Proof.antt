@@ -7,7 +7,7 @@ use Rattle.solution.specs.Equations.{HAt, SAt, CAt}
 use Rattle.expansion.specs.Equations.{Solved}
 use Rattle.solution.proofs.Only.{answer}
 use Rattle.expansion.proofs.Stores.{solved-all}
-use Rattle.rules.specs.Question.{question}
+use Rattle.sheet.specs.Values.{question}
 use Rattle.zmod.specs.Zmod.{Zmod}
 use Rattle.zmod.specs.Residues.{poly}
 use Rattle.solution.proofs.solution.Statement.{statement}
@@ -16,13 +16,13 @@ use Rattle.solution.proofs.solution.Tie as tie
 inverses-requires : tie.Need-inverses-requires
 inverses-requires c κs =
     let start = c .before .before .before .before .before .before in
-    (start .pre .0 .1, omega arith)
+    (start .pre .0 .prime .prime, omega arith)
 
 fill-h-requires : tie.Need-fill-h-requires
 fill-h-requires c κs =
     let start = c .before .before .before .before .before .before .before .before .before .before .before in
     let table = c .before .before .before .before .inverses in
-    (start .pre .0 .0, (table .ensures, omega (arith, table .kept .0), omega arith))
+    (start .pre .0, (table .ensures, omega (arith, table .kept .0), omega arith))
 
 fill-s-requires : tie.Need-fill-s-requires
 fill-s-requires c κs =
@@ -30,7 +30,7 @@ fill-s-requires c κs =
     let a = start .args in
     let table = c .before .before .before .before .before .before .before .before .before .before .inverses in
     let h = c .before .before .before .before .before .fill-h in (
-      start .pre .0 .0,
+      start .pre .0,
       (
         (table .ensures, omega (arith, table .kept .0)),
         (
@@ -48,7 +48,7 @@ fill-c-requires c κs =
     let table = c .before .before .before .before .before .before .before .before .before .before .before .before .before .before .before .before .inverses in
     let h = c .before .before .before .before .before .before .before .before .before .before .before .fill-h in
     let s = c .before .before .before .before .before .fill-s in (
-      start .pre .0 .0,
+      start .pre .0,
       (
         (table .ensures, omega (arith, table .kept .0)),
         (
@@ -87,7 +87,7 @@ returns c =
     let s = c .before .before .before .before .before .before .before .before .before .before .before .before .before .fill-s in
     let k = c .before .before .before .before .before .before .before .fill-c in
     let g = c .before .before .reverse in
-    answer v (h .last .1 .1 .0) (s .last .1 .1 .1 .0) (k .last .1 .1 .1 .0) (g .last .1 .0) (start .pre .0 .0) (start .pre .0 .1) (start .pre .0 .2)
+    answer v (h .last .1 .1 .0) (s .last .1 .1 .1 .0) (k .last .1 .1 .1 .0) (g .last .1 .0) (start .pre .0)
     (subst (Solved p (HAt (Zmod p) (question v)) (h .last .1 .1 .0)) (start .pre .1 .0 .1) (h .ensures))
     (subst (Solved p (SAt (Zmod p) (question v) (poly p (h .last .1 .1 .0))) (s .last .1 .1 .1 .0)) (start .pre .1 .1 .0) (s .ensures))
     (subst (Solved p (CAt (Zmod p) (poly p (s .last .1 .1 .1 .0))) (k .last .1 .1 .1 .0)) (start .pre .1 .1 .1) (k .ensures))

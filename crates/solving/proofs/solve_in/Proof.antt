@@ -2,7 +2,7 @@
 use mathlib.Core.Path.{_≡_, refl}
 use Prim.Native.Nat.{_+_, _*_}
 use lib.ListN.{length}
-use Rattle.rules.specs.Question.{half}
+use Rattle.sheet.specs.Values.{half}
 use Rattle.answers.proofs.Numerators.{whole-numerator}
 use borrow.Author.Needs.{needs}
 use native.Mathlib.Omega.{arith}

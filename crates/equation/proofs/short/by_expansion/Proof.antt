@@ -15,28 +15,28 @@ blank257-requires-2 : tie.Need-blank257-requires-2
 blank257-requires-2 c κs = search needs
 
 add-s : tie.Need-add-s
-add-s c = search (needs, c .before .before .before .before .pre .0 .0 .most)
+add-s c = search (needs, c .before .before .before .before .pre .0 .0 .degree .most)
 
 array-borrow-prefix-s : tie.Need-array-borrow-prefix-s
-array-borrow-prefix-s c = search (needs, c .before .before .before .before .pre .0 .0 .most)
+array-borrow-prefix-s c = search (needs, c .before .before .before .before .pre .0 .0 .degree .most)
 
 slice-aggregate-by-expansion-in : tie.Need-slice-aggregate-by-expansion-in
-slice-aggregate-by-expansion-in c = simp length-take (omega (arith, c .before .before .before .before .before .pre .0 .0 .most))
+slice-aggregate-by-expansion-in c = simp length-take (omega (arith, c .before .before .before .before .before .pre .0 .0 .degree .most))
 
 add-h : tie.Need-add-h
 add-h c = search needs
 
 array-borrow-prefix-h : tie.Need-array-borrow-prefix-h
-array-borrow-prefix-h c = search (needs, c .before .before .before .before .before .pre .0 .0 .most)
+array-borrow-prefix-h c = search (needs, c .before .before .before .before .before .pre .0 .0 .degree .most)
 
 slice-aggregate-by-expansion-in-2 : tie.Need-slice-aggregate-by-expansion-in-2
 slice-aggregate-by-expansion-in-2 c =
-    simp length-take (omega (arith, c .before .before .before .before .before .before .pre .0 .0 .most))
+    simp length-take (omega (arith, c .before .before .before .before .before .before .pre .0 .0 .degree .most))
 
 by-expansion-in-requires : tie.Need-by-expansion-in-requires
 by-expansion-in-requires c κs =
     let start = c .before .before .before .before .before .before in
-    (start .pre .0, (start .pre .1, simp length-take (omega (arith, start .pre .0 .0 .most))))
+    (start .pre .0, (start .pre .1, simp length-take (omega (arith, start .pre .0 .0 .degree .most))))
 
 returns : tie.Need-returns
 returns c = search needs

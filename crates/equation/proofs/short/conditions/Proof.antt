@@ -37,7 +37,7 @@ returns-2 c =
 recurs-requires : tie.Need-recurs-requires
 recurs-requires c κs =
     let start = c .before .before .before .before .before .before .before .before .before in
-    (start .pre .0, (omega (arith, start .pre .0 .most), start .pre .2))
+    (start .pre .0, (omega (arith, start .pre .0 .degree), start .pre .2))
 
 returns-3 : tie.Need-returns-3
 returns-3 c =

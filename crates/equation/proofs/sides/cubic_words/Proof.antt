@@ -8,8 +8,8 @@ use Rattle.equation.proofs.sides.cubic_words.Tie as tie
 returns : tie.Need-returns
 returns c =
     let v = c .args .v in record {
-      reduced = reduced-cons (v .b) (v .a ∷ 0 ∷ 1 ∷ []) (c .pre .b-below)
-          (reduced-cons (v .a) (0 ∷ 1 ∷ []) (c .pre .a-below) (reduced-cons 0 (1 ∷ []) (omega arith) (reduced-cons 1 [] (omega arith) (reduced-nil (omega arith)))));
+      reduced = reduced-cons (v .b) (v .a ∷ 0 ∷ 1 ∷ []) (c .pre .below .b)
+          (reduced-cons (v .a) (0 ∷ 1 ∷ []) (c .pre .below .a) (reduced-cons 0 (1 ∷ []) (omega arith) (reduced-cons 1 [] (omega arith) (reduced-nil (omega arith)))));
       same = f-words v;
     }
 

@@ -49,7 +49,7 @@ slice-aggregate-square-and c = simp length-take (omega arith)
 square-and-requires : tie.Need-square-and-requires
 square-and-requires c κs =
     let pre = c .before .before .before .before .before .before .before .pre in
-    (omega (arith, pre), omega (arith, pre), pre .1 .1, omega (arith, pre), omega (arith, pre), simp length-take (omega (arith, pre)))
+    (omega (arith, pre), omega (arith, pre), pre .1 .reduced, omega (arith, pre), omega (arith, pre), simp length-take (omega (arith, pre)))
 
 array-share-prefix-s-2 : tie.Need-array-share-prefix-s-2
 array-share-prefix-s-2 c = search needs

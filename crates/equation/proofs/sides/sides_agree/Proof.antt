@@ -27,8 +27,8 @@ returns c =
     let l = c .before .before .before .before .before .before .before .before .before .left-side in
     let r = c .before .before .before .before .before .right-side in
     let e = c .equal in
-    three (at .v) (pre .0 .0) (at .g .now) (pre .0 .1) (pre .0 .2) (at .n .now) (l .last .1 .1 .1 .0) (r .last .1 .1 .1 .0) (e .result)
-    (pre .1 .0 .0) (omega (arith, pre, l .kept)) (omega (arith, pre, r .kept)) (l .ensures) (r .ensures)
+    three (at .v) (pre .0 .0) (at .g .now) (pre .0 .1 .count) (pre .0 .1 .reduced) (at .n .now) (l .last .1 .1 .1 .0) (r .last .1 .1 .1 .0) (e .result)
+    (pre .1 .0 .count) (omega (arith, pre, l .kept)) (omega (arith, pre, r .kept)) (l .ensures) (r .ensures)
     (e .ensures (at .v .p) (l .ensures .reduced) (r .ensures .reduced))
 
 pub sides-agree-spec : {M : Type 1} → statement M

@@ -1,8 +1,8 @@
--- Reading back the words of a certificate gives what was written.
+-- Reading back the words of a certificate gives what was written, and the words pass questions 2 to 7.
 -- Assumes nothing.
-use mathlib.Core.Path.{_≡_, refl, sym, _∙_, ap, ap₂}
+use mathlib.Core.Path.{_≡_, refl, sym, _∙_, ap, ap₂, subst}
 use mathlib.Core.List.{List, [], _∷_, _++_, map, append-assoc}
-use Prim.Native.Nat.{ℕ, zero, suc, _+_, _*_, _-_, _/_, _^_, _<_, _≤_}
+use Prim.Native.Nat.{ℕ, zero, suc, _+_, _*_, _-_, _^_, _<_, _≤_}
 use native.Mathlib.Omega.{arith}
 use lib.ListN.{length, getD, take, drop, replicate, length-append, length-map, List·getD-map, List·getD-append}
 use lib.Seq.{getD-drop, take-at, drop-at, drop-drop, getD-at}
@@ -10,14 +10,14 @@ use Rattle.zmod.specs.Residues.{Reduced}
 use Rattle.sheet.specs.declared.Form.the-variants.{Certificate}
 use Rattle.sheet.specs.declared.Values.{Values}
 use Rattle.sheet.specs.Word.{kindOf, valueOf, word}
-use Rattle.sheet.specs.Form.{half, gOf, nOf}
-use Rattle.sheet.specs.FirstNo.{AllYes}
-use Rattle.sheet.specs.Asked.{PrimeAllowed, Asked2, Asked6, asked}
-use Rattle.sheet.specs.Leaf.{DegreeAllowed, ValuesBelow, Curves}
-use Rattle.sheet.specs.Reading.{valuesOf}
-use Rattle.certificate.specs.Certificate.{certificate, ValuesFit, Written}
-use Rattle.sheet.proofs.Fields.{same}
-use Rattle.sheet.proofs.Questions.{all-yes}
+use Rattle.sheet.specs.Form.{certificateWords}
+use Rattle.sheet.specs.Values.{valuesOf, half, gOf, nOf}
+use Rattle.sheet.specs.Fields.{same}
+use Rattle.sheet.specs.Asked.{Asked2, Asked6, Curves, asked}
+use Rattle.sheet.specs.Ready.{Ready, HoldsG, HoldsN}
+use Rattle.questions.specs.Questions.{AllYes}
+use Rattle.certificate.specs.Certificate.{certificate, Stored}
+use Rattle.certificate.specs.Fits.{ValuesFit, values-fit, g-fit, n-fit}
 
 -- ── one word
 
@@ -49,7 +49,10 @@ reduced-append [] ys h k i = k i
 reduced-append (x ∷ xs) ys h k zero = h 0
 reduced-append (x ∷ xs) ys h k (suc i) = reduced-append xs ys (tail-fits x xs h) k i
 
-module _ (v : Values) (g n : List ℕ) (fit : ValuesFit v) where
+module _ (v : Values) (ready : Ready v) (g n : List ℕ) where
+  fit : ValuesFit v
+  fit = values-fit v ready
+
   abbrev ws : List ℕ
   ws = certificate v g n
 
@@ -58,10 +61,13 @@ module _ (v : Values) (g n : List ℕ) (fit : ValuesFit v) where
       same (value-word 1 (v .p) (fit .p)) (value-word 2 (v .a) (fit .a)) (value-word 3 (v .b) (fit .b)) (value-word 4 (v .atilde) (fit .atilde))
       (value-word 5 (v .btilde) (fit .btilde)) (value-word 6 (v .degree) (fit .degree)) (value-word 7 (v .sigma) (fit .sigma))
 
-  pub half-back : half Certificate ws ≡ (v .degree - 1) / 2
-  half-back = ap (λ l. (l - 1) / 2) (value-word 6 (v .degree) (fit .degree))
+  abbrev d : ℕ
+  d = half (valuesOf Certificate ws)
 
-  pub asked2-back : Asked2 Certificate ws
+  half-back : d ≡ half v
+  half-back = ap half values-back
+
+  asked2-back : Asked2 Certificate ws
   unfolding Asked2
   asked2-back =
       ap₂ _∷_ (kind-word 1 (v .p) (fit .p))
@@ -75,45 +81,42 @@ module _ (v : Values) (g n : List ℕ) (fit : ValuesFit v) where
   abbrev rest : List ℕ
   rest = map (word 8) g ++ map (word 9) n ++ word 15 0 ∷ []
 
-  after-header : drop 7 ws ≡ rest
-  after-header = refl
+  module _ (g-holds : HoldsG v g) (n-holds : HoldsN v n) where
+    g-words : length (map (word 8) g) ≡ d + 1
+    g-words = length-map g (word 8) ∙ g-holds .count ∙ ap (λ d. d + 1) (sym half-back)
 
-  module _ (g-count : length g ≡ (v .degree - 1) / 2 + 1) (n-count : length n ≡ 2 * ((v .degree - 1) / 2) + 2)
-      (g-fit : Reduced (2 ^ 28) g) (n-fit : Reduced (2 ^ 28) n) where
-    g-words : length (map (word 8) g) ≡ half Certificate ws + 1
-    g-words = length-map g (word 8) ∙ g-count ∙ ap (λ d. d + 1) (sym half-back)
-
-    n-words : length (map (word 9) n) ≡ 2 * half Certificate ws + 2
-    n-words = length-map n (word 9) ∙ n-count ∙ ap (λ d. 2 * d + 2) (sym half-back)
+    n-words : length (map (word 9) n) ≡ 2 * d + 2
+    n-words = length-map n (word 9) ∙ n-holds .count ∙ ap (λ d. 2 * d + 2) (sym half-back)
 
     pub g-back : gOf Certificate ws ≡ g
     g-back =
-        ap (λ (l : List ℕ). map valueOf (take (half Certificate ws + 1) l)) (append-assoc (map (word 8) g) (map (word 9) n) (word 15 0 ∷ []))
-        ∙ ap (map valueOf) (take-at (map (word 8) g) (map (word 9) n ++ word 15 0 ∷ []) (half Certificate ws + 1) g-words)
-        ∙ values-section 8 g g-fit
+        ap (λ (l : List ℕ). map valueOf (take (d + 1) l)) (append-assoc (map (word 8) g) (map (word 9) n) (word 15 0 ∷ []))
+        ∙ ap (map valueOf) (take-at (map (word 8) g) (map (word 9) n ++ word 15 0 ∷ []) (d + 1) g-words)
+        ∙ values-section 8 g (g-fit v ready g g-holds)
 
     pub n-back : nOf Certificate ws ≡ n
     n-back =
-        ap (λ (l : List ℕ). map valueOf (take (2 * half Certificate ws + 2) l))
-        (sym (drop-drop (half Certificate ws + 1) 7 ws)
-        ∙ ap (drop (half Certificate ws + 1)) (append-assoc (map (word 8) g) (map (word 9) n) (word 15 0 ∷ []))
-        ∙ drop-at (map (word 8) g) (map (word 9) n ++ word 15 0 ∷ []) (half Certificate ws + 1) g-words)
-        ∙ ap (map valueOf) (take-at (map (word 9) n) (word 15 0 ∷ []) (2 * half Certificate ws + 2) n-words)
-        ∙ values-section 9 n n-fit
+        ap (λ (l : List ℕ). map valueOf (take (2 * d + 2) l))
+        (sym (drop-drop (d + 1) 7 ws)
+        ∙ ap (drop (d + 1)) (append-assoc (map (word 8) g) (map (word 9) n) (word 15 0 ∷ []))
+        ∙ drop-at (map (word 8) g) (map (word 9) n ++ word 15 0 ∷ []) (d + 1) g-words)
+        ∙ ap (map valueOf) (take-at (map (word 9) n) (word 15 0 ∷ []) (2 * d + 2) n-words)
+        ∙ values-section 9 n (n-fit v ready n n-holds)
 
-    kinds-rest : map kindOf rest ≡ replicate (half Certificate ws + 1) 8 ++ replicate (2 * half Certificate ws + 2) 9 ++ 15 ∷ []
+    kinds-rest : map kindOf rest ≡ replicate (d + 1) 8 ++ (replicate (2 * d + 2) 9 ++ 15 ∷ [])
     kinds-rest =
         map-append kindOf (map (word 8) g ++ map (word 9) n) (word 15 0 ∷ [])
         ∙ ap (λ (l : List ℕ). l ++ 15 ∷ []) (map-append kindOf (map (word 8) g) (map (word 9) n))
         ∙ ap₂ (λ (a b : List ℕ). a ++ b ++ 15 ∷ [])
-        (kinds-section 8 g g-fit ∙ ap (λ k. replicate k 8) (sym (length-map g (word 8)) ∙ g-words))
-        (kinds-section 9 n n-fit ∙ ap (λ k. replicate k 9) (sym (length-map n (word 9)) ∙ n-words))
+        (kinds-section 8 g (g-fit v ready g g-holds) ∙ ap (λ k. replicate k 8) (sym (length-map g (word 8)) ∙ g-words))
+        (kinds-section 9 n (n-fit v ready n n-holds) ∙ ap (λ k. replicate k 9) (sym (length-map n (word 9)) ∙ n-words))
+        ∙ append-assoc (replicate (d + 1) 8) (replicate (2 * d + 2) 9) (15 ∷ [])
 
     values-rest : map valueOf rest ≡ g ++ n ++ 0 ∷ []
     values-rest =
         map-append valueOf (map (word 8) g ++ map (word 9) n) (word 15 0 ∷ [])
         ∙ ap (λ (l : List ℕ). l ++ 0 ∷ []) (map-append valueOf (map (word 8) g) (map (word 9) n))
-        ∙ ap₂ (λ (a b : List ℕ). a ++ b ++ 0 ∷ []) (values-section 8 g g-fit) (values-section 9 n n-fit)
+        ∙ ap₂ (λ (a b : List ℕ). a ++ b ++ 0 ∷ []) (values-section 8 g (g-fit v ready g g-holds)) (values-section 9 n (n-fit v ready n n-holds))
 
     rest-length : length rest ≡ length (g ++ n) + 1
     rest-length = sym (length-map rest valueOf) ∙ ap length values-rest ∙ length-append (g ++ n) (0 ∷ [])
@@ -122,19 +125,20 @@ module _ (v : Values) (g n : List ℕ) (fit : ValuesFit v) where
     value-at : (i : ℕ) → 7 ≤ i → valueOf (getD ws i 0) ≡ getD (g ++ n ++ 0 ∷ []) (i - 7) 0
     value-at i l =
         let e : 7 + (i - 7) ≡ i = omega arith in
-        ap (λ j. valueOf (getD ws j 0)) (sym e) ∙ ap valueOf (sym (getD-drop 7 ws (i - 7) 0)) ∙ sym (List·getD-map valueOf rest (i - 7) 0) ∙ ap (λ (l : List ℕ). getD l (i - 7) 0) values-rest
+        ap (λ j. valueOf (getD ws j 0)) (sym e) ∙ ap valueOf (sym (getD-drop 7 ws (i - 7) 0)) ∙ sym (List·getD-map valueOf rest (i - 7) 0)
+        ∙ ap (λ (l : List ℕ). getD l (i - 7) 0) values-rest
 
-    pub count-back : length ws ≡ 3 * length g + 8
+    pub count-back : length ws ≡ certificateWords (half v)
     count-back =
         let e : length ws ≡ 7 + length rest = omega arith in
-        omega (arith, e, rest-length, length-append g n, g-count, n-count)
+        omega (arith, e, rest-length, length-append g n, g-holds .count, n-holds .count)
 
-    pub asked6-back : Reduced (v .p) g → Reduced (v .p) n → Asked6 Certificate ws
-    asked6-back gp np = record {
+    asked6-back : Asked6 Certificate ws
+    asked6-back = record {
       kinds = kinds-rest;
       below = λ i l m.
           let len : length ws ≡ 7 + length rest = omega arith in
-          let b : getD (g ++ n) (i - 7) 0 < v .p = reduced-append g n gp np (i - 7) in
+          let b : getD (g ++ n) (i - 7) 0 < v .p = reduced-append g n (g-holds .reduced) (n-holds .reduced) (i - 7) in
           let e = value-at i l ∙ List·getD-append (g ++ n) (0 ∷ []) 0 (i - 7) (omega (arith, len, rest-length)) in
           omega (arith, e, b, value-word 1 (v .p) (fit .p));
       end =
@@ -142,11 +146,12 @@ module _ (v : Values) (g n : List ℕ) (fit : ValuesFit v) where
           value-at (length ws - 1) (omega (arith, len, rest-length)) ∙ getD-at (g ++ n) 0 [] 0 (length ws - 1 - 7) (omega (arith, len, rest-length));
     }
 
-    -- a certificate with allowed values and reduced coefficients passes questions 2 to 7
-    pub all-back : PrimeAllowed (v .p) → DegreeAllowed (v .degree) (v .p) → ValuesBelow v → Curves Certificate v → Reduced (v .p) g → Reduced (v .p) n
-        → AllYes (asked Certificate ws)
-    all-back h3 h4 h5 h7 gp np = all-yes Certificate ws {v = v} (sym values-back) asked2-back h3 h4 h5 (asked6-back gp np) h7
+    -- a certificate of two curves passes questions 2 to 7
+    pub all-back : Curves Certificate v → AllYes (asked Certificate ws)
+    all-back curves =
+        let back : Ready (valuesOf Certificate ws) = subst Ready (sym values-back) ready in
+        (asked2-back, (back .prime, (back .degree, (back .below, (asked6-back, (subst (Curves Certificate) (sym values-back) curves, tt))))))
 
 -- what the writer left, cut off at its count
-pub written-front : (v : Values) (g n before after : List ℕ) (r : ℕ) → length (certificate v g n) ≡ r → Written v g n before after r → take r after ≡ certificate v g n
-written-front v g n before after r e h = ap (take r) (h .words) ∙ take-at (certificate v g n) (drop r before) r e
+pub stored-front : (v : Values) (g n before after : List ℕ) (r : ℕ) → length (certificate v g n) ≡ r → Stored v g n before after r → take r after ≡ certificate v g n
+stored-front v g n before after r e h = ap (take r) (h .words) ∙ take-at (certificate v g n) (drop r before) r e
