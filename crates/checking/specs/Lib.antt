@@ -1,1 +1,1 @@
-pub mod RulesAsked
+pub mod Passed

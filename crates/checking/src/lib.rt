@@ -1,5 +1,5 @@
-// Questions 8 to 10, put to the coefficients of an accepted certificate, and check.
-use answers::Verdict;
+// Check, and the beginning of every service that takes a certificate: questions 2 to 10, with the coefficients of g and N in lent slices.
+use promises::Verdict;
 use sheet::Form;
 use sheet::Reading;
 use sheet::Values;
@@ -9,40 +9,49 @@ ghost use mathlib.Core.Logic.{_↔_};
 ghost use Prim.Native.Nat.{_+_, _*_};
 ghost use lib.ListN.{length};
 ghost use Rattle.zmod.specs.Zmod.{Zmod};
-ghost use Rattle.zmod.specs.Prime.{Prime};
-ghost use Rattle.zmod.specs.Residues.{Reduced, poly};
+ghost use Rattle.zmod.specs.Residues.{poly};
 ghost use Rattle.isogeny.specs.Rules.{N};
-ghost use Rattle.sheet.specs.Values.{question, half, valuesOf};
-ghost use Rattle.sheet.specs.Ready.{Ready};
-ghost use Rattle.sheet.specs.declared.Form.the-variants.{Certificate};
-ghost use Rattle.sheet.specs.Asked.{asked};
 ghost use Rattle.questions.specs.Questions.{AllYes};
 ghost use Rattle.questions.specs.Judged.{Judged};
-ghost use Rattle.answers.specs.Answer.{CheckRight};
-ghost use Rattle.checking.specs.RulesAsked.{rules-asks, rules-ask};
+ghost use Rattle.sheet.specs.declared.Form.the-variants.{Certificate};
+ghost use Rattle.sheet.specs.Values.{valuesOf, half, question};
+ghost use Rattle.sheet.specs.Asked.{asked};
+ghost use Rattle.sheet.specs.Ready.{Ready, HoldsG, HoldsN};
+ghost use Rattle.promises.specs.Asked.{rules-ask};
+ghost use Rattle.promises.specs.Answer.{CheckRight};
+ghost use Rattle.checking.specs.Passed.{Coefficients, Passed};
 
 // Whether N is that of R2, with room for R2's.
 fn same_numerator_in(v: Values, g: &[u32], n: &[u32], room: &mut [u32]) -> bool
-    requires { ⌜ Ready v ⌝ }
-    requires { ⌜ (length (now g) ≡ half v + 1) × (length (now n) ≡ 2 * half v + 2) × (length (now room) ≡ 2 * half v + 2) ⌝ }
-    requires { ⌜ (Reduced (v .p) (now g)) × (Reduced (v .p) (now n)) ⌝ }
+    requires { ⌜ (Ready v) × HoldsG v (now g) ⌝ }
+    requires { ⌜ HoldsN v (now n) × (length (now room) ≡ 2 * half v + 2) ⌝ }
     ensures { λ r. ⌜ (r ≡ true) ↔ (poly (v .p) (now (n .entry)) ≡ N (Zmod (v .p)) (question v) (poly (v .p) (now (g .entry)))) ⌝ }
 {
     rules::numerator(v, g, room);
     poly::equal(n, room)
 }
 
+// The same, with room of its own.
+fn same_numerator(v: Values, g: &[u32], n: &[u32]) -> bool
+    requires { ⌜ (Ready v) × HoldsG v (now g) ⌝ }
+    requires { ⌜ HoldsN v (now n) ⌝ }
+    ensures { λ r. ⌜ (r ≡ true) ↔ (poly (v .p) (now (n .entry)) ≡ N (Zmod (v .p)) (question v) (poly (v .p) (now (g .entry)))) ⌝ }
+{
+    let count = n.len();
+    let mut room = promises::blank256();
+    same_numerator_in(v, g, n, &mut room[..count])
+}
+
 // The number of the first of questions 8 to 10 that g and N do not pass, or 0.
-fn rules_number(v: Values, g: &[u32], n: &[u32], room: &mut [u32]) -> u32
-    requires { ⌜ (Ready v) × Prime (v .p) ⌝ }
-    requires { ⌜ (length (now g) ≡ half v + 1) × (length (now n) ≡ 2 * half v + 2) × (length (now room) ≡ 2 * half v + 2) ⌝ }
-    requires { ⌜ (Reduced (v .p) (now g)) × (Reduced (v .p) (now n)) ⌝ }
+fn rules_number(v: Values, g: &[u32], n: &[u32]) -> u32
+    requires { ⌜ (Ready v) × HoldsG v (now g) ⌝ }
+    requires { ⌜ HoldsN v (now n) ⌝ }
     ensures { λ r. ⌜ Judged (rules-ask v (now (g .entry)) (now (n .entry))) r ⌝ }
 {
     if !rules::rule_one(v, g) {
         return 8;
     }
-    if !same_numerator_in(v, g, n, room) {
+    if !same_numerator(v, g, n) {
         return 9;
     }
     if !equation::rule_three(v, g, n) {
@@ -51,55 +60,47 @@ fn rules_number(v: Values, g: &[u32], n: &[u32], room: &mut [u32]) -> u32
     0
 }
 
-// The same, for the coefficients on an accepted certificate.
-fn judge_in(v: Values, ws: &[u32], d: usize, g: &mut [u32], n: &mut [u32], room: &mut [u32]) -> u32
-    requires { ⌜ Ready v ⌝ }
-    requires { ⌜ (v ≡ valuesOf Certificate (now ws)) × (d ≡ half v) ⌝ }
+// The coefficients on a certificate that passes 2 to 7, to g and n, and the number of the first of questions 8 to 10 that it does not pass, or 0.
+fn judge(v: Values, ws: &[u32], d: usize, g: &mut [u32], n: &mut [u32]) -> u32
     requires { ⌜ AllYes (asked Certificate (now ws)) ⌝ }
-    requires { ⌜ (length (now g) ≡ d + 1) × (length (now n) ≡ 2 * d + 2) × (length (now room) ≡ 2 * d + 2) ⌝ }
-    ensures { λ r. ⌜ Judged (rules-asks (now (ws .entry))) r ⌝ }
+    requires { ⌜ (v ≡ valuesOf Certificate (now ws)) × (d ≡ half v) ⌝ }
+    requires { ⌜ (length (now g) ≡ d + 1) × (length (now n) ≡ 2 * d + 2) ⌝ }
+    ensures { λ r. ⌜ Coefficients (now (ws .entry)) (now (g .exit)) (now (n .exit)) r ⌝ }
 {
     sheet::g_coefficients(Form::Certificate, ws, d, g);
     sheet::n_coefficients(ws, d, n);
-    rules_number(v, g, n, room)
+    rules_number(v, g, n)
 }
 
-// The same, with room of its own.
-pub fn judge(v: Values, ws: &[u32]) -> u32
-    requires { ⌜ Ready v ⌝ }
-    requires { ⌜ v ≡ valuesOf Certificate (now ws) ⌝ }
-    requires { ⌜ AllYes (asked Certificate (now ws)) ⌝ }
-    ensures { λ r. ⌜ Judged (rules-asks (now (ws .entry))) r ⌝ }
+// Questions 2 to 10. The values of a certificate that passes are the answer, and g and n begin with its coefficients.
+pub fn passed(ws: &[u32], g: &mut [u32], n: &mut [u32]) -> Reading
+    requires { ⌜ (length (now g) ≡ 128) × (length (now n) ≡ 256) ⌝ }
+    ensures { λ r. ⌜ Passed (now (ws .entry)) (now (g .exit)) (now (n .exit)) r ⌝ }
 {
-    let l = v.degree as usize;
-    let d = (l - 1) / 2;
-    let mut g = answers::blank128();
-    let mut n = answers::blank256();
-    let mut room = answers::blank256();
-    judge_in(
-        v,
-        ws,
-        d,
-        &mut g[..d + 1],
-        &mut n[..2 * d + 2],
-        &mut room[..2 * d + 2],
-    )
+    let read = sheet::read(Form::Certificate, ws);
+    match read {
+        Reading::Refused(k) => Reading::Refused(k),
+        Reading::Accepted(v) => {
+            let d = sheet::half_degree(v);
+            let k = judge(v, ws, d, &mut g[..d + 1], &mut n[..2 * d + 2]);
+            if k == 0 {
+                Reading::Accepted(v)
+            } else {
+                Reading::Refused(k)
+            }
+        }
+    }
 }
 
 // Whether the words are a certificate: the number is that of the first of questions 2 to 10 that they do not pass.
 pub fn check(ws: &[u32]) -> Verdict
     ensures { λ r. ⌜ CheckRight (now (ws .entry)) r ⌝ }
 {
-    let read = sheet::read(Form::Certificate, ws);
+    let mut g = promises::blank128();
+    let mut n = promises::blank256();
+    let read = passed(ws, &mut g, &mut n);
     match read {
         Reading::Refused(k) => Verdict::Refused(k),
-        Reading::Accepted(v) => {
-            let k = judge(v, ws);
-            if k == 0 {
-                Verdict::Passes
-            } else {
-                Verdict::Refused(k)
-            }
-        }
+        Reading::Accepted(_) => Verdict::Passes,
     }
 }

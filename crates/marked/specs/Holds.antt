@@ -22,13 +22,13 @@ use Rattle.sheet.specs.Asked.{asked}
 use Rattle.certificate.specs.Certificate.{certificate}
 use Rattle.questions.specs.Questions.{Questions, AllYes, FirstNo}
 use Rattle.questions.specs.Joined.{all-all, no-after}
-use Rattle.answers.specs.declared.Written.the-variants as written
-use Rattle.answers.specs.declared.Point.{Point}
-use Rattle.answers.specs.declared.Point.the-variants as point
-use Rattle.answers.specs.declared.Image.{Image}
-use Rattle.answers.specs.declared.Image.the-variants as image
-use Rattle.answers.specs.Asked.{prime, put, g, n, enough, check-asks, push-asks, Solvable, Codomain, Leading, Given}
-use Rattle.answers.specs.Answer.{SolveRight, KernelRight, PushRight, Filled, kernel-values}
+use Rattle.promises.specs.declared.Written.the-variants as written
+use Rattle.promises.specs.declared.Point.{Point}
+use Rattle.promises.specs.declared.Point.the-variants as point
+use Rattle.promises.specs.declared.Image.{Image}
+use Rattle.promises.specs.declared.Image.the-variants as image
+use Rattle.promises.specs.Asked.{prime, put, g, n, enough, check-asks, push-asks, Solvable, Codomain, Leading, Given}
+use Rattle.promises.specs.Answer.{SolveRight, KernelRight, PushRight, Filled, kernel-values}
 use Rattle.marked.specs.Tests.{every, Every, every-yes, same-list, same-list-yes, below, below-yes}
 use Rattle.marked.specs.Rules.{R1-test, R1-by-computing, R2-test, R2-by-computing, R2-refuted, R3-test, R3-by-computing, R3-refuted, meets-test, meets-by-computing, none-test, none-by-computing, nonsingular-test, nonsingular-by-computing, on-curve-test, on-curve-by-computing, image-test, image-by-computing, vanishes-test, vanishes-by-computing}
 use Rattle.marked.specs.Sheets.{asked-test, asked-by-computing, prime-by-computing, least-by-computing}

@@ -11,12 +11,12 @@ use Rattle.sheet.specs.declared.Values.{Values}
 use Rattle.sheet.specs.Word.{word}
 use Rattle.certificate.specs.Certificate.{certificate}
 use Rattle.sheet.specs.Values.{question, half}
-use Rattle.answers.specs.declared.Verdict.the-variants as verdict
-use Rattle.answers.specs.declared.Written.the-variants as written
-use Rattle.answers.specs.declared.Point.{Point}
-use Rattle.answers.specs.declared.Image.{Image}
-use Rattle.answers.specs.Asked.{enough}
-use Rattle.answers.specs.Answer.{CheckRight, SolveRight, KernelRight, PushRight}
+use Rattle.promises.specs.declared.Verdict.the-variants as verdict
+use Rattle.promises.specs.declared.Written.the-variants as written
+use Rattle.promises.specs.declared.Point.{Point}
+use Rattle.promises.specs.declared.Image.{Image}
+use Rattle.promises.specs.Asked.{enough}
+use Rattle.promises.specs.Answer.{CheckRight, SolveRight, KernelRight, PushRight}
 
 -- "Q" lists p, A, B, Ã, B̃, ℓ, σ
 abbrev pub Q : ℕ → ℕ → ℕ → ℕ → ℕ → ℕ → ℕ → Values

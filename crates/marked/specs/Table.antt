@@ -6,8 +6,8 @@ use Prim.Native.Nat.{ℕ}
 use lib.Dec.{T}
 use Rattle.ring.specs.Test.{both, both-left, both-right}
 use Rattle.sheet.specs.declared.Values.{Values}
-use Rattle.answers.specs.declared.Point.the-variants as point
-use Rattle.answers.specs.declared.Image.the-variants as image
+use Rattle.promises.specs.declared.Point.the-variants as point
+use Rattle.promises.specs.declared.Image.the-variants as image
 use Rattle.marked.specs.Rules.{numerator}
 use Rattle.marked.specs.Row.{Row, Q, Claim}
 use Rattle.marked.specs.Row.Row.{solves, unsolved, pushes, kernel, refused, refused-though}

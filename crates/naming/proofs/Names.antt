@@ -8,7 +8,7 @@ use borrow.Author.Tests.{eqb-false}
 use Rattle.zmod.specs.Zmod.{Zmod, mk}
 use Rattle.isogeny.specs.Curve.{Nonsingular}
 use Rattle.sheet.specs.Asked.{PrimeAllowed}
-use Rattle.answers.specs.Asked.{name-asks}
+use Rattle.promises.specs.Asked.{name-asks}
 use Rattle.questions.specs.Judged.{Judged}
 
 module _ (p a b : ℕ) where

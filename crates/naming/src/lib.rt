@@ -1,11 +1,11 @@
 // Name's questions 3, 5 and 7 for one curve, and the j-value.
-use answers::Named;
+use promises::Named;
 ghost use Prim.Native.Nat.{_^_, _<_, _≤_};
 ghost use Rattle.zmod.specs.Zmod.{Zmod, mk};
 ghost use Rattle.zmod.specs.Prime.{Prime};
 ghost use Rattle.isogeny.specs.Curve.{Nonsingular, JValue};
-ghost use Rattle.answers.specs.Asked.{name-asks};
-ghost use Rattle.answers.specs.Answer.{NameRight};
+ghost use Rattle.promises.specs.Asked.{name-asks};
+ghost use Rattle.promises.specs.Answer.{NameRight};
 ghost use Rattle.questions.specs.Judged.{Judged};
 
 // The number of the first question that the curve does not pass, or 0.

@@ -1,7 +1,6 @@
 // Question 12, and the image of a point of the domain under the g and N of a certificate.
-use answers::Image;
-use answers::Point;
-use sheet::Form;
+use promises::Image;
+use promises::Point;
 use sheet::Reading;
 use sheet::Values;
 ghost use mathlib.Core.Path.{_≡_};
@@ -9,20 +8,16 @@ ghost use mathlib.Core.Bool.{true};
 ghost use mathlib.Core.Logic.{_↔_};
 ghost use Prim.Native.Nat.{_+_, _*_, _^_, _<_, _≤_};
 ghost use lib.ListN.{length};
-ghost use Rattle.ring.specs.Ring.{cast, pow};
-ghost use Rattle.series.specs.Series.{∂};
-ghost use Rattle.series.specs.Value.{value};
-ghost use Rattle.zmod.specs.Zmod.{Zmod, mk, plus, times, minus};
-ghost use Rattle.zmod.specs.Prime.{Prime};
-ghost use Rattle.zmod.specs.Residues.{Residue, poly};
-ghost use Rattle.sheet.specs.Values.{half, gOf, nOf, valuesOf};
-ghost use Rattle.sheet.specs.Ready.{Ready};
-ghost use Rattle.sheet.specs.declared.Form.the-variants.{Certificate};
-ghost use Rattle.sheet.specs.Asked.{asked};
+ghost use Rattle.ring.specs.Ring.{pow};
+ghost use Rattle.zmod.specs.Zmod.{Zmod, mk, plus, times};
+ghost use Rattle.zmod.specs.Residues.{Residue};
 ghost use Rattle.questions.specs.Questions.{AllYes};
-ghost use Rattle.answers.specs.Asked.{check-asks};
-ghost use Rattle.answers.specs.Answer.{PushRight};
-ghost use Rattle.pushing.specs.Pushed.{Within, Pushed};
+ghost use Rattle.sheet.specs.declared.Form.the-variants.{Certificate};
+ghost use Rattle.sheet.specs.Values.{valuesOf, half, gOf, nOf};
+ghost use Rattle.sheet.specs.Ready.{Ready};
+ghost use Rattle.promises.specs.Asked.{OnDomain, check-asks};
+ghost use Rattle.promises.specs.Answer.{PushRight};
+ghost use Rattle.pushing.specs.Pushed.{slopeOf, Pushed};
 
 // x³ + a x + b
 fn cubic(a: u32, b: u32, x: u32, p: u32) -> u32
@@ -37,7 +32,7 @@ fn cubic(a: u32, b: u32, x: u32, p: u32) -> u32
 // Question 12 of an affine point.
 fn within(v: Values, x: u32, y: u32) -> bool
     requires { ⌜ Ready v ⌝ }
-    ensures { λ r. ⌜ (r ≡ true) ↔ Within v x y ⌝ }
+    ensures { λ r. ⌜ (r ≡ true) ↔ OnDomain v x y ⌝ }
 {
     let p = v.p;
     if p <= x {
@@ -52,7 +47,7 @@ fn within(v: Values, x: u32, y: u32) -> bool
 // N′(x) g(x) - 2 N(x) g′(x), from the values of g and N at x.
 fn slope(g: &[u32], n: &[u32], gx: u32, nx: u32, x: u32, p: u32) -> u32
     requires { ⌜ (0 < p) × (p ≤ 2 ^ 28) × (length (now g) ≤ 2 ^ 32) × (length (now n) ≤ 2 ^ 32) ⌝ }
-    ensures { λ r. ⌜ Residue p (plus p (times p (value (Zmod p) (length (now (n .entry))) (∂ (Zmod p) (poly p (now (n .entry)))) (mk p x)) (mk p gx)) (minus p (times p (times p (cast (Zmod p) 2) (mk p nx)) (value (Zmod p) (length (now (g .entry))) (∂ (Zmod p) (poly p (now (g .entry)))) (mk p x))))) r ⌝ }
+    ensures { λ r. ⌜ Residue p (slopeOf p (now (g .entry)) (now (n .entry)) (mk p gx) (mk p nx) (mk p x)) r ⌝ }
 {
     let left = field::multiply(poly::evaluate_derivative(n, x, p), gx, p);
     let twice = field::multiply(2, nx, p);
@@ -62,7 +57,7 @@ fn slope(g: &[u32], n: &[u32], gx: u32, nx: u32, x: u32, p: u32) -> u32
 
 // Where the point (x, y) goes: one inverse serves for both quotients.
 fn image(v: Values, g: &[u32], n: &[u32], x: u32, y: u32) -> Image
-    requires { ⌜ (Ready v) × Prime (v .p) ⌝ }
+    requires { ⌜ Ready v ⌝ }
     requires { ⌜ (length (now g) ≡ half v + 1) × (length (now n) ≡ 2 * half v + 2) ⌝ }
     ensures { λ r. ⌜ Pushed v (now (g .entry)) (now (n .entry)) x y r ⌝ }
 {
@@ -81,45 +76,17 @@ fn image(v: Values, g: &[u32], n: &[u32], x: u32, y: u32) -> Image
     Image::Affine(u, field::multiply(y, t, p))
 }
 
-// The same with the coefficients read from the sheet.
-fn image_in(v: Values, ws: &[u32], d: usize, g: &mut [u32], n: &mut [u32], x: u32, y: u32) -> Image
-    requires { ⌜ (Ready v) × Prime (v .p) ⌝ }
-    requires { ⌜ (v ≡ valuesOf Certificate (now ws)) × (d ≡ half v) ⌝ }
-    requires { ⌜ AllYes (asked Certificate (now ws)) ⌝ }
-    requires { ⌜ (length (now g) ≡ d + 1) × (length (now n) ≡ 2 * d + 2) ⌝ }
-    ensures { λ r. ⌜ Pushed (valuesOf Certificate (now (ws .entry))) (gOf Certificate (now (ws .entry))) (nOf Certificate (now (ws .entry))) x y r ⌝ }
-{
-    sheet::g_coefficients(Form::Certificate, ws, d, g);
-    sheet::n_coefficients(ws, d, n);
-    image(v, g, n, x, y)
-}
-
-fn image_of(v: Values, ws: &[u32], x: u32, y: u32) -> Image
-    requires { ⌜ (Ready v) × Prime (v .p) ⌝ }
-    requires { ⌜ v ≡ valuesOf Certificate (now ws) ⌝ }
-    requires { ⌜ AllYes (asked Certificate (now ws)) ⌝ }
-    ensures { λ r. ⌜ Pushed (valuesOf Certificate (now (ws .entry))) (gOf Certificate (now (ws .entry))) (nOf Certificate (now (ws .entry))) x y r ⌝ }
-{
-    let l = v.degree as usize;
-    let d = (l - 1) / 2;
-    let mut g = answers::blank128();
-    let mut n = answers::blank256();
-    image_in(v, ws, d, &mut g[..d + 1], &mut n[..2 * d + 2], x, y)
-}
-
-// Question 12 and the image, for a certificate that passes.
-fn push_passed(v: Values, ws: &[u32], point: Point) -> Image
-    requires { ⌜ (Ready v) × Prime (v .p) ⌝ }
-    requires { ⌜ v ≡ valuesOf Certificate (now ws) ⌝ }
-    requires { ⌜ AllYes (asked Certificate (now ws)) ⌝ }
-    requires { ⌜ AllYes (check-asks (now ws)) ⌝ }
+// Question 12 and the image, for a certificate that passes, with its coefficients.
+fn push_passed(v: Values, ws: &[u32], g: &[u32], n: &[u32], point: Point) -> Image
+    requires { ⌜ (AllYes (check-asks (now ws))) × (v ≡ valuesOf Certificate (now ws)) ⌝ }
+    requires { ⌜ (now g ≡ gOf Certificate (now ws)) × (now n ≡ nOf Certificate (now ws)) ⌝ }
     ensures { λ r. ⌜ PushRight (now (ws .entry)) point r ⌝ }
 {
     match point {
         Point::Infinity => Image::Infinity,
         Point::Affine(x, y) => {
             if within(v, x, y) {
-                image_of(v, ws, x, y)
+                image(v, g, n, x, y)
             } else {
                 Image::Refused(12)
             }
@@ -130,16 +97,14 @@ fn push_passed(v: Values, ws: &[u32], point: Point) -> Image
 pub fn push(ws: &[u32], point: Point) -> Image
     ensures { λ r. ⌜ PushRight (now (ws .entry)) point r ⌝ }
 {
-    let read = sheet::read(Form::Certificate, ws);
+    let mut g = promises::blank128();
+    let mut n = promises::blank256();
+    let read = checking::passed(ws, &mut g, &mut n);
     match read {
         Reading::Refused(k) => Image::Refused(k),
         Reading::Accepted(v) => {
-            let number = checking::judge(v, ws);
-            if number == 0 {
-                push_passed(v, ws, point)
-            } else {
-                Image::Refused(number)
-            }
+            let d = sheet::half_degree(v);
+            push_passed(v, ws, &g[..d + 1], &n[..2 * d + 2], point)
         }
     }
 }

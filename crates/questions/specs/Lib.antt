@@ -4,3 +4,4 @@ pub mod Numbered
 pub mod Joined
 pub mod Judged
 pub mod Alike
+pub mod Tests

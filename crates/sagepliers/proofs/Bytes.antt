@@ -9,15 +9,15 @@ use lib.ListN.{length, take}
 use Rattle.sheet.specs.Word.{wordsOf}
 use Rattle.questions.specs.Questions.{Questions, AllYes, FirstNo}
 use Rattle.questions.specs.Joined.{no-before, no-after, all-all}
-use Rattle.answers.specs.declared.Verdict.{Verdict}
-use Rattle.answers.specs.declared.Verdict.the-variants as verdict
-use Rattle.answers.specs.declared.Written.{Written}
-use Rattle.answers.specs.declared.Written.the-variants as written
-use Rattle.answers.specs.declared.Point.{Point}
-use Rattle.answers.specs.declared.Image.{Image}
-use Rattle.answers.specs.declared.Image.the-variants as image
-use Rattle.answers.specs.Asked.{Room, check-asks, Given}
-use Rattle.answers.specs.Answer.{CheckRight, SolveRight, KernelRight, PushRight}
+use Rattle.promises.specs.declared.Verdict.{Verdict}
+use Rattle.promises.specs.declared.Verdict.the-variants as verdict
+use Rattle.promises.specs.declared.Written.{Written}
+use Rattle.promises.specs.declared.Written.the-variants as written
+use Rattle.promises.specs.declared.Point.{Point}
+use Rattle.promises.specs.declared.Image.{Image}
+use Rattle.promises.specs.declared.Image.the-variants as image
+use Rattle.promises.specs.Asked.{Room, check-asks, Given}
+use Rattle.promises.specs.Answer.{CheckRight, SolveRight, KernelRight, PushRight}
 use Rattle.sagepliers.specs.Entry.{Whole, bytes-ask, pointOf, push-number-asks, CheckAnswer, PushAnswer, SolveAnswer, KernelAnswer}
 use Rattle.sagepliers.proofs.Split.{no-split, all-split}
 

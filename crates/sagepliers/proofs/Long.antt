@@ -13,15 +13,15 @@ use Rattle.sheet.specs.declared.Form.the-variants.{Question as question-form, C
 use Rattle.sheet.specs.Asked.{asked}
 use Rattle.questions.specs.Questions.{Questions, AllYes, FirstNo}
 use Rattle.questions.specs.Joined.{no-before}
-use Rattle.answers.specs.declared.Verdict.{Verdict}
-use Rattle.answers.specs.declared.Verdict.the-variants as verdict
-use Rattle.answers.specs.declared.Written.{Written}
-use Rattle.answers.specs.declared.Written.the-variants as written
-use Rattle.answers.specs.declared.Point.{Point}
-use Rattle.answers.specs.declared.Image.{Image}
-use Rattle.answers.specs.declared.Image.the-variants as image
-use Rattle.answers.specs.Asked.{Solvable, Leading, Codomain, Given, check-asks}
-use Rattle.answers.specs.Answer.{CheckRight, SolveRight, KernelRight, PushRight}
+use Rattle.promises.specs.declared.Verdict.{Verdict}
+use Rattle.promises.specs.declared.Verdict.the-variants as verdict
+use Rattle.promises.specs.declared.Written.{Written}
+use Rattle.promises.specs.declared.Written.the-variants as written
+use Rattle.promises.specs.declared.Point.{Point}
+use Rattle.promises.specs.declared.Image.{Image}
+use Rattle.promises.specs.declared.Image.the-variants as image
+use Rattle.promises.specs.Asked.{Solvable, Leading, Codomain, Given, check-asks}
+use Rattle.promises.specs.Answer.{CheckRight, SolveRight, KernelRight, PushRight}
 use Rattle.checking.specs.RulesAsked.{rules-asks}
 use Rattle.sagepliers.proofs.Split.{no-split, all-split}
 

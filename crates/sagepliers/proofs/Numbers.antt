@@ -7,9 +7,9 @@ use Prim.Native.Nat.{_^_}
 use native.Mathlib.Omega.{arith}
 use types.Run.{OneOf}
 use denote.Enum.Declared.{tagOf}
-use Rattle.answers.proofs.Image as declared
-use Rattle.answers.specs.declared.Image.{Image}
-use Rattle.answers.specs.declared.Image.the-variants.{Affine, Infinity, Refused}
+use Rattle.promises.proofs.Image as declared
+use Rattle.promises.specs.declared.Image.{Image}
+use Rattle.promises.specs.declared.Image.the-variants.{Affine, Infinity, Refused}
 use Rattle.sagepliers.specs.Entry.{imageNumber}
 
 pub last-is-infinity : (i : Image) → OneOf (1 ∷ 2 ∷ []) (tagOf declared.the-type i) → OneOf (0 ∷ 1 ∷ []) (tagOf declared.the-type i) → 2 ^ 56 ≡ imageNumber i

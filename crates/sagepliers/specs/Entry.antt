@@ -12,18 +12,18 @@ use Rattle.sheet.specs.Word.{wordAt, wordsOf}
 use Rattle.sheet.specs.Asked.{asked}
 use Rattle.sheet.specs.Values.{valuesOf}
 use Rattle.questions.specs.Questions.{Questions, AllYes, FirstNo}
-use Rattle.answers.specs.declared.Verdict.{Verdict}
-use Rattle.answers.specs.declared.Verdict.the-variants as verdict
-use Rattle.answers.specs.declared.Written.{Written}
-use Rattle.answers.specs.declared.Written.the-variants as written
-use Rattle.answers.specs.declared.Point.{Point}
-use Rattle.answers.specs.declared.Point.the-variants as point
-use Rattle.answers.specs.declared.Image.{Image}
-use Rattle.answers.specs.declared.Image.the-variants as image
-use Rattle.answers.specs.declared.Named.{Named}
-use Rattle.answers.specs.declared.Named.the-variants as named
-use Rattle.answers.specs.Asked.{Room, check-asks, Solvable, Leading, Codomain, Given}
-use Rattle.answers.specs.Answer.{Goes, Filled, KernelFilled, SolveRight, KernelRight, NameRight}
+use Rattle.promises.specs.declared.Verdict.{Verdict}
+use Rattle.promises.specs.declared.Verdict.the-variants as verdict
+use Rattle.promises.specs.declared.Written.{Written}
+use Rattle.promises.specs.declared.Written.the-variants as written
+use Rattle.promises.specs.declared.Point.{Point}
+use Rattle.promises.specs.declared.Point.the-variants as point
+use Rattle.promises.specs.declared.Image.{Image}
+use Rattle.promises.specs.declared.Image.the-variants as image
+use Rattle.promises.specs.declared.Named.{Named}
+use Rattle.promises.specs.declared.Named.the-variants as named
+use Rattle.promises.specs.Asked.{Room, check-asks, Solvable, Leading, Codomain, Given}
+use Rattle.promises.specs.Answer.{Goes, Filled, KernelFilled, SolveRight, KernelRight, NameRight}
 
 -- "A file or byte slice whose byte count is no multiple of four gets 'no'" from question 2
 abbrev pub Whole : List ℕ → Type 0

@@ -11,17 +11,17 @@ use borrow.Author.Tests.{lt-ltb, le-ltb, ne-eqb}
 use lib.Dec.{ltb, eqb}
 use Rattle.sheet.specs.Word.{wordsOf}
 use Rattle.questions.specs.Questions.{Questions, FirstNo}
-use Rattle.answers.specs.declared.Verdict.{Verdict}
-use Rattle.answers.specs.declared.Verdict.the-variants as verdict
-use Rattle.answers.specs.declared.Written.{Written}
-use Rattle.answers.specs.declared.Written.the-variants as written
-use Rattle.answers.specs.declared.Point.{Point}
-use Rattle.answers.specs.declared.Point.the-variants as point
-use Rattle.answers.specs.declared.Image.{Image}
-use Rattle.answers.specs.declared.Image.the-variants as image
-use Rattle.answers.specs.declared.Named.{Named}
-use Rattle.answers.specs.declared.Named.the-variants as named
-use Rattle.answers.specs.Answer.{Goes, SolveRight, KernelRight, NameRight}
+use Rattle.promises.specs.declared.Verdict.{Verdict}
+use Rattle.promises.specs.declared.Verdict.the-variants as verdict
+use Rattle.promises.specs.declared.Written.{Written}
+use Rattle.promises.specs.declared.Written.the-variants as written
+use Rattle.promises.specs.declared.Point.{Point}
+use Rattle.promises.specs.declared.Point.the-variants as point
+use Rattle.promises.specs.declared.Image.{Image}
+use Rattle.promises.specs.declared.Image.the-variants as image
+use Rattle.promises.specs.declared.Named.{Named}
+use Rattle.promises.specs.declared.Named.the-variants as named
+use Rattle.promises.specs.Answer.{Goes, SolveRight, KernelRight, NameRight}
 use Rattle.sagepliers.specs.Entry.{bytes-ask, CheckAnswer, verdictNumber, CheckNumber, pointOf, imageNumber, writtenNumber, nameNumber, PushAnswer, PushNumber, SolveNumber, KernelNumber, NameNumber}
 
 abbrev pub writtenOf : ℕ → Written

@@ -8,13 +8,13 @@ use native.Mathlib.Omega.{arith}
 use lib.ListN.{length, drop}
 use Rattle.sheet.specs.Word.{wordAt, wordsOf}
 use Rattle.questions.specs.Questions.{Questions, AllYes, first-no-unique, not-both}
-use Rattle.answers.specs.declared.Verdict.{Verdict}
-use Rattle.answers.specs.declared.Verdict.the-variants as verdict
-use Rattle.answers.specs.declared.Written.{Written}
-use Rattle.answers.specs.declared.Written.the-variants as written
-use Rattle.answers.specs.declared.Image.{Image}
-use Rattle.answers.specs.declared.Image.the-variants as image
-use Rattle.answers.specs.Asked.{Given, check-asks, push-asks}
+use Rattle.promises.specs.declared.Verdict.{Verdict}
+use Rattle.promises.specs.declared.Verdict.the-variants as verdict
+use Rattle.promises.specs.declared.Written.{Written}
+use Rattle.promises.specs.declared.Written.the-variants as written
+use Rattle.promises.specs.declared.Image.{Image}
+use Rattle.promises.specs.declared.Image.the-variants as image
+use Rattle.promises.specs.Asked.{Given, check-asks, push-asks}
 use Rattle.services.specs.Theorems.{solve-unique}
 use Rattle.services.specs.MoreTheorems.{push-unique, kernel-unique, name-unique}
 use Rattle.sagepliers.specs.Entry.{bytes-ask, push-number-asks, solve-bytes-ask, kernel-bytes-ask, pointOf, verdictNumber, imageNumber, writtenNumber, nameNumber, CheckAnswer, CheckNumber, PushAnswer, PushNumber, PushInput, SolveNumber, KernelNumber, NameNumber, SolveAnswer, KernelAnswer}

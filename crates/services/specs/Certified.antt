@@ -1,68 +1,91 @@
--- What stands in the answer buffer is a certificate: its words pass check.
+-- What stands in the answer buffer is a certificate, its words pass check; and for the same values there is one.
 -- Assumes nothing.
-use mathlib.Core.Path.{_≡_, sym, _∙_, ap, subst}
-use mathlib.Core.List.{List}
-use Prim.Native.Nat.{ℕ, _+_, _*_, _^_, _<_}
+use mathlib.Core.Path.{_≡_, sym, _∙_, ap, ap₂, subst}
+use mathlib.Core.List.{List, _++_}
+use Prim.Native.Nat.{ℕ, _*_, _-_, _<_}
 use native.Mathlib.Omega.{arith}
 use lib.ListN.{length, take, drop}
 use lib.Seq.{take-at}
 use Rattle.zmod.specs.Zmod.{Zmod}
-use Rattle.zmod.specs.Residues.{Reduced, poly}
-use Rattle.isogeny.specs.Rules.{N, R3}
-use Rattle.sheet.specs.declared.Form.the-variants.{Certificate}
-use Rattle.sheet.specs.declared.Values.{Values}
-use Rattle.sheet.specs.Values.{gOf, nOf, question}
-use Rattle.sheet.specs.Asked.{asked, PrimeAllowed, DegreeAllowed, ValuesBelow, Curves}
-use Rattle.certificate.specs.Certificate.{certificate, ValuesFit}
+use Rattle.zmod.specs.Residues.{poly, residues-self, residues-same, residues-unique}
+use Rattle.isogeny.specs.Rules.{N, R3, ℓ}
+use Rattle.isogeny.specs.Theorems.{unique}
 use Rattle.questions.specs.Questions.{AllYes}
 use Rattle.questions.specs.Joined.{all-all}
-use Rattle.certificate.proofs.RoundTrip.{values-back, g-back, n-back, count-back, all-back}
-use Rattle.sheet.specs.Ready.{Ready}
-use Rattle.answers.specs.Asked.{check-asks}
-use Rattle.answers.specs.Answer.{Filled}
-use Rattle.checking.specs.RulesAsked.{rules-ask, rules-asks}
-use Rattle.answers.proofs.Numerators.{whole-numerator}
-use Rattle.answers.proofs.Fits.{values-fit, reduced-words}
+use Rattle.sheet.specs.declared.Form.the-variants.{Certificate}
+use Rattle.sheet.specs.declared.Values.{Values}
+use Rattle.sheet.specs.Values.{gOf, nOf, valuesOf, question}
+use Rattle.sheet.specs.Asked.{Curves, asked}
+use Rattle.sheet.specs.Ready.{Ready, HoldsG, HoldsN, half-least, degree-half}
+use Rattle.certificate.specs.Certificate.{certificate}
+use Rattle.certificate.specs.RoundTrip.{values-back, g-back, n-back, count-back, all-back}
+use Rattle.promises.specs.Asked.{check-asks, rules-ask}
+use Rattle.promises.specs.Answer.{CertificateIn}
 
-module _ (v : Values) (ready : Ready v) (small : v .p < 2 ^ 28) (three : PrimeAllowed (v .p)) (four : DegreeAllowed (v .degree) (v .p)) (five : ValuesBelow v)
-    (seven : Curves Certificate v) (before after : List ℕ) (count : ℕ) (filled : Filled v before after count) where
+-- ── it passes check
+
+module _ (v : Values) (ready : Ready v) (curves : Curves Certificate v) (before after : List ℕ) (count : ℕ) (held : CertificateIn v before after count) where
   abbrev g : List ℕ
-  g = filled .g
+  g = held .g
 
   abbrev n : List ℕ
-  n = filled .n
+  n = held .n
 
   abbrev ws : List ℕ
-  ws = certificate v g n
-
-  fit : ValuesFit v
-  fit = values-fit v ready small
-
-  g-fit : Reduced (2 ^ 28) g
-  g-fit = reduced-words g 268435456 (omega arith) (filled .g-reduced)
-
-  n-fit : Reduced (2 ^ 28) n
-  n-fit = reduced-words n 268435456 (omega arith) (filled .n-is .reduced)
+  ws = certificate v (held .g) (held .n)
 
   -- questions 8 to 10
   rules : AllYes (rules-ask v g n)
-  rules =
-      let same : poly (v .p) n ≡ N (Zmod (v .p)) (question v) (poly (v .p) g) = whole-numerator v ready g n (filled .n-length) (filled .n-is) (filled .meets .r1 .degree) in
-      (filled .meets .r1, (same, (subst (R3 (Zmod (v .p)) (question v) (poly (v .p) g)) (sym same) (filled .meets .r3), tt)))
+  rules = (held .meets .r1, (held .n-is, (subst (R3 (Zmod (v .p)) (question v) (poly (v .p) g)) (sym (held .n-is)) (held .meets .r3), tt)))
 
-  rules-back : AllYes (rules-asks ws)
+  rules-back : AllYes (rules-ask (valuesOf Certificate ws) (gOf Certificate ws) (nOf Certificate ws))
   rules-back =
-      subst (λ v. AllYes (rules-ask v (gOf Certificate ws) (nOf Certificate ws))) (sym (values-back v g n fit))
-      (subst (λ g. AllYes (rules-ask v g (nOf Certificate ws))) (sym (g-back v g n fit (filled .g-length) (filled .n-length) g-fit n-fit))
-      (subst (λ n. AllYes (rules-ask v g n)) (sym (n-back v g n fit (filled .g-length) (filled .n-length) g-fit n-fit)) rules))
+      subst (λ v. AllYes (rules-ask v (gOf Certificate ws) (nOf Certificate ws))) (sym (values-back v ready g n))
+      (subst (λ g. AllYes (rules-ask v g (nOf Certificate ws))) (sym (g-back v ready g n (held .g-words) (held .n-words)))
+      (subst (λ n. AllYes (rules-ask v g n)) (sym (n-back v ready g n (held .g-words) (held .n-words))) rules))
 
-  words : take count after ≡ ws
-  words =
-      let long : length ws ≡ 3 * length g + 8 = count-back v g n fit (filled .g-length) (filled .n-length) g-fit n-fit in
-      ap (take count) (filled .words) ∙ take-at ws (drop count before) count (omega (arith, filled .count-is, filled .g-length))
+  pub certificate-words : take count after ≡ ws
+  certificate-words =
+      ap (take count) (held .words)
+      ∙ take-at ws (drop count before) count (count-back v ready g n (held .g-words) (held .n-words) ∙ sym (held .count-is))
 
-  pub filled-certified : AllYes (check-asks (take count after))
-  filled-certified =
-      subst (λ ws. AllYes (check-asks ws)) (sym words)
-      (all-all (asked Certificate ws) (rules-asks ws)
-      (all-back v g n fit (filled .g-length) (filled .n-length) g-fit n-fit three four five seven (filled .g-reduced) (filled .n-is .reduced)) rules-back)
+  pub certified : AllYes (check-asks (take count after))
+  certified =
+      subst (λ ws. AllYes (check-asks ws)) (sym certificate-words)
+      (all-all (asked Certificate ws) (rules-ask (valuesOf Certificate ws) (gOf Certificate ws) (nOf Certificate ws))
+      (all-back v ready g n (held .g-words) (held .n-words) curves) rules-back)
+
+-- ── there is one
+
+module _ (v : Values) (g g′ : List ℕ) where
+  same-words : HoldsG v g → HoldsG v g′ → poly (v .p) g ≡ poly (v .p) g′ → g ≡ g′
+  same-words h k e =
+      residues-unique (h .count ∙ sym (k .count)) (residues-same e (residues-self (h .reduced))) (residues-self (k .reduced))
+
+module _ (v : Values) (n n′ : List ℕ) where
+  same-n-words : HoldsN v n → HoldsN v n′ → poly (v .p) n ≡ poly (v .p) n′ → n ≡ n′
+  same-n-words h k e =
+      residues-unique (h .count ∙ sym (k .count)) (residues-same e (residues-self (h .reduced))) (residues-self (k .reduced))
+
+module _ (v : Values) (ready : Ready v) (before after after′ : List ℕ) (c c′ : ℕ) (h : CertificateIn v before after c) (k : CertificateIn v before after′ c′) where
+  same-poly : poly (v .p) (h .g) ≡ poly (v .p) (k .g)
+  same-poly =
+      unique (ready .prime .prime) (question v) (half-least v ready) (omega (arith, ready .degree, degree-half v ready)) (poly (v .p) (h .g)) (poly (v .p) (k .g))
+      (h .meets) (k .meets)
+
+  pub one-g : h .g ≡ k .g
+  one-g = same-words v (h .g) (k .g) (h .g-words) (k .g-words) same-poly
+
+  one-n : h .n ≡ k .n
+  one-n =
+      same-n-words v (h .n) (k .n) (h .n-words) (k .n-words) (h .n-is ∙ ap (N (Zmod (v .p)) (question v)) same-poly ∙ sym (k .n-is))
+
+  one-count : c ≡ c′
+  one-count = h .count-is ∙ sym (k .count-is)
+
+  pub one-certificate : (c ≡ c′) × (after ≡ after′)
+  one-certificate = (
+    one-count,
+    h .words ∙ ap (λ m. certificate v (h .g) (h .n) ++ drop m before) one-count
+        ∙ ap₂ (λ g n. certificate v g n ++ drop c′ before) one-g one-n ∙ sym (k .words),
+  )

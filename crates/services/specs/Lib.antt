@@ -1,3 +1,6 @@
 pub mod Certified
-pub mod Theorems
-pub mod MoreTheorems
+pub mod Check
+pub mod Solve
+pub mod Kernel
+pub mod Push
+pub mod Name

@@ -17,6 +17,9 @@ ghost use Rattle.sheet.specs.Reading.{Right};
 ghost use Rattle.sheet.specs.Leaf.{Stands, Section, Sections};
 ghost use Rattle.sheet.specs.Body.{last};
 
+// The words of the largest certificate, that of degree 255.
+pub const MOST_WORDS: usize = 392;
+
 // The form in which a sheet is read.
 pub enum Form {
     Question,

@@ -3,21 +3,18 @@
 use mathlib.Core.Path.{_≡_}
 use mathlib.Core.List.{List}
 use Prim.Native.Nat.{ℕ}
-use Rattle.series.specs.Series.{Seq}
-use Rattle.zmod.specs.Zmod.{Zmod}
-use Rattle.isogeny.specs.Rules.{Meets}
 use Rattle.sheet.specs.declared.Values.{Values}
-use Rattle.sheet.specs.Values.{question}
-use Rattle.answers.specs.declared.Written.{Written}
-use Rattle.answers.specs.declared.Written.the-variants.{Count, Refused}
-use Rattle.answers.specs.Answer.{Filled}
+use Rattle.promises.specs.declared.Written.{Written}
+use Rattle.promises.specs.declared.Written.the-variants.{Count, Refused}
+use Rattle.promises.specs.Asked.{Solvable}
+use Rattle.promises.specs.Answer.{CertificateIn}
 
 -- no polynomial meets the rules, and the answer's words are as before
 pub record Unsolved (v : Values) (before after : List ℕ) (k : ℕ) : Type 0 where
   pub number : k ≡ 11
-  pub none : (g : Seq (Zmod (v .p))) → Meets (Zmod (v .p)) (question v) g → ⊥
+  pub none : Solvable v → ⊥
   pub kept : after ≡ before
 
 abbrev pub Solved : Values → List ℕ → List ℕ → Written → Type 0
-Solved v before after (Count c) = Filled v before after c
+Solved v before after (Count c) = CertificateIn v before after c
 Solved v before after (Refused k) = Unsolved v before after k

@@ -1,51 +1,43 @@
-// Solve: question 11 and the certificate that answers it.
-use answers::Written;
+// Solve: the one polynomial that can meet the rules for a question, and its certificate if it does.
+use promises::Written;
 use sheet::Form;
 use sheet::Reading;
 use sheet::Values;
 ghost use mathlib.Core.Path.{_≡_};
-ghost use Prim.Native.Nat.{_+_, _*_, _-_, _^_, _<_, _≤_};
+ghost use Prim.Native.Nat.{_+_};
 ghost use lib.ListN.{length};
-ghost use Rattle.zmod.specs.Prime.{Prime};
 ghost use Rattle.sheet.specs.Values.{half};
 ghost use Rattle.sheet.specs.Ready.{Ready};
-ghost use Rattle.answers.specs.Answer.{SolveRight};
+ghost use Rattle.promises.specs.Asked.{Room};
+ghost use Rattle.promises.specs.Answer.{SolveRight};
 ghost use Rattle.solving.specs.Solved.{Solved};
 
-// Solve, with room for g and N.
-fn solve_in(v: Values, g: &mut [u32], n: &mut [u32], answer: &mut [u32]) -> Written
-    requires { ⌜ (Ready v) × (v .p < 2 ^ 28) × (Prime (v .p)) × (2 * v .degree - 1 < v .p) ⌝ }
-    requires { ⌜ (length (now g) ≡ half v + 1) × (length (now n) ≡ 2 * half v + 2) × (392 ≤ length (now answer)) ⌝ }
+// Solve on the values of an accepted question, with room for g.
+fn solve_in(v: Values, g: &mut [u32], answer: &mut [u32]) -> Written
+    requires { ⌜ Ready v ⌝ }
+    requires { ⌜ (length (now g) ≡ half v + 1) × Room (length (now answer)) ⌝ }
     ensures { λ r. ⌜ Solved v (now (answer .entry)) (now (answer .exit)) r ⌝ }
 {
-    solution::candidate(v, g);
-    rules::numerator(v, g, n);
-    if !equation::rule_three(v, g, n) {
-        return Written::Refused(11);
-    }
-    let words = certificate::write(v, g, n, answer);
-    let count = words as u32;
-    Written::Count(count)
+    candidate::candidate(v, g);
+    certifying::certify(v, g, answer)
 }
 
 // The same, with room of its own.
 fn solve_values(v: Values, answer: &mut [u32]) -> Written
-    requires { ⌜ (Ready v) × (v .p < 2 ^ 28) × (Prime (v .p)) × (2 * v .degree - 1 < v .p) ⌝ }
-    requires { ⌜ 392 ≤ length (now answer) ⌝ }
+    requires { ⌜ Ready v ⌝ }
+    requires { ⌜ Room (length (now answer)) ⌝ }
     ensures { λ r. ⌜ Solved v (now (answer .entry)) (now (answer .exit)) r ⌝ }
 {
-    let l = v.degree as usize;
-    let d = (l - 1) / 2;
-    let mut g = answers::blank128();
-    let mut n = answers::blank256();
-    solve_in(v, &mut g[..d + 1], &mut n[..2 * d + 2], answer)
+    let count = sheet::half_degree(v) + 1;
+    let mut g = promises::blank128();
+    solve_in(v, &mut g[..count], answer)
 }
 
 // The certificate for a question, in the answer; or the number of the first of questions 1 to 7 and 11 with a no, and then the answer is as it was.
 pub fn solve(ws: &[u32], answer: &mut [u32]) -> Written
     ensures { λ r. ⌜ SolveRight (now (ws .entry)) (now (answer .entry)) (now (answer .exit)) r ⌝ }
 {
-    if answer.len() < 392 {
+    if answer.len() < sheet::MOST_WORDS {
         return Written::Refused(1);
     }
     let read = sheet::read(Form::Question, ws);

@@ -1,91 +1,98 @@
 -- `checking::judge` meets its contract. Assumes nothing.
-use mathlib.Core.Path.{refl, sym}
 use borrow.Author.Needs.{needs}
+use mathlib.Core.Path.{_≡_, subst}
 use native.Mathlib.Omega.{arith}
-use lib.Seq.{length-take-le}
+use lib.ListN.{length}
+use Rattle.questions.specs.Judged.{Judged}
+use Rattle.sheet.specs.declared.Form.the-variants.{Certificate}
+use Rattle.sheet.specs.Values.{valuesOf, gOf, nOf}
+use Rattle.sheet.specs.Ready.{HoldsG, HoldsN}
+use Rattle.promises.specs.Asked.{rules-ask}
+use Rattle.checking.proofs.Coefficients.{ready, long, g-words, g-holds, n-words, n-holds}
 use Rattle.checking.proofs.judge.Statement.{statement}
 use Rattle.checking.proofs.judge.Tie as tie
 
-cast-l : tie.Need-cast-l
-cast-l c = search needs
+-- ── the places: behind the coefficients of g, and behind those of N
 
-sub-d : tie.Need-sub-d
-sub-d c = search needs
+abbrev start : tie.After-g-coefficients → tie.Start
+start c = c .before .before .before .before .before
 
-blank128-requires : tie.Need-blank128-requires
-blank128-requires c κs = search needs
+abbrev with-g : tie.After-n-coefficients → tie.After-g-coefficients
+with-g c = c .before .before .before .before
 
-blank256-requires : tie.Need-blank256-requires
-blank256-requires c κs = search needs
+g-is : (c : tie.After-g-coefficients) → c .g-coefficients .last .1 .1 .1 .0 ≡ gOf Certificate (start c .args .ws .now)
+g-is c =
+    let s = start c in
+    let a = s .args in
+    g-words (a .ws .now) (s .pre .0) (a .v) (a .d) (s .pre .1 .0 .0) (s .pre .1 .0 .1) (c .g-coefficients .last .1 .1 .1 .0) (length (a .g .now))
+    (s .pre .1 .1 .0) (c .g-coefficients .ensures)
 
-blank256-requires-2 : tie.Need-blank256-requires-2
-blank256-requires-2 c κs = search needs
+n-is : (c : tie.After-n-coefficients) → c .n-coefficients .last .1 .1 .0 ≡ nOf Certificate (start (with-g c) .args .ws .now)
+n-is c =
+    let s = start (with-g c) in
+    let a = s .args in
+    n-words (a .ws .now) (s .pre .0) (a .v) (a .d) (s .pre .1 .0 .0) (s .pre .1 .0 .1) (c .n-coefficients .last .1 .1 .0) (length (a .n .now))
+    (s .pre .1 .1 .1) (c .n-coefficients .ensures)
 
-add-g : tie.Need-add-g
-add-g c = search needs
+-- ── the needs
 
-array-borrow-prefix-g : tie.Need-array-borrow-prefix-g
-array-borrow-prefix-g c = search needs
+g-coefficients-requires : tie.Need-g-coefficients-requires
+g-coefficients-requires c κs =
+    let s = c .before .before .before .before in
+    let a = s .args in
+    let r = ready (a .ws .now) (s .pre .0) (a .v) (a .d) (s .pre .1 .0 .0) (s .pre .1 .0 .1) in
+    let l = long (a .ws .now) (s .pre .0) (a .v) (a .d) (s .pre .1 .0 .0) (s .pre .1 .0 .1) in
+    (omega (arith, r .degree, s .pre .1 .0 .1), omega (arith, l, s .pre .1 .1 .0))
 
-slice-aggregate-judge-in : tie.Need-slice-aggregate-judge-in
-slice-aggregate-judge-in c = sym (length-take-le _ _ (omega arith))
+n-coefficients-requires : tie.Need-n-coefficients-requires
+n-coefficients-requires c κs =
+    let s = start (c .before .before .before) in
+    let a = s .args in
+    let r = ready (a .ws .now) (s .pre .0) (a .v) (a .d) (s .pre .1 .0 .0) (s .pre .1 .0 .1) in
+    let l = long (a .ws .now) (s .pre .0) (a .v) (a .d) (s .pre .1 .0 .0) (s .pre .1 .0 .1) in
+    (omega (arith, r .degree, s .pre .1 .0 .1), omega (arith, l, s .pre .1 .1 .1))
 
-mul-n : tie.Need-mul-n
-mul-n c = search needs
+rules-number-requires : tie.Need-rules-number-requires
+rules-number-requires c κs =
+    let second = c .before .before .before .before in
+    let first = with-g second in
+    let s = start first in
+    let a = s .args in
+    let r = ready (a .ws .now) (s .pre .0) (a .v) (a .d) (s .pre .1 .0 .0) (s .pre .1 .0 .1) in
+    let g = g-holds (a .ws .now) (s .pre .0) (a .v) (a .d) (s .pre .1 .0 .0) (s .pre .1 .0 .1) (first .g-coefficients .last .1 .1 .1 .0) (length (a .g .now))
+    (s .pre .1 .1 .0) (first .g-coefficients .ensures) in
+    let n = n-holds (a .ws .now) (s .pre .0) (a .v) (a .d) (s .pre .1 .0 .0) (s .pre .1 .0 .1) (second .n-coefficients .last .1 .1 .0) (length (a .n .now))
+    (s .pre .1 .1 .1) (second .n-coefficients .ensures) in
+    ((r, g), n)
 
-add-n : tie.Need-add-n
-add-n c = search needs
+same-length : tie.Need-same-length
+same-length c = search needs
 
-array-borrow-prefix-n : tie.Need-array-borrow-prefix-n
-array-borrow-prefix-n c = search needs
-
-slice-aggregate-judge-in-2 : tie.Need-slice-aggregate-judge-in-2
-slice-aggregate-judge-in-2 c = sym (length-take-le _ _ (omega arith))
-
-mul-room : tie.Need-mul-room
-mul-room c = search needs
-
-add-room : tie.Need-add-room
-add-room c = search needs
-
-array-borrow-prefix-room : tie.Need-array-borrow-prefix-room
-array-borrow-prefix-room c = search needs
-
-slice-aggregate-judge-in-3 : tie.Need-slice-aggregate-judge-in-3
-slice-aggregate-judge-in-3 c = sym (length-take-le _ _ (omega arith))
-
-judge-in-requires : tie.Need-judge-in-requires
-judge-in-requires c κs =
-    let start = c .before .before .before .before .before .before .before .before in (
-      start .pre .0,
-      (
-        (start .pre .1 .0, refl),
-        (start .pre .1 .1, (length-take-le _ _ (omega arith), length-take-le _ _ (omega arith), length-take-le _ _ (omega arith))),
-      ),
-    )
+same-length-2 : tie.Need-same-length-2
+same-length-2 c = search needs
 
 returns : tie.Need-returns
-returns c = search needs
+returns c =
+    let second = c .before .before .before .before .before in
+    let first = with-g second in
+    let s = start first in
+    let ws = s .args .ws .now in
+    let k = c .rules-number .result in
+    record {
+      g-is = g-is first;
+      n-is = n-is second;
+      judged = subst (λ v. Judged (rules-ask v (gOf Certificate ws) (nOf Certificate ws)) k) (s .pre .1 .0 .0)
+          (subst (λ g. Judged (rules-ask (s .args .v) g (nOf Certificate ws)) k) (g-is first)
+          (subst (λ n. Judged (rules-ask (s .args .v) (first .g-coefficients .last .1 .1 .1 .0) n) k) (n-is second) (c .rules-number .ensures)));
+    }
 
 pub judge-spec : {M : Type 1} → statement M
 judge-spec =
     tie.close
     (tie.spec
-    cast-l
-    sub-d
-    blank128-requires
-    blank256-requires
-    blank256-requires-2
-    add-g
-    array-borrow-prefix-g
-    slice-aggregate-judge-in
-    mul-n
-    add-n
-    array-borrow-prefix-n
-    slice-aggregate-judge-in-2
-    mul-room
-    add-room
-    array-borrow-prefix-room
-    slice-aggregate-judge-in-3
-    judge-in-requires
+    g-coefficients-requires
+    n-coefficients-requires
+    rules-number-requires
+    same-length
+    same-length-2
     returns)

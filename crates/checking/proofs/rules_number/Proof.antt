@@ -3,7 +3,9 @@ use mathlib.Core.Path.{refl}
 use mathlib.Core.Logic.{inl, inr}
 use borrow.Author.Needs.{needs}
 use borrow.Author.Tests.{eqb-false}
-use Rattle.answers.proofs.Judging.{refuted, shown}
+use Rattle.questions.specs.Numbered.{first-no}
+use Rattle.questions.specs.Tests.{refuted, shown}
+use Rattle.promises.specs.Asked.{rules-ask}
 use Rattle.checking.proofs.rules_number.Statement.{statement}
 use Rattle.checking.proofs.rules_number.Tie as tie
 
@@ -11,49 +13,50 @@ rule-one-requires : tie.Need-rule-one-requires
 rule-one-requires c κs = search needs
 
 returns : tie.Need-returns
-returns c = inr (eqb-false 8 0 refl, inl (refl, refuted (c .before .rule-one .ensures) (c .if1 .taken)))
+returns c =
+    let a = c .before .before .before .before .args in
+    inr (eqb-false 8 0 refl, first-no (rules-ask (a .v) (a .g .now) (a .n .now)) 8 tt tt (refuted (c .before .rule-one .ensures) (c .if1 .taken)))
 
-same-numerator-in-requires : tie.Need-same-numerator-in-requires
-same-numerator-in-requires c κs = search needs
-
-same-length : tie.Need-same-length
-same-length c = search needs
+same-numerator-requires : tie.Need-same-numerator-requires
+same-numerator-requires c κs = search needs
 
 returns-2 : tie.Need-returns-2
 returns-2 c =
-    let numerator = c .before .before .before in
-    let one = numerator .before .before in
-    inr (eqb-false 9 0 refl, inr (shown (one .before .rule-one .ensures) (one .if1 .left), inl (refl, refuted (numerator .same-numerator-in .ensures) (c .if2 .taken))))
+    let one = c .before .before in
+    let a = one .before .before .before .before .args in
+    let eight = shown (one .before .rule-one .ensures) (one .if1 .left) in
+    inr (
+      eqb-false 9 0 refl,
+      first-no (rules-ask (a .v) (a .g .now) (a .n .now)) 9 tt (eight, tt) (refuted (c .before .same-numerator .ensures) (c .if2 .taken)),
+    )
 
 rule-three-requires : tie.Need-rule-three-requires
 rule-three-requires c κs =
-    let numerator = c .before .before .before in
-    let one = numerator .before .before in
-    let start = one .before .before .before .before .before in
-    (start .pre .0, ((start .pre .1 .0 .0, start .pre .1 .1 .0, shown (one .before .rule-one .ensures) (one .if1 .left)), (start .pre .1 .0 .1, start .pre .1 .1 .1, shown (numerator .same-numerator-in .ensures) (c .if2 .left))))
-
-same-length-2 : tie.Need-same-length-2
-same-length-2 c = search needs
+    let one = c .before .before in
+    let start = one .before .before .before .before in
+    let eight = shown (one .before .rule-one .ensures) (one .if1 .left) in
+    let nine = shown (c .before .same-numerator .ensures) (c .if2 .left) in
+    (start .pre .0 .0, ((start .pre .0 .1, eight), (start .pre .1, nine)))
 
 returns-3 : tie.Need-returns-3
 returns-3 c =
     let two = c .before .before in
-    let numerator = two .before .before .before in
-    let one = numerator .before .before in
+    let one = two .before .before in
+    let a = one .before .before .before .before .args in
+    let eight = shown (one .before .rule-one .ensures) (one .if1 .left) in
+    let nine = shown (two .before .same-numerator .ensures) (two .if2 .left) in
     inr (
       eqb-false 10 0 refl,
-      inr (shown (one .before .rule-one .ensures) (one .if1 .left), inr (shown (numerator .same-numerator-in .ensures) (two .if2 .left), inl (refl, refuted (c .before .rule-three .ensures) (c .if3 .taken)))),
+      first-no (rules-ask (a .v) (a .g .now) (a .n .now)) 10 tt (eight, (nine, tt)) (refuted (c .before .rule-three .ensures) (c .if3 .taken)),
     )
-
-same-length-3 : tie.Need-same-length-3
-same-length-3 c = search needs
 
 returns-4 : tie.Need-returns-4
 returns-4 c =
     let two = c .before .before in
-    let numerator = two .before .before .before in
-    let one = numerator .before .before in
-    inl (refl, (shown (one .before .rule-one .ensures) (one .if1 .left), (shown (numerator .same-numerator-in .ensures) (two .if2 .left), (shown (c .before .rule-three .ensures) (c .if3 .left), tt))))
+    let one = two .before .before in
+    let eight = shown (one .before .rule-one .ensures) (one .if1 .left) in
+    let nine = shown (two .before .same-numerator .ensures) (two .if2 .left) in
+    inl (refl, (eight, (nine, (shown (c .before .rule-three .ensures) (c .if3 .left), tt))))
 
 pub rules-number-spec : {M : Type 1} → statement M
 rules-number-spec =
@@ -61,11 +64,8 @@ rules-number-spec =
     (tie.spec
     rule-one-requires
     returns
-    same-numerator-in-requires
-    same-length
+    same-numerator-requires
     returns-2
     rule-three-requires
-    same-length-2
     returns-3
-    same-length-3
     returns-4)

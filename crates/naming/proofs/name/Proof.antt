@@ -1,7 +1,7 @@
 -- `naming::name` meets its contract. Assumes nothing.
 use borrow.Author.Needs.{needs}
 use native.Mathlib.Nat.{le-of-lt}
-use Rattle.answers.specs.Asked.{name-asks}
+use Rattle.promises.specs.Asked.{name-asks}
 use Rattle.questions.specs.Judged.{judged-yes, judged-no}
 use Rattle.naming.proofs.name.Statement.{statement}
 use Rattle.naming.proofs.name.Tie as tie
@@ -21,7 +21,7 @@ returns c =
     let number = c .before .before in
     let start = number .before in
     let yes = judged-yes (name-asks (start .args .p) (start .args .a) (start .args .b)) (number .name-number .result) (number .name-number .ensures) (c .before .if1 .taken) in
-    (yes, c .j-value .ensures .0, c .j-value .ensures .1)
+    (yes, (c .j-value .ensures .0, c .j-value .ensures .1))
 
 returns-2 : tie.Need-returns-2
 returns-2 c =

@@ -2,7 +2,7 @@
 use borrow.Author.Needs.{needs}
 use native.Mathlib.Nat.{le-of-lt}
 use native.Mathlib.Omega.{arith}
-use Rattle.answers.proofs.Judging.{refuted, shown}
+use Rattle.questions.specs.Tests.{refuted, shown}
 use Rattle.naming.proofs.Names.{no-prime, a-large, b-large, singular, named}
 use Rattle.naming.proofs.name_number.Statement.{statement}
 use Rattle.naming.proofs.name_number.Tie as tie

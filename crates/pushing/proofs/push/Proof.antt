@@ -1,20 +1,54 @@
 -- `pushing::push` meets its contract. Assumes nothing.
 use borrow.Author.Needs.{needs}
-use mathlib.Core.Path.{sym, subst}
+use mathlib.Core.Path.{_≡_, sym, _∙_, ap, subst}
 use mathlib.Core.List.{[], _∷_}
-use Rattle.zmod.specs.Prime.{Prime}
-use Rattle.sheet.specs.declared.Form.the-variants.{Certificate}
+use Prim.Native.Nat.{_+_, _*_}
+use native.Mathlib.Omega.{arith}
+use lib.ListN.{take}
+use lib.Seq.{length-take-le}
 use Rattle.questions.specs.Joined.{no-before}
-use Rattle.sheet.specs.Reading.{Right}
+use Rattle.sheet.specs.declared.Form.the-variants.{Certificate}
+use Rattle.sheet.specs.Values.{valuesOf}
 use Rattle.sheet.specs.Ready.{Ready}
-use Rattle.answers.specs.Asked.{check-asks, Given}
-use Rattle.answers.proofs.Accepted.{ready}
-use Rattle.checking.proofs.Answers.{check-unread, check-passes, check-refuses}
+use Rattle.promises.specs.Asked.{check-asks, Given}
+use Rattle.checking.specs.Passed.{Passes, Passed}
+use Rattle.pushing.proofs.Images.{ready-of}
 use Rattle.pushing.proofs.push.Statement.{statement}
 use Rattle.pushing.proofs.push.Tie as tie
 
-read-requires : tie.Need-read-requires
-read-requires c κs = search needs
+-- ── the certificate passes
+
+abbrev start : tie.After-passed → tie.Start
+start c = c .before .before .before .before .before .before
+
+abbrev passed : tie.After-half-degree → tie.After-passed
+passed c = c .before .before .before .before .before .before
+
+passes : (c : tie.After-half-degree)
+    → Passes (start (passed c) .args .ws .now) (passed c .passed .last .1 .0) (passed c .passed .last .1 .1 .0) (c .before .before .read2 .given .0 .0)
+passes c =
+    let at = passed c in
+    subst (Passed (start at .args .ws .now) (at .passed .last .1 .0) (at .passed .last .1 .1 .0)) (c .before .before .read2 .given .1) (at .passed .ensures)
+
+ready : (c : tie.After-half-degree) → Ready (c .before .before .read2 .given .0 .0)
+ready c = let h = passes c in ready-of (start (passed c) .args .ws .now) (c .before .before .read2 .given .0 .0) (h .values) (h .all)
+
+-- ── the needs
+
+blank128-requires : tie.Need-blank128-requires
+blank128-requires c κs = search needs
+
+blank256-requires : tie.Need-blank256-requires
+blank256-requires c κs = search needs
+
+slice-aggregate-passed : tie.Need-slice-aggregate-passed
+slice-aggregate-passed c = search needs
+
+slice-aggregate-passed-2 : tie.Need-slice-aggregate-passed-2
+slice-aggregate-passed-2 c = search needs
+
+passed-requires : tie.Need-passed-requires
+passed-requires c κs = search needs
 
 enum-known-read : tie.Need-enum-known-read
 enum-known-read c = search needs
@@ -22,56 +56,76 @@ enum-known-read c = search needs
 enum-known-read-2 : tie.Need-enum-known-read-2
 enum-known-read-2 c = search needs
 
-judge-requires : tie.Need-judge-requires
-judge-requires c κs =
-    let told = c .before .read3 .given in
-    let read = c .before .before .before in
-    let ws = read .before .before .args .ws .now in
-    let right = subst (Right Certificate ws) (told .1) (read .read .ensures) in
-    (subst Ready (sym (right .1)) (ready Certificate ws (right .0)), (right .1, right .0))
+half-degree-requires : tie.Need-half-degree-requires
+half-degree-requires c κs = search needs
+
+add-g : tie.Need-add-g
+add-g c = omega (arith, c .half-degree .ensures)
+
+array-share-prefix-g : tie.Need-array-share-prefix-g
+array-share-prefix-g c = omega (arith, c .half-degree .ensures, ready c .degree)
+
+slice-aggregate-push-passed : tie.Need-slice-aggregate-push-passed
+slice-aggregate-push-passed c = sym (length-take-le _ _ (omega (arith, c .before .half-degree .ensures, ready (c .before) .degree)))
+
+mul-n : tie.Need-mul-n
+mul-n c = omega (arith, c .before .half-degree .ensures)
+
+add-n : tie.Need-add-n
+add-n c = omega (arith, c .before .half-degree .ensures)
+
+array-share-prefix-n : tie.Need-array-share-prefix-n
+array-share-prefix-n c = omega (arith, c .before .half-degree .ensures, ready (c .before) .degree)
+
+slice-aggregate-push-passed-2 : tie.Need-slice-aggregate-push-passed-2
+slice-aggregate-push-passed-2 c =
+    let half = c .before .before in
+    sym (length-take-le _ _ (omega (arith, half .half-degree .ensures, ready half .degree)))
 
 push-passed-requires : tie.Need-push-passed-requires
 push-passed-requires c κs =
-    let judge = c .before in
-    let told = judge .before .before .read3 .given in
-    let read = judge .before .before .before .before in
-    let ws = read .before .before .args .ws .now in
-    let right = subst (Right Certificate ws) (told .1) (read .read .ensures) in (
-      subst (λ v. Ready v × Prime (v .p)) (sym (right .1)) (ready Certificate ws (right .0), right .0 .1 .0 .prime),
-      (right .1, (right .0, check-passes ws (right .0) (judge .judge .result) (judge .judge .ensures) (c .if1 .taken))),
+    let half = c .before .before in
+    let at = passed half in
+    let h = passes half in
+    let d : half .half-degree .result ≡ _ = half .half-degree .ensures .0 in (
+      (h .all, h .values),
+      (
+        ap (λ k. take (k + 1) (at .passed .last .1 .0)) d ∙ h .g-is,
+        ap (λ k. take (2 * k + 2) (at .passed .last .1 .1 .0)) d ∙ h .n-is,
+      ),
     )
 
 returns : tie.Need-returns
 returns c =
-    let told = c .before .read2 .given in
-    let read = c .before .before .before in
-    let start = read .before .before in
-    let ws = start .args .ws .now in
-    no-before (check-asks ws) ((12, Given ws (start .args .point)) ∷ []) (told .0 .0) (check-unread ws (told .0 .0) (subst (Right Certificate ws) (told .1) (read .read .ensures)))
+    let told = c .before .read .given in
+    let at = c .before .before .before .before .before in
+    let s = start at in
+    let ws = s .args .ws .now in
+    no-before (check-asks ws) ((12, Given (valuesOf Certificate ws) (s .args .point)) ∷ []) (told .0 .0)
+    (subst (Passed ws (at .passed .last .1 .0) (at .passed .last .1 .1 .0)) (told .1) (at .passed .ensures))
 
 returns-2 : tie.Need-returns-2
-returns-2 c = search needs
-
-returns-3 : tie.Need-returns-3
-returns-3 c =
-    let judge = c .before in
-    let told = judge .before .before .read3 .given in
-    let read = judge .before .before .before .before in
-    let start = read .before .before in
-    let ws = start .args .ws .now in
-    let right = subst (Right Certificate ws) (told .1) (read .read .ensures) in
-    no-before (check-asks ws) ((12, Given ws (start .args .point)) ∷ []) (judge .judge .result)
-    (check-refuses ws (right .0) (judge .judge .result) (judge .judge .ensures) (c .if1 .left))
+returns-2 c = c .push-passed .ensures
 
 pub push-spec : {M : Type 1} → statement M
 push-spec =
     tie.close
     (tie.spec
-    read-requires
+    blank128-requires
+    blank256-requires
+    slice-aggregate-passed
+    slice-aggregate-passed-2
+    passed-requires
     enum-known-read
     enum-known-read-2
-    judge-requires
+    half-degree-requires
+    add-g
+    array-share-prefix-g
+    slice-aggregate-push-passed
+    mul-n
+    add-n
+    array-share-prefix-n
+    slice-aggregate-push-passed-2
     push-passed-requires
     returns
-    returns-2
-    returns-3)
+    returns-2)

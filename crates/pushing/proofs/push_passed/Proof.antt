@@ -1,10 +1,14 @@
 -- `pushing::push_passed` meets its contract. Assumes nothing.
 use borrow.Author.Needs.{needs}
-use mathlib.Core.Path.{sym, _∙_}
-use mathlib.Core.Bool.{false≢true}
-use Rattle.pushing.proofs.Images.{infinity, pushed, off}
+use mathlib.Core.Path.{sym, subst}
+use Rattle.questions.specs.Tests.{was-no, was-yes}
+use Rattle.promises.specs.Asked.{OnDomain}
+use Rattle.pushing.proofs.Images.{infinity, off, pushed, ready-of, g-count, n-count, of-sheet}
 use Rattle.pushing.proofs.push_passed.Statement.{statement}
 use Rattle.pushing.proofs.push_passed.Tie as tie
+
+abbrev start : tie.After-known-told → tie.Start
+start c = c .before .before .before .before .before .before
 
 enum-told : tie.Need-enum-told
 enum-told c = search needs
@@ -13,33 +17,47 @@ enum-known-point : tie.Need-enum-known-point
 enum-known-point c = search needs
 
 within-requires : tie.Need-within-requires
-within-requires c κs = c .before .before .before .before .pre .0 .0
+within-requires c κs = let s = start c in ready-of (s .args .ws .now) (s .args .v) (s .pre .0 .1) (s .pre .0 .0)
 
-image-of-requires : tie.Need-image-of-requires
-image-of-requires c κs =
-    let start = c .before .before .before .before .before .before in
-    (start .pre .0, (start .pre .1 .0, start .pre .1 .1 .0))
+image-requires : tie.Need-image-requires
+image-requires c κs =
+    let s = start (c .before .before) in
+    let a = s .args in
+    let all = s .pre .0 .0 in
+    let e = s .pre .0 .1 in (
+      ready-of (a .ws .now) (a .v) e all,
+      (
+        g-count (a .ws .now) (a .v) e all (a .g .now) (a .n .now) (s .pre .1 .0) (s .pre .1 .1),
+        n-count (a .ws .now) (a .v) e all (a .g .now) (a .n .now) (s .pre .1 .0) (s .pre .1 .1),
+      ),
+    )
 
 returns : tie.Need-returns
 returns c =
-    let start = c .before .before .before in
-    infinity (start .args .ws .now) (start .pre .1 .1 .1) (start .args .point) (c .enum-told .given .1)
+    let s = c .before .before .before .before .before in
+    infinity (s .args .ws .now) (s .pre .0 .0) (s .args .point) (c .enum-told .given .1)
 
 returns-2 : tie.Need-returns-2
 returns-2 c =
     let within = c .before .before in
-    let told = within .before .before .point .given in
-    let start = within .before .before .before .before .before in
-    pushed (start .args .ws .now) (start .pre .1 .1 .1) (start .args .point) (told .0 .0) (told .0 .1 .0) (told .1) (start .args .v) (start .pre .1 .0)
-    (c .image-of .result) (within .within .ensures .0 (c .before .if1 .taken)) (c .image-of .ensures)
+    let known = within .before in
+    let told = known .before .point .given in
+    let s = start known in
+    let a = s .args in
+    let e = s .pre .0 .1 in
+    pushed (a .ws .now) (s .pre .0 .0) (a .point) (told .0 .0) (told .0 .1 .0) (told .1) (c .image .result)
+    (subst (λ v. OnDomain v (told .0 .0) (told .0 .1 .0)) e (was-yes (within .within .ensures) (c .before .if1 .taken)))
+    (of-sheet (a .ws .now) (a .v) e (s .pre .0 .0) (a .g .now) (a .n .now) (s .pre .1 .0) (s .pre .1 .1) (told .0 .0) (told .0 .1 .0) (c .image .result) (c .image .ensures))
 
 returns-3 : tie.Need-returns-3
 returns-3 c =
     let within = c .before in
-    let told = within .before .before .point .given in
-    let start = within .before .before .before .before .before in
-    off (start .args .ws .now) (start .pre .1 .1 .1) (start .args .point) (told .0 .0) (told .0 .1 .0) (told .1) (start .args .v) (start .pre .1 .0)
-    (λ w. false≢true (sym (c .if1 .left) ∙ within .within .ensures .1 w))
+    let known = within .before in
+    let told = known .before .point .given in
+    let s = start known in
+    let a = s .args in
+    off (a .ws .now) (s .pre .0 .0) (a .point) (told .0 .0) (told .0 .1 .0) (told .1)
+    (λ on. was-no (within .within .ensures) (c .if1 .left) (subst (λ v. OnDomain v (told .0 .0) (told .0 .1 .0)) (sym (s .pre .0 .1)) on))
 
 pub push-passed-spec : {M : Type 1} → statement M
 push-passed-spec =
@@ -48,7 +66,7 @@ push-passed-spec =
     enum-told
     enum-known-point
     within-requires
-    image-of-requires
+    image-requires
     returns
     returns-2
     returns-3)

@@ -1,7 +1,7 @@
 -- `sagepliers::sagepliers_check` meets its contract. Assumes nothing.
 use borrow.Author.Needs.{needs}
 use mathlib.Core.Path.{refl, subst}
-use Rattle.answers.specs.declared.Verdict.the-variants as verdict
+use Rattle.promises.specs.declared.Verdict.the-variants as verdict
 use Rattle.sagepliers.specs.Entry.{CheckAnswer}
 use Rattle.sagepliers.proofs.sagepliers_check.Statement.{statement}
 use Rattle.sagepliers.proofs.sagepliers_check.Tie as tie

@@ -3,9 +3,8 @@
 use borrow.Author.Needs.{needs}
 use mathlib.Core.Path.{sym, _∙_}
 use native.Mathlib.Omega.{arith}
-use borrow.Author.Tests.{not-true, not-false}
 use Rattle.sheet.specs.Header.{place-no, place-yes}
-use Rattle.sheet.proofs.Answers.{says-no, says-yes, was-no, was-yes}
+use Rattle.questions.specs.Tests.{says-no, says-yes, was-yes, refuted, shown}
 use Rattle.sheet.proofs.curves.Statement.{statement}
 use Rattle.sheet.proofs.curves.Tie as tie
 
@@ -13,7 +12,7 @@ nonsingular-requires : tie.Need-nonsingular-requires
 nonsingular-requires c κs = search needs
 
 returns : tie.Need-returns
-returns c = says-no (λ h. was-no (c .before .nonsingular .ensures) (not-true _ (c .if1 .taken)) (h .domain))
+returns c = says-no (λ h. refuted (c .before .nonsingular .ensures) (c .if1 .taken) (h .domain))
 
 place-requires : tie.Need-place-requires
 place-requires c κs = search needs
@@ -24,7 +23,7 @@ returns-2 c =
     let place = c .before in
     let first = place .before in
     says-yes (record {
-      domain = was-yes (first .before .nonsingular .ensures) (not-false _ (first .if1 .left));
+      domain = shown (first .before .nonsingular .ensures) (first .if1 .left);
       codomain = λ t. absurd (place-no 4 (first .before .before .args .form) (omega arith) (sym (place .place .ensures) ∙ c .if2 .taken) t);
     })
 
@@ -36,7 +35,7 @@ returns-3 c =
     let place = c .before .before in
     let first = place .before in
     let has = place-yes 4 (first .before .before .args .form) (omega arith) (λ e. c .before .if2 .left (place .place .ensures ∙ e)) in (
-      λ t. record { domain = was-yes (first .before .nonsingular .ensures) (not-false _ (first .if1 .left)); codomain = λ _. was-yes (c .nonsingular2 .ensures) t },
+      λ t. record { domain = shown (first .before .nonsingular .ensures) (first .if1 .left); codomain = λ _. was-yes (c .nonsingular2 .ensures) t },
       λ h. c .nonsingular2 .ensures .1 (h .codomain (has .0)),
     )
 

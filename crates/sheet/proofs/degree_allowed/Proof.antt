@@ -3,7 +3,7 @@
 use borrow.Author.Needs.{needs}
 use native.Mathlib.Omega.{arith}
 use borrow.Author.Tests.{lt-ltb, ltb-true}
-use Rattle.sheet.proofs.Answers.{says-no}
+use Rattle.questions.specs.Tests.{says-no}
 use Rattle.sheet.proofs.degree_allowed.Statement.{statement}
 use Rattle.sheet.proofs.degree_allowed.Tie as tie
 

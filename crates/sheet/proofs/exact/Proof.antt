@@ -8,7 +8,7 @@ use native.Mathlib.Omega.{arith}
 use lib.ListN.{length}
 use Rattle.sheet.specs.Asked.{Asked6}
 use Rattle.sheet.specs.Body.{last}
-use Rattle.sheet.proofs.Answers.{says-no}
+use Rattle.questions.specs.Tests.{says-no}
 use Rattle.sheet.proofs.Places.{end-small}
 use Rattle.sheet.proofs.Down.{Rest, end-last, rest}
 use Rattle.sheet.proofs.exact.Statement.{statement}

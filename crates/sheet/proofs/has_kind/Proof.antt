@@ -6,7 +6,7 @@ use lib.ListN.{getD}
 use borrow.Author.Tests.{eqb-true, eq-eqb}
 use native.Mathlib.Omega.{arith}
 use Rattle.sheet.specs.Word.{kindOf}
-use Rattle.sheet.proofs.Answers.{says-no, says-yes}
+use Rattle.questions.specs.Tests.{says-no, says-yes}
 use Rattle.sheet.specs.Header.{stands-absent, stands-short, stands-there}
 use Rattle.sheet.proofs.has_kind.Statement.{statement}
 use Rattle.sheet.proofs.has_kind.Tie as tie

@@ -5,9 +5,8 @@ use mathlib.Core.Path.{_≡_}
 use mathlib.Core.Bool.{not}
 use Prim.Native.Nat.{ℕ, _-_, _≤_, _<_}
 use native.Mathlib.Omega.{arith}
-use borrow.Author.Tests.{not-true, not-false}
 use Rattle.sheet.specs.Leaf.{Stands}
-use Rattle.sheet.proofs.Answers.{says-no, says-yes, was-no, was-yes, more-from}
+use Rattle.questions.specs.Tests.{says-no, says-yes, refuted, shown, more-from}
 use Rattle.sheet.specs.Header.{asked2-stands, stands-asked2}
 use Rattle.sheet.proofs.headed.Statement.{statement}
 use Rattle.sheet.proofs.headed.Tie as tie
@@ -25,7 +24,7 @@ has-kind-requires : tie.Need-has-kind-requires Inv-loop μ-loop
 has-kind-requires c κs = search needs
 
 returns : tie.Need-returns Inv-loop μ-loop
-returns c = says-no (λ h. was-no (c .before .has-kind .ensures) (not-true _ (c .if1 .taken)) (asked2-stands (c .before .before .before .before .before .args .form) (c .before .before .before .before .before .args .ws .now) h (c .before .before .before .loop .k)))
+returns c = says-no (λ h. refuted (c .before .has-kind .ensures) (c .if1 .taken) (asked2-stands (c .before .before .before .before .before .args .form) (c .before .before .before .before .before .args .ws .now) h (c .before .before .before .loop .k)))
 
 add-k : tie.Need-add-k Inv-loop μ-loop
 add-k c = search needs
@@ -36,7 +35,7 @@ loop-less c = search needs
 loop-again : tie.Need-loop-again Inv-loop μ-loop
 loop-again c =
     let at = c .before .before .before .before .before .args in
-    (omega arith, omega arith, more-from (λ j. Stands (at .form) j (at .ws .now)) 1 (c .before .before .before .loop .k) (c .before .before .before .loop .inv .2) (was-yes (c .before .has-kind .ensures) (not-false _ (c .if1 .left))))
+    (omega arith, omega arith, more-from (λ j. Stands (at .form) j (at .ws .now)) 1 (c .before .before .before .loop .k) (c .before .before .before .loop .inv .2) (shown (c .before .has-kind .ensures) (c .if1 .left)))
 
 returns-2 : tie.Need-returns-2 Inv-loop μ-loop
 returns-2 c = says-yes (stands-asked2 (c .before .before .before .args .form) (c .before .before .before .args .ws .now) (λ j l h. c .before .loop .inv .2 j l (omega arith)))

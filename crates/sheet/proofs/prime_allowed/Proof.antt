@@ -2,7 +2,7 @@
 -- Assumes nothing.
 use borrow.Author.Needs.{needs}
 use native.Mathlib.Omega.{arith}
-use Rattle.sheet.proofs.Answers.{says-no}
+use Rattle.questions.specs.Tests.{says-no}
 use Rattle.sheet.proofs.prime_allowed.Statement.{statement}
 use Rattle.sheet.proofs.prime_allowed.Tie as tie
 

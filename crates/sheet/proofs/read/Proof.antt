@@ -5,13 +5,12 @@ use mathlib.Core.Path.{_≡_, sym, subst}
 use mathlib.Core.List.{List}
 use Prim.Native.Nat.{ℕ, _<_, _^_}
 use native.Mathlib.Omega.{arith}
-use borrow.Author.Tests.{not-true, not-false}
 use Rattle.questions.specs.Numbered.{first-no}
 use Rattle.sheet.specs.declared.Form.{Form}
 use Rattle.sheet.specs.declared.Values.{Values}
 use Rattle.sheet.specs.Values.{valuesOf}
 use Rattle.sheet.specs.Asked.{Asked2, Asked6, PrimeAllowed, DegreeAllowed, ValuesBelow, Curves, asked}
-use Rattle.sheet.proofs.Answers.{was-no, was-yes}
+use Rattle.questions.specs.Tests.{refuted, shown}
 use Rattle.sheet.proofs.read.Statement.{statement}
 use Rattle.sheet.proofs.read.Tie as tie
 
@@ -57,21 +56,21 @@ Fourth v = DegreeAllowed (v .degree) (v .p)
 -- ── the tests that were answered with yes
 
 two : (c : tie.Else1) → Asked2 (form (start1 c)) (words (start1 c))
-two c = was-yes (c .before .headed .ensures) (not-false _ (c .if1 .left))
+two c = shown (c .before .headed .ensures) (c .if1 .left)
 
 three : (c : tie.Else2) → Third (values (start2 c))
-three c = read2 Third (c .before .before) (was-yes (c .before .prime-allowed .ensures) (not-false _ (c .if2 .left)))
+three c = read2 Third (c .before .before) (shown (c .before .prime-allowed .ensures) (c .if2 .left))
 
 four : (c : tie.Else3) → Fourth (values (start3 c))
-four c = read2 Fourth (c .before .before .before .before) (was-yes (c .before .degree-allowed .ensures) (not-false _ (c .if3 .left)))
+four c = read2 Fourth (c .before .before .before .before) (shown (c .before .degree-allowed .ensures) (c .if3 .left))
 
 five : (c : tie.Else4) → ValuesBelow (values (start4 c))
 five c =
     let degree = c .before .before in
-    read2 ValuesBelow (degree .before .before .before .before) (was-yes (c .before .values-below .ensures) (not-false _ (c .if4 .left)))
+    read2 ValuesBelow (degree .before .before .before .before) (shown (c .before .values-below .ensures) (c .if4 .left))
 
 six : (c : tie.Else5) → Asked6 (form (start5 c)) (words (start5 c))
-six c = was-yes (c .before .exact .ensures) (not-false _ (c .if5 .left))
+six c = shown (c .before .exact .ensures) (c .if5 .left)
 
 -- ── the needs
 
@@ -81,7 +80,7 @@ headed-requires c κs = search needs
 returns : tie.Need-returns
 returns c =
     let s = c .before .before .before in
-    first-no (asked (form s) (words s)) 2 tt tt (was-no (c .before .headed .ensures) (not-true _ (c .if1 .taken)))
+    first-no (asked (form s) (words s)) 2 tt tt (refuted (c .before .headed .ensures) (c .if1 .taken))
 
 values-of-requires : tie.Need-values-of-requires
 values-of-requires c κs = search needs
@@ -94,7 +93,7 @@ returns-2 c =
     let read = c .before .before in
     let s = start1 (read .before) in
     first-no (asked (form s) (words s)) 3 tt (two (read .before), tt)
-    (λ h. was-no (c .before .prime-allowed .ensures) (not-true _ (c .if2 .taken)) (back2 Third read h))
+    (λ h. refuted (c .before .prime-allowed .ensures) (c .if2 .taken) (back2 Third read h))
 
 degree-allowed-requires : tie.Need-degree-allowed-requires
 degree-allowed-requires c κs = search needs
@@ -105,7 +104,7 @@ returns-3 c =
     let read = prime .before .before in
     let s = start2 prime in
     first-no (asked (form s) (words s)) 4 tt (two (read .before), (three prime, tt))
-    (λ h. was-no (c .before .degree-allowed .ensures) (not-true _ (c .if3 .taken)) (back2 Fourth read h))
+    (λ h. refuted (c .before .degree-allowed .ensures) (c .if3 .taken) (back2 Fourth read h))
 
 values-below-requires : tie.Need-values-below-requires
 values-below-requires c κs = search needs
@@ -117,7 +116,7 @@ returns-4 c =
     let read = prime .before .before in
     let s = start3 degree in
     first-no (asked (form s) (words s)) 5 tt (two (read .before), (three prime, (four degree, tt)))
-    (λ h. was-no (c .before .values-below .ensures) (not-true _ (c .if4 .taken)) (back2 ValuesBelow read h))
+    (λ h. refuted (c .before .values-below .ensures) (c .if4 .taken) (back2 ValuesBelow read h))
 
 exact-requires : tie.Need-exact-requires
 exact-requires c κs =
@@ -132,7 +131,7 @@ returns-5 c =
     let read = prime .before .before in
     let s = start4 below in
     first-no (asked (form s) (words s)) 6 tt (two (read .before), (three prime, (four degree, (five below, tt))))
-    (was-no (c .before .exact .ensures) (not-true _ (c .if5 .taken)))
+    (refuted (c .before .exact .ensures) (c .if5 .taken))
 
 curves-requires : tie.Need-curves-requires
 curves-requires c κs =
@@ -150,7 +149,7 @@ returns-6 c =
     let read = prime .before .before in
     let s = start5 whole in
     first-no (asked (form s) (words s)) 7 tt (two (read .before), (three prime, (four degree, (five below, (six whole, tt)))))
-    (λ h. was-no (c .before .curves .ensures) (not-true _ (c .if6 .taken)) (back2 (Curves (form s)) read h))
+    (λ h. refuted (c .before .curves .ensures) (c .if6 .taken) (back2 (Curves (form s)) read h))
 
 returns-7 : tie.Need-returns-7
 returns-7 c =
@@ -160,7 +159,7 @@ returns-7 c =
     let prime = degree .before .before in
     let read = prime .before .before in
     let s = start5 whole in
-    let seven = read2 (Curves (form s)) read (was-yes (c .before .curves .ensures) (not-false _ (c .if6 .left))) in
+    let seven = read2 (Curves (form s)) read (shown (c .before .curves .ensures) (c .if6 .left)) in
     ((two (read .before), (three prime, (four degree, (five below, (six whole, (seven, tt)))))), read .values-of .ensures .0)
 
 pub read-spec : {M : Type 1} → statement M

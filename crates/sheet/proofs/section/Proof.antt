@@ -7,7 +7,7 @@ use lib.ListN.{length, getD}
 use native.Mathlib.Omega.{arith}
 use Rattle.sheet.specs.Word.{kindOf, valueOf}
 use Rattle.sheet.specs.Leaf.{Section}
-use Rattle.sheet.proofs.Answers.{says-no, says-yes, more-from}
+use Rattle.questions.specs.Tests.{says-no, says-yes, more-from}
 use Rattle.sheet.proofs.section.Statement.{statement}
 use Rattle.sheet.proofs.section.Tie as tie
 

@@ -4,11 +4,10 @@ use borrow.Author.Needs.{needs}
 use mathlib.Core.Path.{_≡_, _∙_, ap}
 use Prim.Native.Nat.{suc, _-_, _≤_, _<_}
 use native.Mathlib.Omega.{arith}
-use borrow.Author.Tests.{not-true, not-false}
 use Rattle.sheet.specs.Form.{kindsOf}
 use Rattle.sheet.specs.Kinds.{below}
 use Rattle.sheet.specs.Leaf.{Sections}
-use Rattle.sheet.proofs.Answers.{says-no, says-yes, was-no, was-yes}
+use Rattle.questions.specs.Tests.{says-no, says-yes, refuted, shown}
 use Rattle.sheet.proofs.Down.{from-end, none-yet, begins-at, before-end, more, part, all-down}
 use Rattle.sheet.proofs.sections.Statement.{statement}
 use Rattle.sheet.proofs.sections.Tie as tie
@@ -59,7 +58,7 @@ returns c =
     let start = turn .before .before .before in
     let a = start .args in
     let loop = turn .before .loop in
-    says-no (λ all. was-no (c .before .section .ensures) (not-true _ (c .if1 .taken))
+    says-no (λ all. refuted (c .before .section .ensures) (c .if1 .taken)
     (part (a .form) (a .d) (a .p) (a .end) (a .ws .now) (start .pre .1) (loop .k - 1) (loop .to) (place .place .result)
     (omega (arith, turn .loop-test .taken)) (to-is turn) (place .place .ensures) (omega (arith, turn .loop-test .taken)) all))
 
@@ -79,7 +78,7 @@ loop-again c =
           (omega (arith, turn .loop-test .taken)) (to-is turn) (place .place .ensures),
       more (a .form) (a .d) (a .p) (a .end) (a .ws .now) (start .pre .1) (loop .k - 1) (loop .to) (place .place .result)
           (omega (arith, turn .loop-test .taken)) (to-is turn) (place .place .ensures)
-          (was-yes (c .before .section .ensures) (not-false _ (c .if1 .left))) (loop .inv .3),
+          (shown (c .before .section .ensures) (c .if1 .left)) (loop .inv .3),
     )
 
 returns-2 : tie.Need-returns-2 Inv-loop μ-loop

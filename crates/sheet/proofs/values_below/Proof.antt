@@ -2,7 +2,7 @@
 -- Assumes nothing.
 use native.Mathlib.Omega.{arith}
 use borrow.Author.Tests.{lt-ltb, ltb-true}
-use Rattle.sheet.proofs.Answers.{says-no}
+use Rattle.questions.specs.Tests.{says-no}
 use Rattle.sheet.proofs.values_below.Statement.{statement}
 use Rattle.sheet.proofs.values_below.Tie as tie
 

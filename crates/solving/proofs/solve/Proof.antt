@@ -4,9 +4,9 @@ use borrow.Author.Needs.{needs}
 use native.Mathlib.Omega.{arith}
 use Rattle.sheet.specs.declared.Form.the-variants.{Question}
 use Rattle.sheet.specs.Reading.{Right}
-use Rattle.answers.proofs.Accepted.{Permits, permits}
+use Rattle.sheet.specs.Ready.{Ready, ready}
 use Rattle.solving.specs.Solved.{Solved}
-use Rattle.solving.proofs.Answers.{solve-short, solve-unread, solve-right}
+use Rattle.solving.proofs.Sheets.{solve-short, solve-unread, solve-right}
 use Rattle.solving.proofs.solve.Statement.{statement}
 use Rattle.solving.proofs.solve.Tie as tie
 
@@ -30,7 +30,7 @@ solve-values-requires c κs =
     let read = c .before .before .before .before in
     let ws = read .before .before .before .before .args .ws .now in
     let right = subst (Right Question ws) (told .1) (read .read .ensures) in
-    (subst Permits (sym (right .1)) (permits Question ws (right .0)), omega arith)
+    (subst Ready (sym (right .1)) (ready Question ws (right .0)), omega arith)
 
 returns-2 : tie.Need-returns-2
 returns-2 c =

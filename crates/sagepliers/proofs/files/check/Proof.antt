@@ -6,7 +6,7 @@ use mathlib.Core.Path.{refl}
 use Rattle.sagepliers.proofs.Loading.{at-kept}
 use Rattle.sagepliers.proofs.Long.{check-long}
 use Rattle.sagepliers.proofs.Bytes.{check-bytes}
-use Rattle.answers.specs.Answer.{CheckRight}
+use Rattle.promises.specs.Answer.{CheckRight}
 use Rattle.sagepliers.proofs.files.check.Statement.{statement}
 use Rattle.sagepliers.proofs.files.check.Tie as tie
 

@@ -6,7 +6,7 @@ use mathlib.Core.Path.{refl}
 use Rattle.sagepliers.proofs.Loading.{at-kept}
 use Rattle.sagepliers.proofs.Long.{kernel-long}
 use Rattle.sagepliers.proofs.Bytes.{kernel-bytes}
-use Rattle.answers.specs.Answer.{KernelRight}
+use Rattle.promises.specs.Answer.{KernelRight}
 use Rattle.sagepliers.proofs.files.kernel.Statement.{statement}
 use Rattle.sagepliers.proofs.files.kernel.Tie as tie
 

@@ -8,7 +8,7 @@ use Rattle.sagepliers.specs.Entry.{CheckAnswer, pointOf}
 use Rattle.sagepliers.proofs.Loading.{at-kept}
 use Rattle.sagepliers.proofs.Long.{push-long}
 use Rattle.sagepliers.proofs.Bytes.{push-bytes, push-large, push-unpassed}
-use Rattle.answers.specs.Answer.{PushRight}
+use Rattle.promises.specs.Answer.{PushRight}
 use Rattle.sagepliers.proofs.files.push.Statement.{statement}
 use Rattle.sagepliers.proofs.files.push.Tie as tie
 

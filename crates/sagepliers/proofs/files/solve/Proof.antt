@@ -6,7 +6,7 @@ use mathlib.Core.Path.{refl}
 use Rattle.sagepliers.proofs.Loading.{at-kept}
 use Rattle.sagepliers.proofs.Long.{solve-long}
 use Rattle.sagepliers.proofs.Bytes.{solve-bytes}
-use Rattle.answers.specs.Answer.{SolveRight}
+use Rattle.promises.specs.Answer.{SolveRight}
 use Rattle.sagepliers.proofs.files.solve.Statement.{statement}
 use Rattle.sagepliers.proofs.files.solve.Tie as tie
 

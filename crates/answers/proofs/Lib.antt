@@ -1,4 +1,0 @@
-pub mod Judging
-pub mod Accepted
-pub mod Numerators
-pub mod Fits

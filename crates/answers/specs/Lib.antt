@@ -1,3 +1,0 @@
-pub mod Asked
-pub mod Answer
-pub mod Judged

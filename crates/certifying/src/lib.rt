@@ -1,0 +1,52 @@
+// The end of every service that writes a certificate: from the values and a g with R1 to N, R3 and the words.
+use promises::Written;
+use sheet::Values;
+ghost use mathlib.Core.Path.{_≡_};
+ghost use Prim.Native.Nat.{_+_, _*_};
+ghost use lib.ListN.{length};
+ghost use Rattle.zmod.specs.Zmod.{Zmod};
+ghost use Rattle.zmod.specs.Residues.{poly};
+ghost use Rattle.isogeny.specs.Rules.{N, R1, Meets};
+ghost use Rattle.sheet.specs.Values.{half, question};
+ghost use Rattle.sheet.specs.Ready.{Ready, HoldsG, HoldsN};
+ghost use Rattle.promises.specs.Asked.{Room};
+ghost use Rattle.certifying.specs.Certified.{Certified};
+
+// The certificate of a g that meets the rules, where n is its N.
+pub fn finish(v: Values, g: &[u32], n: &[u32], answer: &mut [u32]) -> Written
+    requires { ⌜ Ready v ⌝ }
+    requires { ⌜ HoldsG v (now g) × Meets (Zmod (v .p)) (question v) (poly (v .p) (now g)) ⌝ }
+    requires { ⌜ HoldsN v (now n) × (poly (v .p) (now n) ≡ N (Zmod (v .p)) (question v) (poly (v .p) (now g))) ⌝ }
+    requires { ⌜ Room (length (now answer)) ⌝ }
+    ensures { λ r. ⌜ Certified v (now (g .entry)) (now (answer .entry)) (now (answer .exit)) r ⌝ }
+{
+    let words = certificate::write(v, g, n, answer);
+    let count = words as u32;
+    Written::Count(count)
+}
+
+// The certificate of a g with R1 if it has R3 too, else 11; with room for N.
+fn certify_in(v: Values, g: &[u32], n: &mut [u32], answer: &mut [u32]) -> Written
+    requires { ⌜ Ready v ⌝ }
+    requires { ⌜ HoldsG v (now g) × R1 (Zmod (v .p)) (question v) (poly (v .p) (now g)) ⌝ }
+    requires { ⌜ (length (now n) ≡ 2 * half v + 2) × Room (length (now answer)) ⌝ }
+    ensures { λ r. ⌜ Certified v (now (g .entry)) (now (answer .entry)) (now (answer .exit)) r ⌝ }
+{
+    rules::numerator(v, g, n);
+    if !equation::rule_three(v, g, n) {
+        return Written::Refused(11);
+    }
+    finish(v, g, n, answer)
+}
+
+// The same, with room of its own.
+pub fn certify(v: Values, g: &[u32], answer: &mut [u32]) -> Written
+    requires { ⌜ Ready v ⌝ }
+    requires { ⌜ HoldsG v (now g) × R1 (Zmod (v .p)) (question v) (poly (v .p) (now g)) ⌝ }
+    requires { ⌜ Room (length (now answer)) ⌝ }
+    ensures { λ r. ⌜ Certified v (now (g .entry)) (now (answer .entry)) (now (answer .exit)) r ⌝ }
+{
+    let count = 2 * g.len();
+    let mut n = promises::blank256();
+    certify_in(v, g, &mut n[..count], answer)
+}

@@ -1,2 +1,0 @@
-pub mod KernelSheet
-pub mod Codomains

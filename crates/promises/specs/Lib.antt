@@ -1,0 +1,4 @@
+pub mod Outcome
+pub mod Asked
+pub mod Answer
+pub mod Numerators

@@ -1,0 +1,2 @@
+pub mod Codomains
+pub mod Sheets
