@@ -1,5 +1,5 @@
--- Source document 001's own formulas beside document 01's rules, over any commutative ring, with D = g²: (12), the first coefficients of D; (13), N from D;
--- and Vélu's codomain as it stands there after proposition 4.1. One page to cite.
+-- Source document 001's own formulas beside document 01's rules, over any commutative ring, with D = g²: Vélu's codomain from the first coefficients of D
+-- (defined in `Velu`) is the one that R3 leaves, and formula (13) is R2. One page to cite.
 -- Assumes nothing.
 use mathlib.Core.Logic.{_↔_}
 use mathlib.Core.Path.{_≡_, sym, _∙_, ap, ap₂}
