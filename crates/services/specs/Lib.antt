@@ -1,3 +1,4 @@
 pub mod Certified
 pub mod Theorems
 pub mod MoreTheorems
+pub mod Demands

@@ -1,13 +1,15 @@
 -- What a customer can cite of check and solve: one answer is right and no other, for check the verdict, for solve the answer with every word of the lent
 -- buffer; what solve writes passes check; solve answers 11 exactly where no polynomial meets the rules.
 -- Assumes nothing.
-use mathlib.Core.Path.{_≡_, refl, sym, _∙_, ap, ap₂}
+use mathlib.Core.Path.{_≡_, refl, sym, _∙_, ap, ap₂, subst}
+use mathlib.Core.Bool.{Bool, true, not}
 use mathlib.Core.List.{List, [], _∷_, _++_}
 use mathlib.Core.Logic.{inl, inr}
 use Prim.Native.Nat.{ℕ}
 use native.Mathlib.Omega.{arith}
-use borrow.Author.Tests.{eqb-false}
+use lib.Dec.{T, eqb, eqb-refl, T-not}
 use lib.ListN.{length, take, drop}
+use Rattle.ring.specs.Test.{both, both-left, both-right}
 use Rattle.series.specs.Series.{Seq}
 use Rattle.zmod.specs.Zmod.{Zmod}
 use Rattle.zmod.specs.Residues.{poly, residues-self, residues-same, residues-unique}
@@ -64,9 +66,13 @@ module _ (v : Values) (permits : Permits v) (before after after′ : List ℕ) (
       h .words ∙ ap (λ m. certificate v (h .g) (h .n) ++ drop m before) filled-count
       ∙ ap₂ (λ g n. certificate v g n ++ drop c′ before) same-g same-n ∙ sym (k .words)
 
-all-before : (qs rs : Questions) → AllYes (qs ++ rs) → AllYes qs
+pub all-before : (qs rs : Questions) → AllYes (qs ++ rs) → AllYes qs
 all-before [] rs all = tt
 all-before (q ∷ qs) rs all = (all .0, all-before qs rs (all .1))
+
+pub all-after : (qs rs : Questions) → AllYes (qs ++ rs) → AllYes rs
+all-after [] rs all = all
+all-after (q ∷ qs) rs all = all-after qs rs (all .1)
 
 -- the questions before 11
 asked-all : (ws : List ℕ) (room : ℕ) → AllYes (solve-asks ws room) → AllYes (asked Question ws)
@@ -97,25 +103,27 @@ solve-certified ws before after c h =
     (from5 Question ws refl (all .1 .1 .1 .0)) (both-curves (valuesOf Question ws) (from7 Question ws refl (all .1 .1 .1 .1 .1 .0))) before after c (h .1)
 
 -- n is the number of none of the questions
-abbrev Apart : ℕ → Questions → Type 0
-Apart n [] = Unit {0}
-Apart n (q ∷ qs) = (n ≡ q .0 → ⊥) × Apart n qs
+abbrev pub apart : ℕ → Questions → Bool
+apart n [] = true
+apart n (q ∷ qs) = both (not (eqb n (q .0))) (apart n qs)
 
-last-no : (qs : Questions) (A : Type 0) (n : ℕ) → Apart n qs → FirstNo (qs ++ (n, A) ∷ []) n → AllYes qs × (A → ⊥)
-last-no [] A n apart (inl h) = (tt, h .1)
-last-no [] A n apart (inr h) = absurd (h .1)
-last-no (q ∷ qs) A n apart (inl h) = absurd (apart .0 (h .0))
-last-no (q ∷ qs) A n apart (inr h) = let rest = last-no qs A n (apart .1) (h .1) in ((h .0, rest .0), rest .1)
+-- where the last question, and it alone, has the number n of the first no, those before it are answered with yes, and it with no
+pub last-no : (qs : Questions) (A : Type 0) (n : ℕ) → T (apart n qs) → FirstNo (qs ++ (n, A) ∷ []) n → AllYes qs × (A → ⊥)
+last-no [] A n t (inl h) = (tt, h .1)
+last-no [] A n t (inr h) = absurd (h .1)
+last-no (q ∷ qs) A n t (inl h) =
+    absurd (T-not (eqb n (q .0)) (both-left (not (eqb n (q .0))) (apart n qs) t) (subst (λ m. T (eqb n m)) (h .0) (eqb-refl n)))
+last-no (q ∷ qs) A n t (inr h) =
+    let rest : AllYes qs × (A → ⊥) = last-no qs A n (both-right (not (eqb n (q .0))) (apart n qs) t) (h .1) in
+    ((h .0, rest .0), rest .1)
 
 -- 11 is right only where questions 1 to 7 have passed and no polynomial meets the rules,
 pub refused-11 : (ws before after : List ℕ) → SolveRight ws before after (written.Refused 11)
     → Room (length before) × AllYes (asked Question ws)
     × ((g : Seq (Zmod (valuesOf Question ws .p))) → Meets (Zmod (valuesOf Question ws .p)) (question (valuesOf Question ws)) g → ⊥)
 refused-11 ws before after h =
-    let both = last-no ((1, Room (length before)) ∷ asked Question ws) (Solvable ws) 11 (
-      eqb-false 11 1 refl,
-      (eqb-false 11 2 refl, (eqb-false 11 3 refl, (eqb-false 11 4 refl, (eqb-false 11 5 refl, (eqb-false 11 6 refl, (eqb-false 11 7 refl, tt)))))),
-    ) (h .0) in
+    let qs : Questions = (1, Room (length before)) ∷ asked Question ws in
+    let both : AllYes qs × (Solvable ws → ⊥) = last-no qs (Solvable ws) 11 tt (h .0) in
     (both .0 .0, both .0 .1, λ g meets. both .1 (record { g = g; meets = meets }))
 
 -- and there it is right.
