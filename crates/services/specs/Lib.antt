@@ -2,3 +2,4 @@ pub mod Certified
 pub mod Theorems
 pub mod MoreTheorems
 pub mod Demands
+pub mod Names
