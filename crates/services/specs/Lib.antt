@@ -3,3 +3,4 @@ pub mod Theorems
 pub mod MoreTheorems
 pub mod Demands
 pub mod Names
+pub mod Source
