@@ -4,3 +4,5 @@ pub mod MoreTheorems
 pub mod Demands
 pub mod Names
 pub mod Source
+pub mod Words
+pub mod Again
