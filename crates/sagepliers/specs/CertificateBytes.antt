@@ -60,7 +60,7 @@ bytes-back ws h =
     let quarter : length (bytesOf ws) / 4 ≡ length ws = omega (arith, bytes-length ws) in
     let long : length (wordsOf (bytesOf ws)) ≡ length ws = length-tab (length (bytesOf ws) / 4) (wordAt (bytesOf ws)) ∙ quarter in
     ext-getD 0 (wordsOf (bytesOf ws)) ws long λ i l.
-        getD-tab (length (bytesOf ws) / 4) (wordAt (bytesOf ws)) i (omega arith) ∙ word-at ws h i (omega arith)
+    getD-tab (length (bytesOf ws) / 4) (wordAt (bytesOf ws)) i (omega arith) ∙ word-at ws h i (omega arith)
 
 -- The bytes of a certificate that passes get 0 from the C check.
 pub certificate-bytes : (ws : List ℕ) → AllYes (check-asks ws) → CheckNumber (bytesOf ws) 0
