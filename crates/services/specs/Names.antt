@@ -5,7 +5,7 @@ use mathlib.Core.Logic.{_↔_}
 use Prim.Native.Nat.{ℕ}
 use Rattle.zmod.specs.Zmod.{Zmod, mk, mk-apart}
 use Rattle.zmod.specs.Prime.{Prime, prime-pos}
-use Rattle.isogeny.specs.Curve.{SameName, JValue}
+use Rattle.isogeny.specs.Curve.{Nonsingular, SameName, JValue}
 use Rattle.isogeny.specs.Theorems.{j-unique}
 use Rattle.answers.specs.declared.Named.the-variants as named
 use Rattle.answers.specs.Answer.{NameRight}
@@ -18,11 +18,17 @@ same-name p a b a′ b′ j j′ (all, below, value) (all′, below′, value′
     P : Prime p
     P = all .0 .prime
 
+    curve : Nonsingular (Zmod p) (mk p a) (mk p b)
+    curve = let (_, (_, (seven, _))) = all in seven
+
+    curve′ : Nonsingular (Zmod p) (mk p a′) (mk p b′)
+    curve′ = let (_, (_, (seven, _))) = all′ in seven
+
     there : SameName (Zmod p) (mk p a) (mk p b) (mk p a′) (mk p b′) → j ≡ j′
     there same =
         mk-apart (prime-pos P) j j′ below below′
-        (j-unique P (mk p a) (mk p b) (all .1 .1 .0) (mk p j) (same .j) value (same .first)
-        ∙ sym (j-unique P (mk p a′) (mk p b′) (all′ .1 .1 .0) (mk p j′) (same .j) value′ (same .second)))
+        (j-unique P (mk p a) (mk p b) curve (mk p j) (same .j) value (same .first)
+        ∙ sym (j-unique P (mk p a′) (mk p b′) curve′ (mk p j′) (same .j) value′ (same .second)))
 
     back : j ≡ j′ → SameName (Zmod p) (mk p a) (mk p b) (mk p a′) (mk p b′)
     back e = record { j = mk p j; first = value; second = subst (λ i. JValue (Zmod p) (mk p a′) (mk p b′) (mk p i)) (sym e) value′ }

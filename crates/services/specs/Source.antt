@@ -62,13 +62,15 @@ module _ (ws : List ℕ) (passes : AllYes (check-asks ws)) where
 
   -- what questions 8 to 10 say
   pub certificate-R1 : R1 (Zmod p) (put Certificate ws) (g Certificate ws)
-  certificate-R1 = rules .0
+  certificate-R1 = let (r1, _) = rules in r1
 
   pub certificate-N : n Certificate ws ≡ N (Zmod p) (put Certificate ws) (g Certificate ws)
-  certificate-N = rules .1 .0
+  certificate-N = let (_, (r2, _)) = rules in r2
 
   pub certificate-meets : Meets (Zmod p) (put Certificate ws) (g Certificate ws)
-  certificate-meets = record { r1 = certificate-R1; r3 = subst (R3 (Zmod p) (put Certificate ws) (g Certificate ws)) certificate-N (rules .1 .1 .0) }
+  certificate-meets =
+      let (_, (_, (r3, _))) = rules in
+      record { r1 = certificate-R1; r3 = subst (R3 (Zmod p) (put Certificate ws) (g Certificate ws)) certificate-N r3 }
 
   -- Every certificate that passes carries Vélu's codomain,
   pub certificate-velu : VeluCodomain ws
