@@ -30,7 +30,7 @@ module _ (R : CRing) where
   unfoldable pub JValue : Car → Car → Car → Type 0
   JValue A B j = j ⊗ discriminant A B ≡ # 1728 ⊗ (# 4 ⊗ A ^ 3)
 
-  -- two curves bear the same name: their j-values are equal
+  -- one name for two curves: some j is the j-value of both
   pub record SameName (A B A′ B′ : Car) : Type 0 where
     pub j : Car
     pub first : JValue A B j
