@@ -1,17 +1,17 @@
 -- Whether a row of the table holds, by computing: `test` is a boolean that the checker computes, and a row that passes it holds.
 -- Assumes nothing.
-use mathlib.Core.Path.{_≡_, refl, sym, ap, subst}
+use mathlib.Core.Path.{_≡_, refl, sym, _∙_, ap, subst}
 use mathlib.Core.Bool.{Bool, true, false, not}
 use mathlib.Core.Logic.{inl, inr}
 use mathlib.Core.List.{List, [], _∷_, _++_}
-use Prim.Native.Nat.{ℕ, _+_, _*_, _<_, _≤_}
+use Prim.Native.Nat.{ℕ, suc, _+_, _*_, _%_, _<_, _≤_}
 use native.Mathlib.Omega.{arith}
-use lib.Dec.{T, eqb, eqb→eq, ltb, ltb→lt}
-use lib.ListN.{length, drop}
+use lib.Dec.{T, eqb, eqb→eq, leb, leb→le, ltb, ltb→lt}
+use lib.ListN.{length, getD, drop}
 use Rattle.ring.specs.Test.{both, both-left, both-right}
-use Rattle.zmod.specs.Zmod.{Elt, Zmod, mk}
+use Rattle.zmod.specs.Zmod.{Elt, Zmod, mk, mk-eq}
 use Rattle.zmod.specs.Prime.{prime-pos}
-use Rattle.zmod.specs.Residues.{poly}
+use Rattle.zmod.specs.Residues.{poly, poly-at}
 use Rattle.isogeny.specs.Curve.{Nonsingular}
 use Rattle.isogeny.specs.Rules as Rules
 use Rattle.isogeny.specs.Rules.{N, R1, R3, Meets}
@@ -30,10 +30,11 @@ use Rattle.promises.specs.declared.Image.the-variants as image
 use Rattle.promises.specs.Asked.{prime, put, g, n, enough, check-asks, push-asks, Solvable, Codomain, Leading, Given}
 use Rattle.promises.specs.Answer.{SolveRight, KernelRight, PushRight, Filled, kernel-values}
 use Rattle.marked.specs.Tests.{every, Every, every-yes, same-list, same-list-yes, below, below-yes}
-use Rattle.marked.specs.Rules.{R1-test, R1-by-computing, R2-test, R2-by-computing, R2-refuted, R3-test, R3-by-computing, R3-refuted, meets-test, meets-by-computing, none-test, none-by-computing, nonsingular-test, nonsingular-by-computing, on-curve-test, on-curve-by-computing, image-test, image-by-computing, vanishes-test, vanishes-by-computing}
+use Rattle.marked.specs.Rules.{numerator, R1-test, R1-by-computing, R2-test, R2-by-computing, R2-refuted, R3-test, R3-by-computing, R3-refuted, meets-test, meets-by-computing, none-test, none-by-computing, nonsingular-test, nonsingular-by-computing, on-curve-test, on-curve-by-computing, image-test, image-by-computing, vanishes-test, vanishes-by-computing}
 use Rattle.marked.specs.Sheets.{asked-test, asked-by-computing, prime-by-computing, least-by-computing}
+use Rattle.marked.specs.NoCodomain.{candidate, no-codomain}
 use Rattle.marked.specs.Row.{Row, Claim, question-words, kernel-words, count, filled}
-use Rattle.marked.specs.Row.Row.{solves, unsolved, pushes, kernel, refused, refused-though}
+use Rattle.marked.specs.Row.Row.{solves, unsolved, pushes, kernel, no-kernel, refused, refused-though}
 
 -- ── a certificate in the buffer: the values v, g and n of a row against those that are read from the sheet
 
@@ -266,6 +267,37 @@ module _ (v : Values) (g₀ n : List ℕ) where
         },
       )
 
+-- 11 where questions 1 to 8 pass and Vélu's codomain does not meet R3
+module _ (v : Values) (g₀ : List ℕ) where
+  abbrev asking : List ℕ
+  asking = kernel-words v g₀
+
+  abbrev known : Values
+  known = valuesOf Kernel asking
+
+  abbrev kernel-g : List ℕ
+  kernel-g = gOf Kernel asking
+
+  abbrev no-kernel-tests : ℕ → List Bool
+  no-kernel-tests k =
+      asked-test Kernel asking ∷ leb 1 (half known) ∷ leb (length kernel-g) (suc (half known)) ∷ eqb (getD kernel-g (half known) 0 % known .p) (1 % known .p)
+      ∷ not (R3-test (candidate known kernel-g) kernel-g (numerator (candidate known kernel-g) kernel-g)) ∷ eqb k 11 ∷ []
+
+  no-kernel-by-computing : (k : ℕ) → Every (no-kernel-tests k) → (before : List ℕ) → enough ≤ length before
+      → KernelRight asking before before (written.Refused k)
+  no-kernel-by-computing k t before room =
+      let pos : 0 < known .p = prime-pos (prime-by-computing Kernel asking (t 0)) in
+      let leading : Leading asking = poly-at (known .p) kernel-g (half known) ∙ mk-eq pos (getD kernel-g (half known) 0) 1 (eqb→eq _ _ (t 3)) in
+      let short : length kernel-g ≤ suc (half known) = leb→le (length kernel-g) (suc (half known)) (t 2) in
+      let none : Codomain asking → ⊥ = no-codomain known kernel-g pos (leb→le 1 (half known) (t 1)) short leading (t 4) in (
+        inr (
+          room,
+          no-after (asked Kernel asking) ((8, Leading asking) ∷ (11, Codomain asking) ∷ []) k (asked-by-computing Kernel asking (t 0))
+              (inr (leading, inl (eqb→eq k 11 (t 5), none))),
+        ),
+        refl,
+      )
+
 -- ── the rows
 
 abbrev though-tests : Values → List ℕ → List ℕ → ℕ → List Bool
@@ -276,6 +308,7 @@ test (solves v g n) = solve-test v g n
 test (unsolved v k) = unsolved-test v k
 test (pushes v g n from to) = every (push-tests (certificate v g n) from to)
 test (kernel v g n) = every (codomain-tests v g n)
+test (no-kernel v g k) = every (no-kernel-tests v g k)
 test (refused v g n k) = every (refused-tests (certificate v g n) k)
 test (refused-though v g n k) = every (though-tests v g n k)
 
@@ -285,6 +318,7 @@ row-holds (solves v g n) t = solve-by-computing v g n t
 row-holds (unsolved v k) t = unsolved-by-computing v k t
 row-holds (pushes v g n from to) t = push-by-computing (certificate v g n) from to (every-yes (push-tests (certificate v g n) from to) t)
 row-holds (kernel v g n) t = kernel-by-computing v g n (every-yes (codomain-tests v g n) t)
+row-holds (no-kernel v g k) t = no-kernel-by-computing v g k (every-yes (no-kernel-tests v g k) t)
 row-holds (refused v g n k) t = refused-by-computing (certificate v g n) k (every-yes (refused-tests (certificate v g n) k) t)
 row-holds (refused-though v g n k) t =
     let s : Every (though-tests v g n k) = every-yes (though-tests v g n k) t in (

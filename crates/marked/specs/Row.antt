@@ -32,6 +32,8 @@ pub data Row : Type 0 where
   pushes : Values → List ℕ → List ℕ → Point → Image → Row
   -- kernel answers the sheet of p, A, B, ℓ and g with the certificate of the codomain, σ, g and N
   kernel : Values → List ℕ → List ℕ → Row
+  -- kernel refuses the sheet of p, A, B, ℓ and g with a number; of the values, no others are on the sheet
+  no-kernel : Values → List ℕ → ℕ → Row
   -- check refuses the certificate of g and N with a number
   refused : Values → List ℕ → List ℕ → ℕ → Row
   -- the same, though R3 holds
@@ -62,6 +64,7 @@ Claim (unsolved v k) = (before : List ℕ) → enough ≤ length before → Solv
 Claim (pushes v g n from to) = PushRight (certificate v g n) from to
 Claim (kernel v g n) =
     (before : List ℕ) → enough ≤ length before → KernelRight (kernel-words v g) before (filled v g n before) (written.Count (count v))
+Claim (no-kernel v g k) = (before : List ℕ) → enough ≤ length before → KernelRight (kernel-words v g) before before (written.Refused k)
 Claim (refused v g n k) = CheckRight (certificate v g n) (verdict.Refused k)
 Claim (refused-though v g n k) =
     CheckRight (certificate v g n) (verdict.Refused k) × R3 (Zmod (v .p)) (question v) (poly (v .p) g) (poly (v .p) n)
