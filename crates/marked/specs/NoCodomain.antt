@@ -20,8 +20,8 @@ use Rattle.isogeny.specs.Kernel.{kernel-question}
 use Rattle.isogeny.specs.Velu.{sigma, sigma₂, sigma₃, t, w, velu-A, velu-B}
 use Rattle.isogeny.specs.Source.{velu}
 use Rattle.sheet.specs.declared.Values.{Values}
-use Rattle.rules.specs.Question.{question, half}
-use Rattle.answers.specs.Asked.{Passing}
+use Rattle.sheet.specs.Values.{question, half}
+use Rattle.promises.specs.Asked.{Passing}
 use Rattle.marked.specs.Rules.{numerator, numerator-is, R3-test, R3-refuted, twice}
 
 -- ── the value of an expression modulo p

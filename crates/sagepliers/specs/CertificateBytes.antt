@@ -9,9 +9,9 @@ use lib.Seq.{ext-getD}
 use Rattle.slices.specs.Filling.{length-tab, getD-tab}
 use Rattle.zmod.specs.Residues.{Reduced}
 use Rattle.sheet.specs.Word.{wordAt, wordsOf}
-use Rattle.sheet.specs.FirstNo.{AllYes}
-use Rattle.answers.specs.declared.Verdict.the-variants as verdict
-use Rattle.answers.specs.Asked.{check-asks}
+use Rattle.questions.specs.Questions.{AllYes}
+use Rattle.promises.specs.declared.Verdict.the-variants as verdict
+use Rattle.promises.specs.Asked.{check-asks}
 use Rattle.services.specs.Source.{accepted}
 use Rattle.services.specs.Words.{words-small}
 use Rattle.sagepliers.specs.Entry.{Whole, CheckNumber}
