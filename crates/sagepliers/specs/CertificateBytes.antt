@@ -12,9 +12,9 @@ use Rattle.sheet.specs.Word.{wordAt, wordsOf}
 use Rattle.questions.specs.Questions.{AllYes}
 use Rattle.promises.specs.declared.Verdict.the-variants as verdict
 use Rattle.promises.specs.Asked.{check-asks}
-use Rattle.services.specs.Source.{accepted}
+use Rattle.services.specs.Push.{check-asked}
 use Rattle.services.specs.Words.{words-small}
-use Rattle.sagepliers.specs.Entry.{Whole, CheckNumber}
+use Rattle.sagepliers.specs.Entry.{WholeWords, CheckNumber}
 
 -- the bytes of words
 abbrev pub bytesOf : List ℕ → List ℕ
@@ -25,7 +25,7 @@ bytes-length : (ws : List ℕ) → length (bytesOf ws) ≡ 4 * length ws
 bytes-length [] = refl
 bytes-length (w ∷ ws) = omega (arith, bytes-length ws)
 
-bytes-whole : (ws : List ℕ) → Whole (bytesOf ws)
+bytes-whole : (ws : List ℕ) → WholeWords (bytesOf ws)
 bytes-whole ws = omega (arith, bytes-length ws)
 
 -- four bytes of 32 bits, from the remainders of dividing by 2^8
@@ -66,6 +66,6 @@ bytes-back ws h =
 pub certificate-bytes : (ws : List ℕ) → AllYes (check-asks ws) → CheckNumber (bytesOf ws) 0
 certificate-bytes ws passes = record {
   answer = verdict.Passes;
-  right = (bytes-whole ws, subst (λ us. AllYes (check-asks us)) (sym (bytes-back ws (words-small ws (accepted ws passes)))) passes);
+  right = ((bytes-whole ws, subst (λ us. AllYes (check-asks us)) (sym (bytes-back ws (words-small ws (check-asked ws passes)))) passes), tt);
   number = refl;
 }

@@ -203,8 +203,7 @@ module _ (ws : List ℕ) (passes : AllYes (check-asks ws)) where
         sections = λ i l m.
             let e : getD us i 0 ≡ getD ws (i + 3) 0 = kernel-word i l (omega (arith, kernel-last)) in
             let both = words .sections (i + 3) (omega arith) (omega (arith, kernel-last, certificate-words d)) in
-            let eight = g-section Certificate d _ refl (i + 3) (omega arith) (omega (arith, kernel-last)) in
-            (
+            let eight = g-section Certificate d _ refl (i + 3) (omega arith) (omega (arith, kernel-last)) in (
               ap kindOf e ∙ both .0 ∙ eight ∙ sym (kernel-kind i l (omega (arith, kernel-last))),
               omega (arith, ap valueOf e, both .1, ap (λ (v : Values). v .p) same-values),
             );
