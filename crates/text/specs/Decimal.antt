@@ -82,6 +82,7 @@ decimal-digits = by-digits (λ n. decimal n ≡ digits 10 (length (decimal n)) n
     one n h =
         let last : n ≡ n % 10 = omega arith in
         decimal-one n h ∙ ap (λ d. code d ∷ []) last ∙ ap (λ (l : List ℕ). digits 10 (length l) n) (sym (decimal-one n h))
+
     more : (n : ℕ) → 10 ≤ n → decimal (n / 10) ≡ digits 10 (length (decimal (n / 10))) (n / 10) → decimal n ≡ digits 10 (length (decimal n)) n
     more n h e = decimal-more n h ∙ ap (λ (l : List ℕ). l ++ code (n % 10) ∷ []) e ∙ ap (λ k. digits 10 k n) (sym (length-more n h))
 
@@ -134,6 +135,7 @@ decimal-read = by-digits (λ n. read 10 (decimal n) ≡ n) one more
   where
     one : (n : ℕ) → n < 10 → read 10 (decimal n) ≡ n
     one n h = ap (read 10) (decimal-one n h) ∙ ap (λ d. 10 * 0 + d) (digit-of-code n) ∙ omega arith
+
     more : (n : ℕ) → 10 ≤ n → read 10 (decimal (n / 10)) ≡ n / 10 → read 10 (decimal n) ≡ n
     more n h e =
         ap (read 10) (decimal-more n h)
@@ -173,6 +175,7 @@ decimal-all-digits = by-digits (λ n. AllDigits (decimal n)) one more
   where
     one : (n : ℕ) → n < 10 → AllDigits (decimal n)
     one n h = subst AllDigits (sym (decimal-one n h)) (code-digit n h, tt)
+
     more : (n : ℕ) → 10 ≤ n → AllDigits (decimal (n / 10)) → AllDigits (decimal n)
     more n h all = subst AllDigits (sym (decimal-more n h)) (digits-then (decimal (n / 10)) (code (n % 10)) all (code-digit (n % 10) (omega arith)))
 
@@ -195,6 +198,7 @@ decimal-first = by-digits (λ n. 0 < n → getD (decimal n) 0 0 ≡ 48 → ⊥) 
     one : (n : ℕ) → n < 10 → 0 < n → getD (decimal n) 0 0 ≡ 48 → ⊥
     one n h pos e =
         omega (arith, ap (λ (l : List ℕ). getD l 0 0) (decimal-one n h), ap (λ t. cond t (48 + n) (87 + n)) (lt-ltb n 10 h), e)
+
     more : (n : ℕ) → 10 ≤ n → (0 < n / 10 → getD (decimal (n / 10)) 0 0 ≡ 48 → ⊥) → 0 < n → getD (decimal n) 0 0 ≡ 48 → ⊥
     more n h ih pos e =
         ih (omega arith)

@@ -16,7 +16,11 @@ fn code_of(digit: u64) -> u8
     requires { ⌜ digit < 16 ⌝ }
     ensures { λ r. ⌜ r ≡ code digit ⌝ }
 {
-    if digit < 10 { 48 + digit as u8 } else { 87 + digit as u8 }
+    if digit < 10 {
+        48 + digit as u8
+    } else {
+        87 + digit as u8
+    }
 }
 
 // The last k digits of n, from the last to the first.

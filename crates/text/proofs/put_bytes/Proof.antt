@@ -35,8 +35,7 @@ loop-less c = search needs
 loop-again : tie.Need-loop-again Inv-loop μ-loop
 loop-again c =
     let at = c .before .before .before .args in
-    let i = c .before .before .loop .i in
-    (
+    let i = c .before .before .loop .i in (
       omega arith,
       simp length-set (c .before .before .loop .inv .1),
       subst (λ (l : List ℕ). Fills l (at .out .now) (set (c .before .before .loop .out) i (getD (at .bytes .now) i 0)) (i + 1))

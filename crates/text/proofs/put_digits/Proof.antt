@@ -45,8 +45,7 @@ loop-again c =
     let at = c .before .before .before .before .args in
     let loop = c .before .before .loop in
     let j = loop .i - 1 in
-    let back : j + 1 ≡ loop .i = omega arith in
-    (
+    let back : j + 1 ≡ loop .i = omega arith in (
       omega arith,
       simp length-set (loop .inv .1),
       ap (λ v. digits (at .base) j (loop .rest / at .base) ++ drop j (set (loop .out) j v)) (c .code-of .ensures)

@@ -39,7 +39,6 @@ put-decimal-requires c κs = simp (length-take, length-drop) (omega (arith, ten 
 add-end : tie.Need-add-end
 add-end c = omega (arith, ten (c .before .before .before .before .wide .result) (omega arith), c .before .before .put-decimal .ensures .count-is)
 
-
 module _ (c : tie.After-slice-known3) where
   abbrev out : List ℕ
   out = c .before .before .before .before .before .before .before .before .before .before .before .args .out .now

@@ -59,8 +59,7 @@ loop-again c =
     let i = loop .i in
     let line = c .before .before .hex-line in
     let nine : line .result ≡ 9 = line .ensures .count-is ∙ length-hex-line 8 (c .before .before .before .before .wide .result) in
-    let more = fills-part (loop .inv .2) (length (loop .out) - 9 * i) (omega arith) (line .ensures) in
-    (
+    let more = fills-part (loop .inv .2) (length (loop .out) - 9 * i) (omega arith) (line .ensures) in (
       omega arith,
       fills-length more (omega arith),
       fills-as more

@@ -1,0 +1,78 @@
+// What each program prints for the bytes of its input: the service's answer, put into words by `text`, at the front of a lent buffer. The answer is the
+// count of the bytes.
+use services::Image;
+use services::Verdict;
+use services::Written;
+ghost use mathlib.Core.Path.{_≡_};
+ghost use Prim.Native.Nat.{_≤_};
+ghost use lib.ListN.{length};
+ghost use Rattle.text.specs.Fills.{Fills};
+ghost use Rattle.printing.specs.Printing.{writtenText, verdictText, imageText, Prints, SolveText, KernelText, CheckText, PushText};
+ghost use Rattle.printing.specs.Room.{Within};
+
+// The largest certificate has 392 words of nine characters.
+fn written_text(written: Written, words: &[u32], out: &mut [u8]) -> usize
+    requires { ⌜ Within written (length (now words)) × (length (now words) ≡ 392) × (3528 ≤ length (now out)) ⌝ }
+    ensures { λ r. ⌜ Fills (writtenText (now (words .entry)) written) (now (out .entry)) (now (out .exit)) r ⌝ }
+{
+    match written {
+        Written::Count(count) => {
+            let n = count as usize;
+            text::word_lines(&words[..n], out)
+        },
+        Written::Refused(number) => text::refused_line(number, out),
+    }
+}
+
+pub fn solve(bytes: &[u8], out: &mut [u8]) -> usize
+    requires { ⌜ 3528 ≤ length (now out) ⌝ }
+    ensures { λ r. ⌜ Prints (SolveText (now (bytes .entry))) (now (out .exit)) r ⌝ }
+{
+    let mut answer = [0u32; 392];
+    let written = sagepliers::files::solve(bytes, &mut answer);
+    written_text(written, &answer, out)
+}
+
+pub fn kernel(bytes: &[u8], out: &mut [u8]) -> usize
+    requires { ⌜ 3528 ≤ length (now out) ⌝ }
+    ensures { λ r. ⌜ Prints (KernelText (now (bytes .entry))) (now (out .exit)) r ⌝ }
+{
+    let mut answer = [0u32; 392];
+    let written = sagepliers::files::kernel(bytes, &mut answer);
+    written_text(written, &answer, out)
+}
+
+fn verdict_text(verdict: Verdict, out: &mut [u8]) -> usize
+    requires { ⌜ 19 ≤ length (now out) ⌝ }
+    ensures { λ r. ⌜ Fills (verdictText verdict) (now (out .entry)) (now (out .exit)) r ⌝ }
+{
+    match verdict {
+        Verdict::Passes => text::passes_line(out),
+        Verdict::Refused(number) => text::refused_line(number, out),
+    }
+}
+
+pub fn check(bytes: &[u8], out: &mut [u8]) -> usize
+    requires { ⌜ 19 ≤ length (now out) ⌝ }
+    ensures { λ r. ⌜ Prints (CheckText (now (bytes .entry))) (now (out .exit)) r ⌝ }
+{
+    verdict_text(sagepliers::files::check(bytes), out)
+}
+
+fn image_text(image: Image, out: &mut [u8]) -> usize
+    requires { ⌜ 19 ≤ length (now out) ⌝ }
+    ensures { λ r. ⌜ Fills (imageText image) (now (out .entry)) (now (out .exit)) r ⌝ }
+{
+    match image {
+        Image::Affine(u, v) => text::number_line(sagepliers::point_number(u, v), out),
+        Image::Infinity => text::number_line(sagepliers::files::INFINITY, out),
+        Image::Refused(number) => text::refused_line(number, out),
+    }
+}
+
+pub fn push(bytes: &[u8], out: &mut [u8]) -> usize
+    requires { ⌜ 19 ≤ length (now out) ⌝ }
+    ensures { λ r. ⌜ Prints (PushText (now (bytes .entry))) (now (out .exit)) r ⌝ }
+{
+    image_text(sagepliers::files::push_input(bytes), out)
+}
