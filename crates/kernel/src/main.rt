@@ -11,7 +11,7 @@ fn print(sheet: &[u8], text: &[u8])
 fn main() {
     let mut bytes = [0u8; 1575];
     let n = console::read(&mut bytes);
-    let mut text = [0u8; 3528];
+    let mut text = [0u8; printing::ROOM];
     let count = printing::kernel(&bytes[..n], &mut text);
     print(&bytes[..n], &text[..count]);
 }

@@ -3,16 +3,17 @@
 use services::Image;
 use services::Verdict;
 use services::Written;
-ghost use mathlib.Core.Path.{_≡_};
-ghost use Prim.Native.Nat.{_≤_};
+ghost use Prim.Native.Nat.{_*_, _≤_};
 ghost use lib.ListN.{length};
 ghost use Rattle.text.specs.Fills.{Fills};
 ghost use Rattle.printing.specs.Printing.{writtenText, verdictText, imageText, Prints, SolveText, KernelText, CheckText, PushText};
-ghost use Rattle.printing.specs.Room.{Within};
+ghost use Rattle.printing.specs.Room.{room, Within};
 
-// The largest certificate has 392 words of nine characters.
+// Room for every text: the largest certificate has 392 words, and a word's line nine characters.
+pub const ROOM: usize = 3528;
+
 fn written_text(written: Written, words: &[u32], out: &mut [u8]) -> usize
-    requires { ⌜ Within written (length (now words)) × (length (now words) ≡ 392) × (3528 ≤ length (now out)) ⌝ }
+    requires { ⌜ Within written (length (now words)) × (9 * length (now words) ≤ length (now out)) × (room ≤ length (now out)) ⌝ }
     ensures { λ r. ⌜ Fills (writtenText (now (words .entry)) written) (now (out .entry)) (now (out .exit)) r ⌝ }
 {
     match written {
@@ -25,7 +26,7 @@ fn written_text(written: Written, words: &[u32], out: &mut [u8]) -> usize
 }
 
 pub fn solve(bytes: &[u8], out: &mut [u8]) -> usize
-    requires { ⌜ 3528 ≤ length (now out) ⌝ }
+    requires { ⌜ room ≤ length (now out) ⌝ }
     ensures { λ r. ⌜ Prints (SolveText (now (bytes .entry))) (now (out .exit)) r ⌝ }
 {
     let mut answer = [0u32; 392];
@@ -34,7 +35,7 @@ pub fn solve(bytes: &[u8], out: &mut [u8]) -> usize
 }
 
 pub fn kernel(bytes: &[u8], out: &mut [u8]) -> usize
-    requires { ⌜ 3528 ≤ length (now out) ⌝ }
+    requires { ⌜ room ≤ length (now out) ⌝ }
     ensures { λ r. ⌜ Prints (KernelText (now (bytes .entry))) (now (out .exit)) r ⌝ }
 {
     let mut answer = [0u32; 392];
@@ -43,7 +44,7 @@ pub fn kernel(bytes: &[u8], out: &mut [u8]) -> usize
 }
 
 fn verdict_text(verdict: Verdict, out: &mut [u8]) -> usize
-    requires { ⌜ 19 ≤ length (now out) ⌝ }
+    requires { ⌜ room ≤ length (now out) ⌝ }
     ensures { λ r. ⌜ Fills (verdictText verdict) (now (out .entry)) (now (out .exit)) r ⌝ }
 {
     match verdict {
@@ -53,14 +54,14 @@ fn verdict_text(verdict: Verdict, out: &mut [u8]) -> usize
 }
 
 pub fn check(bytes: &[u8], out: &mut [u8]) -> usize
-    requires { ⌜ 19 ≤ length (now out) ⌝ }
+    requires { ⌜ room ≤ length (now out) ⌝ }
     ensures { λ r. ⌜ Prints (CheckText (now (bytes .entry))) (now (out .exit)) r ⌝ }
 {
     verdict_text(sagepliers::files::check(bytes), out)
 }
 
 fn image_text(image: Image, out: &mut [u8]) -> usize
-    requires { ⌜ 19 ≤ length (now out) ⌝ }
+    requires { ⌜ room ≤ length (now out) ⌝ }
     ensures { λ r. ⌜ Fills (imageText image) (now (out .entry)) (now (out .exit)) r ⌝ }
 {
     match image {
@@ -71,7 +72,7 @@ fn image_text(image: Image, out: &mut [u8]) -> usize
 }
 
 pub fn push(bytes: &[u8], out: &mut [u8]) -> usize
-    requires { ⌜ 19 ≤ length (now out) ⌝ }
+    requires { ⌜ room ≤ length (now out) ⌝ }
     ensures { λ r. ⌜ Prints (PushText (now (bytes .entry))) (now (out .exit)) r ⌝ }
 {
     image_text(sagepliers::files::push_input(bytes), out)

@@ -11,7 +11,7 @@ fn print(input: &[u8], text: &[u8])
 fn main() {
     let mut bytes = [0u8; 1583];
     let n = console::read(&mut bytes);
-    let mut text = [0u8; 19];
+    let mut text = [0u8; printing::ROOM];
     let count = printing::push(&bytes[..n], &mut text);
     print(&bytes[..n], &text[..count]);
 }

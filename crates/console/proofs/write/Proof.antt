@@ -5,10 +5,6 @@ use native.Mathlib.Omega.{arith}
 use lib.ListN.{length, drop, length-take, length-drop}
 use Rattle.console.proofs.write.Statement.{statement}
 use Rattle.console.proofs.write.Tie as tie
-use Rattle.console.proofs.write.Reads as reads
-use Rattle.console.proofs.write.Lts as lts
-use Rattle.io.proofs.count.Reads as count-reads
-use Rattle.libc.proofs.write.Reads as write-reads
 
 abbrev Inv-loop : tie.InvT-loop
 Inv-loop bytes done₀ done = done ≤ length bytes
@@ -17,7 +13,9 @@ abbrev μ-loop : tie.MeasureT-loop
 μ-loop bytes done₀ done = length bytes - done
 
 -- no more bytes are taken than are left
-inside : (c : tie.Else1 Inv-loop μ-loop) → c .before .before .before .before .before .loop .done + c .before .count .result ≤ length (c .before .before .before .before .before .before .before .args .bytes .now)
+inside : (c : tie.Else1 Inv-loop μ-loop)
+    → c .before .before .before .before .before .loop .done + c .before .count .result
+    ≤ length (c .before .before .before .before .before .before .before .args .bytes .now)
 inside c =
     let bytes = c .before .before .before .before .before .before .before .args .bytes .now in
     let done = c .before .before .before .before .before .loop .done in

@@ -33,8 +33,9 @@ same-length c = search needs
 
 returns : tie.Need-returns
 returns c =
+    let point = c .before .before .before .before in
     fills-as (c .before .before .number-line .ensures)
-    (ap (hexLine 16) (c .before .before .before .before .point-number .ensures) ∙ ap imageText (sym (c .before .before .before .before .before .before .image .given .1))) refl
+    (ap (hexLine 16) (point .point-number .ensures) ∙ ap imageText (sym (point .before .before .image .given .1))) refl
 
 same-length-2 : tie.Need-same-length-2
 same-length-2 c = search needs
