@@ -64,11 +64,13 @@ fn image_text(image: Image, out: &mut [u8]) -> usize
     requires { ⌜ room ≤ length (now out) ⌝ }
     ensures { λ r. ⌜ Fills (imageText image) (now (out .entry)) (now (out .exit)) r ⌝ }
 {
-    match image {
-        Image::Affine(u, v) => text::number_line(sagepliers::point_number(u, v), out),
-        Image::Infinity => text::number_line(sagepliers::files::INFINITY, out),
-        Image::Refused(number) => text::refused_line(number, out),
-    }
+    let Image::Affine(u, v) = image else {
+        let Image::Refused(number) = image else {
+            return text::number_line(sagepliers::files::INFINITY, out);
+        };
+        return text::refused_line(number, out);
+    };
+    text::number_line(sagepliers::point_number(u, v), out)
 }
 
 pub fn push(bytes: &[u8], out: &mut [u8]) -> usize
