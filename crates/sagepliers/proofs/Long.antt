@@ -1,4 +1,5 @@
--- A sheet of more words than any sheet has: its first words, one more than the largest certificate has, get the answer that all of them get, since questions 2 to 5 read the header alone and
+-- A sheet of more words than any sheet has: its first words, one more than the largest certificate has, get the answer that all of them get,
+-- since questions 2 to 5 read the header alone and
 -- question 6 is a no.
 -- Assumes nothing.
 use mathlib.Core.Path.{_≡_, subst}

@@ -1,4 +1,4 @@
--- `solution::divide` meets its contract. Assumes nothing.
+-- `candidate::divide` meets its contract. Assumes nothing.
 use lib.ListN.{getD}
 use borrow.Author.Needs.{needs}
 use Rattle.candidate.proofs.Steps.{quotient-is}

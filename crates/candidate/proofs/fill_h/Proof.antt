@@ -1,4 +1,4 @@
--- `solution::fill_h` meets its contract. The invariant: the words before k solve their equations.
+-- `candidate::fill_h` meets its contract. The invariant: the words before k solve their equations.
 -- Assumes nothing.
 use mathlib.Core.Path.{_≡_, subst}
 use Prim.Native.Nat.{_-_, _≤_, _<_}

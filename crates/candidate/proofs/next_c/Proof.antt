@@ -1,4 +1,4 @@
--- `solution::next_c` meets its contract. Assumes nothing.
+-- `candidate::next_c` meets its contract. Assumes nothing.
 use mathlib.Core.Path.{sym}
 use Prim.Native.Nat.{_-_}
 use native.Mathlib.Omega.{arith}

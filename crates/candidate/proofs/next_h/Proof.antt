@@ -1,4 +1,4 @@
--- `solution::next_h` meets its contract. Assumes nothing.
+-- `candidate::next_h` meets its contract. Assumes nothing.
 use native.Mathlib.Omega.{arith}
 use borrow.Author.Needs.{needs}
 use Rattle.sheet.specs.Values.{question}

@@ -1,4 +1,4 @@
--- `solution::next_s` meets its contract. Assumes nothing.
+-- `candidate::next_s` meets its contract. Assumes nothing.
 use mathlib.Core.Path.{_≡_, refl, ap, _∙_}
 use Prim.Native.Nat.{_-_, _*_}
 use native.Mathlib.Omega.{arith}

@@ -1,4 +1,5 @@
--- `expansion::expansion` meets its contract. The invariant: the words before i are residues of the coefficients, and y and z are the multiples of A and B for i. Assumes nothing.
+-- `expansion::expansion` meets its contract. The invariant: the words before i are residues of the coefficients, and y and z are the
+-- multiples of A and B for i. Assumes nothing.
 use mathlib.Core.Path.{_≡_, _∙_}
 use Prim.Native.Nat.{ℕ, _+_, _-_, _*_, _≤_, _<_}
 use native.Mathlib.Omega.{arith}
