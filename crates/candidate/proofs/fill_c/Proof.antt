@@ -9,7 +9,7 @@ use Rattle.zmod.specs.Zmod.{Zmod}
 use Rattle.zmod.specs.Residues.{poly}
 use Rattle.candidate.specs.Equations.{CAt}
 use Rattle.expansion.specs.Equations.{Solved}
-use Rattle.expansion.proofs.Stores.{solved-none, solved-more}
+use Rattle.expansion.specs.Stores.{solved-none, solved-more}
 use Rattle.candidate.proofs.Causal.{c-causal}
 use Rattle.candidate.proofs.fill_c.Statement.{statement}
 use Rattle.candidate.proofs.fill_c.Tie as tie

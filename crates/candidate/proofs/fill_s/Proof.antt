@@ -10,7 +10,7 @@ use Rattle.zmod.specs.Residues.{poly}
 use Rattle.sheet.specs.Values.{question}
 use Rattle.candidate.specs.Equations.{SAt}
 use Rattle.expansion.specs.Equations.{Solved}
-use Rattle.expansion.proofs.Stores.{solved-none, solved-more}
+use Rattle.expansion.specs.Stores.{solved-none, solved-more}
 use Rattle.candidate.proofs.Causal.{s-causal}
 use Rattle.candidate.proofs.fill_s.Statement.{statement}
 use Rattle.candidate.proofs.fill_s.Tie as tie

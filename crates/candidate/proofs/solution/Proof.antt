@@ -6,7 +6,7 @@ use borrow.Author.Needs.{needs}
 use Rattle.candidate.specs.Equations.{HAt, SAt, CAt}
 use Rattle.expansion.specs.Equations.{Solved}
 use Rattle.candidate.proofs.Only.{answer}
-use Rattle.expansion.proofs.Stores.{solved-all}
+use Rattle.expansion.specs.Stores.{solved-all}
 use Rattle.sheet.specs.Values.{question}
 use Rattle.zmod.specs.Zmod.{Zmod}
 use Rattle.zmod.specs.Residues.{poly}

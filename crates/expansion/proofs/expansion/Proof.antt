@@ -13,7 +13,7 @@ use Rattle.isogeny.specs.Expansion.{expansion}
 use Rattle.zmod.specs.Residues.{Residue, poly, residues-filled, residue-self}
 use Rattle.zmod.specs.Zmod.{Zmod}
 use Rattle.expansion.specs.Multiple.{Multiple}
-use Rattle.expansion.proofs.Steps.{none, once, two-more}
+use Rattle.expansion.proofs.Turns.{none, once, two-more}
 use Rattle.expansion.proofs.expansion.Statement.{statement}
 use Rattle.expansion.proofs.expansion.Tie as tie
 

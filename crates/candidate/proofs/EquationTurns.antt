@@ -17,8 +17,8 @@ use Rattle.isogeny.specs.Expansion.{recurrence, from-sums}
 use Rattle.isogeny.specs.Proof.Terms.{recurrence-same}
 use Rattle.field.specs.Inverse.{InverseOf}
 use Rattle.expansion.specs.Equations.{Solves}
-use Rattle.expansion.proofs.Stores.{stored-before, stored-at}
-use Rattle.expansion.proofs.Parts.{part-at, take-at}
+use Rattle.expansion.specs.Stores.{stored-before, stored-at}
+use Rattle.expansion.specs.Parts.{part-at, take-at}
 use Rattle.candidate.specs.Equations.{HAt, SAt, CAt, Quotient}
 use Rattle.candidate.proofs.Causal.{newton-same}
 use Rattle.candidate.proofs.Products.{newton-whole}

@@ -21,9 +21,9 @@ use Rattle.zmod.specs.Residues.{Residue, poly, poly-at, poly-past, residue-self
 use Rattle.isogeny.specs.Expansion.{sum-to, recurrence, Recurs, expansion, newton-step}
 use Rattle.expansion.specs.Equations.{SumAt, Solves}
 use Rattle.expansion.specs.Multiple.{Multiple}
-use Rattle.expansion.proofs.Stores.{stored-before, stored-at}
-use Rattle.expansion.proofs.Parts.{part-at, part-past, rev-twice}
-use Rattle.expansion.proofs.Products.{newton-part, square-part, newton-step-at, newton-step-zero, expansion-above}
+use Rattle.expansion.specs.Stores.{stored-before, stored-at}
+use Rattle.expansion.specs.Parts.{part-at, part-past, rev-twice}
+use Rattle.expansion.specs.Products.{newton-part, square-part, newton-step-at, newton-step-zero, expansion-above}
 
 -- ── equality, and a bound
 

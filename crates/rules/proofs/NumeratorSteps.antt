@@ -16,23 +16,12 @@ use Rattle.zmod.specs.Residues.{Residue, Reduced, poly, poly-at, poly-past, Res
 use Rattle.isogeny.specs.Rules.{N}
 use Rattle.sheet.specs.declared.Values.{Values}
 use Rattle.sheet.specs.Values.{half, question}
-use Rattle.rules.specs.Degrees.{below-∂, below-conv}
+use Rattle.rules.specs.Degrees.{below-∂}
 use Rattle.rules.specs.Numerator.{shifted, shifted-low, shifted-high, lowered, lowered-at, lowered-below, bent, joined, joined-at, N-is}
 use Rattle.sheet.specs.Ready.{Ready, degree-half}
-use Rattle.rules.specs.Words.{Whole, whole, whole-same}
+use Rattle.rules.specs.Words.{Whole, whole, whole-same, from-derivative, from-product}
 
 module _ (p : ℕ) where
-  -- ── one call
-
-  pub from-derivative : (a out : List ℕ) → length a ≤ length out + 1 → Residues p (∂ (Zmod p) (poly p a)) out → Whole p (∂ (Zmod p) (poly p a)) out
-  from-derivative a out le h = whole h (below-∂ (Zmod p) (poly p a) (omega arith) (poly-past p a))
-
-  pub from-product : (a b out : List ℕ) → length a + length b ≤ length out + 1 → Residues p (conv (Zmod p) (poly p a) (poly p b)) out
-      → Whole p (conv (Zmod p) (poly p a) (poly p b)) out
-  from-product a b out le h = whole h (below-conv (Zmod p) (length a) (length b) (poly p a) (poly p b) (omega arith) (poly-past p a) (poly-past p b))
-
-  -- ── R2
-
   -- a coefficient of −2(s′ − 4t), from 2(i + 1)(−s_(i+1)) + 8t_i
   pub lower-is : (s t : List ℕ) (i a x r : ℕ) → Residue p (minus p (mk p (getD s (i + 1) 0))) a → x ≡ 2 * (i + 1) * a + 8 * getD t i 0 + 0 * 0
       → Residue p (mk p x) r → Residue p (lowered (Zmod p) (∂ (Zmod p) (poly p s)) (poly p t) i) r
@@ -70,7 +59,7 @@ module _ (p : ℕ) where
   unfolding bent
   bend-steps g s h hh o l₁ l₂ l₃ l₄ r₁ r₂ r₃ =
       whole-same
-      (ap (lowered (Zmod p) (∂ (Zmod p) (poly p s))) (from-product h h hh (omega arith) r₂ .same ∙ ap (λ a. conv (Zmod p) a a) (from-derivative g h (omega arith) r₁ .same)))
+      (ap (lowered (Zmod p) (∂ (Zmod p) (poly p s))) (from-product p h h hh (omega arith) r₂ .same ∙ ap (λ a. conv (Zmod p) a a) (from-derivative p g h (omega arith) r₁ .same)))
       (whole r₃ (lowered-below (Zmod p) (length o) (∂ (Zmod p) (poly p s)) (poly p hh) (below-∂ (Zmod p) (poly p s) (omega arith) (poly-past p s)) (λ i k. poly-past p hh i (omega arith))))
 
 module _ (v : Values) where

@@ -16,8 +16,7 @@ use Rattle.isogeny.specs.Rules.{W, f, left, right}
 use Rattle.sheet.specs.declared.Values.{Values}
 use Rattle.sheet.specs.Values.{half, question}
 use Rattle.rules.specs.Numerator.{scaled-minus}
-use Rattle.rules.specs.Words.{Whole, whole, whole-same}
-use Rattle.rules.proofs.Steps.{from-derivative, from-product}
+use Rattle.rules.specs.Words.{Whole, whole, whole-same, from-derivative, from-product}
 use Rattle.equation.specs.Sides.{factor, terms, crossed, right-is, W-is, W-below, left-is}
 
 module _ (p : ℕ) where
