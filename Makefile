@@ -92,8 +92,7 @@ uninstall: paths
 	-[ ! -d "$(DESTDIR)$(EXAMPLEDIR)" ] || rmdir "$(DESTDIR)$(EXAMPLEDIR)"
 	-[ ! -d "$(DESTDIR)$(DOCDIR)" ] || rmdir "$(DESTDIR)$(DOCDIR)"
 
-# The programs are tested if they are built; the scripts say so where they are not.
-check-package: library
-	SAGEPLIERS_LIB_DIR="$(dir $(LIBRARY))" SAGEPLIERS_BIN_DIR="$(if $(wildcard $(BIN)/answer),$(BIN))" tests/package.sh
+check-package: library programs
+	SAGEPLIERS_LIB_DIR="$(dir $(LIBRARY))" SAGEPLIERS_BIN_DIR="$(BIN)" tests/package.sh
 	$(PYTHON) tests/sheets_test.py
-	SAGEPLIERS_LIB_DIR="$(dir $(LIBRARY))" SAGEPLIERS_BIN_DIR="$(if $(wildcard $(BIN)/answer),$(BIN))" $(PYTHON) tests/tutorial.py
+	SAGEPLIERS_LIB_DIR="$(dir $(LIBRARY))" SAGEPLIERS_BIN_DIR="$(BIN)" $(PYTHON) tests/tutorial.py

@@ -1,30 +1,17 @@
 #!/bin/sh
 # Compares kernel, solve, push and name with PARI/GP: some 5,000 kernels of every
-# odd degree, and points and j-values with them. Installs pari-gp where it is
-# missing; where that fails the comparison is skipped, and the last line says so.
-# SAGEPLIERS_LIB_DIR names the directory of libsagepliers.a, by default the one
-# that rt writes.
+# odd degree, and points and j-values with them. SAGEPLIERS_LIB_DIR names the
+# directory of libsagepliers.a. Without gp it fails; needs.sh installs it.
 set -eu
 here=$(pwd)
 cd "$(dirname "$0")"
 . ./environment.sh
 
-# Without a network apt-get may wait for long.
-packages() {
-    DEBIAN_FRONTEND=noninteractive timeout 180 apt-get "$@" >&2
-}
-
 if ! command -v gp >/dev/null; then
-    packages install -y --no-install-recommends pari-gp ||
-        { packages update && packages install -y --no-install-recommends pari-gp; } || true
+    echo "PARI/GP: FAILED: there is no gp, so nothing was compared with it; tests/needs.sh installs it (Debian's pari-gp)" >&2
+    exit 1
 fi
-if ! command -v gp >/dev/null; then
-    echo "PARI/GP IS MISSING AND CANNOT BE INSTALLED: NOTHING WAS COMPARED WITH IT" >&2
-    echo "PARI/GP: SKIPPED, gp is missing"
-    exit 0
-fi
-
-library_in "${SAGEPLIERS_LIB_DIR:-$CARGO_TARGET_DIR/../staticlib}"
+need_library
 cargo build -q -j1 --release -p pari
 script=$CARGO_TARGET_DIR/pari.gp
 if ! "$CARGO_TARGET_DIR/release/pari" "$script"; then
