@@ -222,7 +222,7 @@ about() {
 prints() {
     printf '%s\n' "$2" >expected
     "$prefix/bin/sagepliers-$1" <"$3" >out || fail "$1 ended with $?"
-    diff expected out || fail "$1 printed something else"
+    diff expected out || fail "$1 printed something else on $3 ($(stat -c %s "$3") bytes)"
 }
 
 # refused NUMBER WORDS..: host, verify and push refuse the certificate with the number, and the host's line says what the question is about.
