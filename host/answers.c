@@ -53,7 +53,7 @@ bool take_sheet(struct argp_state *state, const struct options *options, enum fo
     int64_t first = 0, stray_number = 0;
     const char *name = options->count == 0 ? "-" : plain(options->arguments[0]);
     if (options->count <= 1 && !read_number(name, strlen(name), &first)) {
-        struct problem problem = read_sheet(name, form, options->writing, sheet);
+        struct problem problem = read_sheet(name, false, form, options->writing, sheet);
         if (problem.trouble != NO_TROUBLE)
             complain("%s: %s", input_name(name), problem_text(problem));
         return problem.trouble == NO_TROUBLE;

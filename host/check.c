@@ -38,6 +38,7 @@ static const struct argp_option option_table[] = {
 /* A file and what was found of it. */
 struct item {
     char *name;
+    bool in_folder;
     struct problem problem;
     uint32_t verdict;
 };
@@ -51,6 +52,7 @@ struct call {
     size_t filled;
     atomic_size_t next, judged; /* of the window: the next item to take, and how many have been judged */
     size_t files, refused, unread;
+    size_t left_out; /* links to folders that were not followed */
     struct timespec told; /* when progress was last shown */
 };
 
@@ -102,7 +104,7 @@ static void judge(struct call *call, bool main_thread)
         if (sheet == NULL)
             item->problem = (struct problem){SYSTEM_ERROR, ENOMEM};
         else if (item->problem.trouble == NO_TROUBLE)
-            item->problem = read_sheet(item->name, CERTIFICATE, call->options.writing, sheet);
+            item->problem = read_sheet(item->name, item->in_folder, CERTIFICATE, call->options.writing, sheet);
         if (item->problem.trouble == NO_TROUBLE)
             item->verdict = sagepliers_check(sheet->bytes, sheet->count);
         atomic_fetch_add(&call->judged, 1);
@@ -139,7 +141,7 @@ static void put_item(const struct call *call, const struct item *item)
     bool read = item->problem.trouble == NO_TROUBLE;
     if (!read)
         complain("%s: %s", input_name(item->name), problem_text(item->problem));
-    if (call->options.quiet)
+    if (call->options.quiet || item->problem.trouble == LINK_TO_FOLDER)
         return;
     if (call->options.view == AS_JSON) {
         putchar('{');
@@ -161,6 +163,16 @@ static void put_item(const struct call *call, const struct item *item)
     }
 }
 
+static void count_item(struct call *call, const struct item *item)
+{
+    switch (item->problem.trouble) {
+    case LINK_TO_FOLDER: call->left_out++; return;
+    case NO_TROUBLE: call->refused += item->verdict != 0; break;
+    default: call->unread++; break;
+    }
+    call->files++;
+}
+
 /* Judges what is gathered and prints it. Returns false if nobody can read the answers any more. */
 static bool close_window(struct call *call)
 {
@@ -170,9 +182,7 @@ static bool close_window(struct call *call)
         show_progress(call, true);
     for (size_t i = 0; i < call->filled; i++) {
         struct item *item = &call->window[i];
-        call->files++;
-        call->unread += item->problem.trouble != NO_TROUBLE;
-        call->refused += item->problem.trouble == NO_TROUBLE && item->verdict != 0;
+        count_item(call, item);
         put_item(call, item);
         free(item->name);
     }
@@ -180,10 +190,10 @@ static bool close_window(struct call *call)
     return !output_failed();
 }
 
-static bool gather(void *context, const char *name, struct problem problem)
+static bool gather(void *context, const char *name, bool in_folder, struct problem problem)
 {
     struct call *call = context;
-    call->window[call->filled++] = (struct item){need(strdup(name)), problem, 0};
+    call->window[call->filled++] = (struct item){need(strdup(name)), in_folder, problem, 0};
     return call->filled < WINDOW || close_window(call);
 }
 
@@ -193,8 +203,8 @@ static void put_summary(const struct call *call)
     printf(", %zu refused", call->refused);
     if (call->unread > 0)
         printf(", %zu not read", call->unread);
-    if (call->walk.left_out > 0)
-        printf("; %zu link%s to folders left out", call->walk.left_out, call->walk.left_out == 1 ? "" : "s");
+    if (call->left_out > 0)
+        printf("; %zu link%s to folders left out", call->left_out, call->left_out == 1 ? "" : "s");
     putchar('\n');
 }
 

@@ -25,19 +25,19 @@ static struct problem system_error(void)
     return (struct problem){SYSTEM_ERROR, errno};
 }
 
-/* Reads until the end or until the buffer is full. */
-static bool read_to_end(int file, uint8_t *bytes, size_t room, size_t *count)
+/* Reads until the end or until the buffer is full. A short read of a regular file has reached its end. */
+static bool read_to_end(int file, bool regular, uint8_t *bytes, size_t *count)
 {
     *count = 0;
-    while (*count < room) {
-        ssize_t got = read(file, bytes + *count, room - *count);
+    while (*count < LONGEST_INPUT) {
+        ssize_t got = read(file, bytes + *count, LONGEST_INPUT - *count);
         if (got < 0 && errno == EINTR)
             continue;
         if (got < 0)
             return false;
-        if (got == 0)
-            break;
         *count += (size_t)got;
+        if (got == 0 || regular)
+            break;
     }
     return true;
 }
@@ -55,20 +55,30 @@ static struct problem cut(int file, size_t *count)
     return problem(NO_TROUBLE);
 }
 
-static struct problem read_bytes(const char *name, uint8_t *bytes, size_t *count, bool *whole)
+static struct problem read_open(int file, bool in_folder, uint8_t *bytes, size_t *count, bool *whole)
 {
-    bool standard = strcmp(name, "-") == 0;
-    int file = standard ? STDIN_FILENO : open(name, O_RDONLY | O_CLOEXEC | O_NOCTTY);
-    if (file == -1)
+    struct stat status;
+    if (fstat(file, &status) != 0)
         return system_error();
-    struct problem found = problem(NO_TROUBLE);
-    if (!read_to_end(file, bytes, LONGEST_INPUT, count))
-        found = system_error();
+    bool regular = S_ISREG(status.st_mode);
+    if (in_folder && !regular)
+        return problem(S_ISDIR(status.st_mode) ? LINK_TO_FOLDER : NOT_A_FILE);
+    if (!read_to_end(file, regular, bytes, count))
+        return system_error();
     *whole = *count < LONGEST_INPUT;
-    if (found.trouble == NO_TROUBLE && !*whole)
-        found = cut(file, count);
-    if (!standard)
-        close(file);
+    return *whole ? problem(NO_TROUBLE) : cut(file, count);
+}
+
+static struct problem read_bytes(const char *name, bool in_folder, uint8_t *bytes, size_t *count, bool *whole)
+{
+    if (!in_folder && strcmp(name, "-") == 0)
+        return read_open(STDIN_FILENO, false, bytes, count, whole);
+    /* Opening a pipe in a folder must not wait for somebody to write. */
+    int file = open(name, O_RDONLY | O_CLOEXEC | O_NOCTTY | (in_folder ? O_NONBLOCK : 0));
+    if (file == -1)
+        return in_folder && errno == ENXIO ? problem(NOT_A_FILE) : system_error(); /* a socket */
+    struct problem found = read_open(file, in_folder, bytes, count, whole);
+    close(file);
     return found;
 }
 
@@ -145,10 +155,10 @@ static struct problem read_text(const char *text, size_t count, enum form form, 
     return problem(sheet_of_numbers(form, numbers, found, sheet, &stray) ? NO_TROUBLE : NUMBER_TOO_LARGE);
 }
 
-struct problem read_sheet(const char *name, enum form form, enum writing writing, struct sheet *sheet)
+struct problem read_sheet(const char *name, bool in_folder, enum form form, enum writing writing, struct sheet *sheet)
 {
     bool whole = false;
-    struct problem found = read_bytes(name, sheet->bytes, &sheet->count, &whole);
+    struct problem found = read_bytes(name, in_folder, sheet->bytes, &sheet->count, &whole);
     if (found.trouble != NO_TROUBLE)
         return found;
     if (!looks_like_text(sheet->bytes, sheet->count))
@@ -167,6 +177,7 @@ const char *problem_text(struct problem problem)
     case NO_TROUBLE: return "nothing is wrong";
     case SYSTEM_ERROR: return strerror(problem.error);
     case NOT_A_FILE: return "neither a file nor a folder";
+    case LINK_TO_FOLDER: return "a link to a folder, left out (--follow goes there)";
     case TOO_LONG: return "longer than any sheet, and not read to its end";
     case NO_SHEET: return "this looks like text, and not like a sheet: neither hexadecimal words nor decimal numbers";
     case FOUND_HEX: return "this looks like hexadecimal text (--input=hex reads it)";

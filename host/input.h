@@ -12,6 +12,7 @@ enum trouble {
     NO_TROUBLE,
     SYSTEM_ERROR,    /* `error` has its number */
     NOT_A_FILE,      /* a device, a pipe or a socket in a folder */
+    LINK_TO_FOLDER,  /* in a folder, where links to folders are not followed */
     TOO_LONG,        /* more than any sheet, with no end in sight */
     NO_SHEET,        /* text, and neither hexadecimal words nor decimal numbers */
     FOUND_HEX,       /* hexadecimal words where something else is wanted */
@@ -25,8 +26,9 @@ struct problem {
     int error;
 };
 
-/* Reads the sheet in a file, or in standard input if the name is "-". Decimal numbers become a sheet of the form. */
-struct problem read_sheet(const char *name, enum form form, enum writing writing, struct sheet *sheet);
+/* Reads the sheet in a file, or in standard input if the name is "-". Decimal numbers become a sheet of the form. What was found in a folder is taken
+ * only if it is a regular file; what somebody has named may be a pipe or a device too. */
+struct problem read_sheet(const char *name, bool in_folder, enum form form, enum writing writing, struct sheet *sheet);
 
 /* What is wrong, as the end of a sentence. */
 const char *problem_text(struct problem problem);

@@ -56,7 +56,7 @@ static void take_all(struct argp_state *state, struct call *call)
     if (options->count < 2)
         argp_error(state, options->count == 0 ? "a certificate and points are missing" : "points are missing");
     const char *name = plain(options->arguments[0]);
-    struct problem problem = read_sheet(name, CERTIFICATE, options->writing, call->sheet);
+    struct problem problem = read_sheet(name, false, CERTIFICATE, options->writing, call->sheet);
     if (problem.trouble != NO_TROUBLE) {
         complain("%s: %s", input_name(name), problem_text(problem));
         return;
