@@ -14,5 +14,5 @@ make --no-print-directory command >/dev/null
 work=$(mktemp -d)
 trap 'rm -rf "$work"' EXIT
 cc -std=c11 -O2 -Iinclude bench/check_loop.c target/host/libsagepliers.a -o "$work/loop"
-WORK=$work ROUNDS=$rounds COMMAND=$root/target/host/sagepliers LIBRARY=$root/target/host/libsagepliers.so.$(sed -n 's/^.define SAGEPLIERS_VERSION "\(.*\)"/\1/p' \
-    include/sagepliers.h) python3 bench/check.py
+version=$(sed -n 's/^.define SAGEPLIERS_VERSION "\(.*\)"/\1/p' include/sagepliers.h)
+WORK=$work ROUNDS=$rounds COMMAND=$root/target/host/sagepliers LIBRARY=$root/target/host/libsagepliers.so.$version python3 bench/check.py

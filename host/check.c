@@ -237,8 +237,8 @@ enum status command_check(int argc, char **argv)
     const struct argp argp = {option_table, parse, "[FILE|FOLDER...]",
                               "Checks certificates: says of each that is refused which question it fails first.\v"
                               "Of a folder all files are checked, also those in folders in it. Without arguments, and where one is `-', standard input is the "
-                              "certificate. A file that is not read (no permission, or text that is no sheet) is said on standard error and makes the status 2, "
-                              "as does having no file at all. Names that do not fit on one line are shown as the shell's $'..'.",
+                              "certificate. A file that is not read (no permission, or text that is no sheet) is said on standard error and makes the "
+                              "status 2, as does having no file at all. Names that do not fit on one line are shown as the shell's $'..'.",
                               NULL, NULL, NULL};
     call->jobs = 1;
     call->walk.found = gather;

@@ -38,14 +38,14 @@ if [ -n "${SAGEPLIERS_BIN_DIR:-}" ]; then
         [ -x "$bin/$name" ] || fail "no program $name in $bin"
     done
 fi
-for tool in "$CC" "$CXX" make nm readelf cmp; do
+for tool in "$CC" "$CXX" make ar nm readelf cmp; do
     command -v "$tool" >/dev/null || fail "$tool is missing"
 done
 cd "$root"
 
 # RT=false: nothing that is built already may be built again.
 install() {
-    make --no-print-directory RT=false LIBRARY="$lib/libsagepliers.a" ${bin:+BIN="$bin"} "$@"
+    make --no-print-directory RT=false LIBRARY="$lib/libsagepliers.a" ${bin:+BIN="$bin"} BUILD="$work/build" "$@"
 }
 
 # Bytes of words given in hexadecimal, lowest byte first.
@@ -86,8 +86,8 @@ install install-library install-tools ${bin:+install-programs} DESTDIR="$stage" 
     echo ./prefix/lib/pkgconfig/sagepliers.pc
     echo ./prefix/include/sagepliers.h
     echo ./prefix/bin/sagepliers-sheets
-    echo ./prefix/share/doc/sagepliers/TUTORIAL.md
-    echo ./prefix/share/doc/sagepliers/examples/host.c
+    printf './prefix/share/doc/sagepliers/%s\n' CHANGELOG.md LICENSE SPECIFICATION.md TRUST.md TUTORIAL.md
+    printf './prefix/share/doc/sagepliers/examples/%s\n' host.c host.py kernel.c name.c solve.c
     [ -z "$bin" ] || printf './prefix/bin/sagepliers-%s\n' answer kernel verify push
 } | sort >"$work/wanted"
 diff "$work/wanted" "$work/installed" || fail "the installed files are not those wanted"
@@ -110,9 +110,9 @@ for left in "$work/no" relative; do
 done
 
 step "make builds with rt what is missing, and only that"
-# A copy without target/, and in place of rt a script that notes its words and makes empty files where rt would build.
+# A copy without target/, and in place of rt a script that notes its words and makes empty files where rt would build. The command is not built of these.
 mkdir "$work/copy"
-cp -R Makefile sagepliers.pc.in include tools docs examples "$work/copy"
+cp -R Makefile TOOLCHAIN LICENSE CHANGELOG.md sagepliers.pc.in include host tools docs examples "$work/copy"
 cat >"$work/copy/rt" <<'SH'
 #!/bin/sh
 echo "$*" >>calls
@@ -127,13 +127,13 @@ chmod +x "$work/copy/rt"
     cd "$work/copy"
     make RT=false PREFIX="$work/no" install >log 2>&1 && fail "make installs though rt failed"
     [ ! -e "$work/no/lib" ] || fail "make installed though rt failed"
-    make RT=./rt >log 2>&1 || { cat log; fail "make"; }
+    make RT=./rt proved >log 2>&1 || { cat log; fail "make proved"; }
     printf '%s\n' 'staticlib sagepliers' 'check answer kernel verify push' >wanted
     diff wanted calls || fail "make called rt with other words"
-    make RT=./rt all >log 2>&1 || { cat log; fail "make, once more"; }
+    make RT=./rt proved >log 2>&1 || { cat log; fail "make proved, once more"; }
     diff wanted calls || fail "make built again what is built"
     rm target/bin/verify
-    make RT=./rt >log 2>&1 || { cat log; fail "make, with a program missing"; }
+    make RT=./rt proved >log 2>&1 || { cat log; fail "make proved, with a program missing"; }
     echo 'check answer kernel verify push' >>wanted
     diff wanted calls || fail "make did not build the missing program"
     make RT=./rt rebuild >log 2>&1 || { cat log; fail "make rebuild"; }
@@ -144,7 +144,10 @@ chmod +x "$work/copy/rt"
 step "install for the hosts"
 prefix=$work/prefix
 install install-library install-tools PREFIX="$prefix" >"$work/log" 2>&1 || { cat "$work/log"; fail "install"; }
-cmp "$lib/libsagepliers.a" "$prefix/lib/libsagepliers.a" || fail "another library was installed"
+# The installed archive has one object more, meaning.o.
+ar p "$lib/libsagepliers.a" >"$work/proved"
+ar p "$prefix/lib/libsagepliers.a" | head -c "$(wc -c <"$work/proved")" | cmp - "$work/proved" || fail "another library was installed"
+[ "$(ar t "$prefix/lib/libsagepliers.a" | tail -n 1)" = meaning.o ] || fail "the installed library has no meaning.o"
 
 # ---- what pkg-config says
 
@@ -208,7 +211,7 @@ about() {
     3) echo 'prime from 11 to 2^28 - 1' ;;
     4) echo 'odd, from 3 to 255' ;;
     5) echo 'below p' ;;
-    6) echo 'exactly those of a certificate' ;;
+    6) echo 'exactly those of the sheet' ;;
     7) echo 'singular' ;;
     8) echo 'R1' ;;
     9) echo 'R2' ;;

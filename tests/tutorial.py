@@ -98,9 +98,10 @@ def main():
             for name in PROGRAMS:
                 call("cc", "-std=c11", "-O2", "-Iinclude", "tests/stand_in.c", library, "-o", os.path.join(programs, name))
         # RT=false: what is built already may not be built again.
-        call("make", "RT=false", f"PREFIX={prefix}", f"LIBRARY={library}", f"BIN={programs}", "install")
+        call("make", "RT=false", f"PREFIX={prefix}", f"LIBRARY={library}", f"BIN={programs}", f"BUILD={work}/build", "install")
         environment = dict(os.environ, LC_ALL="C.UTF-8", PATH=os.path.join(prefix, "bin") + os.pathsep + os.environ["PATH"])
         environment["PKG_CONFIG_PATH"] = os.path.join(prefix, "lib", "pkgconfig")
+        environment["LD_LIBRARY_PATH"] = os.path.join(prefix, "lib")
         if shutil.which("pkg-config") is None:
             print("tutorial: THERE IS NO PKG-CONFIG: tests/pkg_config.sh reads the file in its place")
             shutil.copy(os.path.join(ROOT, "tests", "pkg_config.sh"), os.path.join(prefix, "bin", "pkg-config"))

@@ -15,7 +15,8 @@ load common
     tar -C elsewhere -xzf once.tar.gz
     cd "elsewhere/$name"
     sha256sum --quiet -c SHA256SUMS
-    for file in bin/sagepliers bin/sagepliers-answer lib/libsagepliers.a lib/libsagepliers.so.0 include/sagepliers.h share/man/man1/sagepliers.1 LICENSE TOOLCHAIN; do
+    for file in bin/sagepliers bin/sagepliers-answer lib/libsagepliers.a lib/libsagepliers.so.0 include/sagepliers.h share/man/man1/sagepliers.1 LICENSE \
+        TOOLCHAIN; do
         [ -e "$file" ] || say "no $file in the archive"
     done
     [ "$(bin/sagepliers name 1009 1 3)" = 269 ]

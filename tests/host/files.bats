@@ -168,7 +168,8 @@ PY
 
 @test "names with blanks, line feeds, leading dashes, quotes, and bytes that are no UTF-8" {
     mkdir odd
-    for name in 'a b' $'line\nfeed' '-dash' '--json' "quote'" 'back\slash' '"double"' $'\033[31mred' $'bad\xff\xfe' $'\xc3\xa9t\xc3\xa9' '$home' "\$'x'" '-23' 1009 infinity; do
+    for name in 'a b' $'line\nfeed' '-dash' '--json' "quote'" 'back\slash' '"double"' $'\033[31mred' \
+        $'bad\xff\xfe' $'\xc3\xa9t\xc3\xa9' '$home' "\$'x'" '-23' 1009 infinity; do
         cp question.bin "odd/$name"
     done
     run --separate-stderr sagepliers check odd
@@ -222,7 +223,8 @@ PY
 
 @test "a full disk" {
     for command in 'solve 1009 1 3 265 877 3 46' 'solve 1009 1 3 265 877 3 46 -o -' 'solve 1009 1 3 265 877 3 48' 'kernel kernel.bin' 'check first.bin' \
-        'check question.bin' 'check --json first.bin' 'push first.bin 1008 1' 'name 1009 1 3' 'show first.bin' '--help' '--version' 'check --help' 'show --usage'; do
+        'check question.bin' 'check --json first.bin' 'push first.bin 1008 1' 'name 1009 1 3' 'show first.bin' \
+        '--help' '--version' 'check --help' 'show --usage'; do
         got=0
         # shellcheck disable=SC2086
         sagepliers $command >/dev/full 2>err || got=$?

@@ -149,7 +149,8 @@ completes() {
     for name in answer kernel verify push; do
         [ -x "$SAGEPLIERS_BIN_DIR/$name" ] || say "no program $name in $SAGEPLIERS_BIN_DIR"
     done
-    for numbers in '1009 1 3 265 877 3 46' '1009 1 3 265 877 3 48' '1009 1 3 81 169 9 0' '11 0 1 0 6 3 0' '1001 1 3 265 877 3 46' '1009 0 0 1 1 3 1' '1009 1 1009 1 1 3 1'; do
+    for numbers in '1009 1 3 265 877 3 46' '1009 1 3 265 877 3 48' '1009 1 3 81 169 9 0' '11 0 1 0 6 3 0' '1001 1 3 265 877 3 46' \
+        '1009 0 0 1 1 3 1' '1009 1 1009 1 1 3 1'; do
         # shellcheck disable=SC2086
         sagepliers show -q -o question.bin $numbers
         "$SAGEPLIERS_BIN_DIR/answer" <question.bin >wanted
