@@ -16,7 +16,8 @@ mv "$work/stage/prefix" "$work/$name"
 cp README.md LICENSE CHANGELOG.md TOOLCHAIN "$work/$name"
 # shellcheck disable=SC2016
 sed -i -e 's|^prefix=.*|prefix=${pcfiledir}/../..|' -e 's|=/prefix/|=${prefix}/|' "$work/$name/lib/pkgconfig/sagepliers.pc"
-(cd "$work/$name" && find . -type f ! -name SHA256SUMS -print | LC_ALL=C sort | sed 's|^\./||' | tr '\n' '\0' | xargs -0 sha256sum >SHA256SUMS)
+(cd "$work/$name" && find . -type f | LC_ALL=C sort | sed 's|^\./||' | tr '\n' '\0' | xargs -0 sha256sum) >"$work/sums"
+mv "$work/sums" "$work/$name/SHA256SUMS"
 mkdir -p target
 tar -C "$work" --sort=name --owner=0 --group=0 --numeric-owner --mode=go=rX,u+rw --mtime="@${SOURCE_DATE_EPOCH:-1794700800}" -cf "$work/dist.tar" "$name"
 gzip -n -9 -c "$work/dist.tar" >"target/$name.tar.gz"

@@ -1,7 +1,7 @@
 # Completion of the command sagepliers for bash: subcommands, options, and files where a sheet is wanted.
 
 _sagepliers() {
-    local current=${COMP_WORDS[COMP_CWORD]} previous=${COMP_WORDS[COMP_CWORD - 1]} command= word options=
+    local current=${COMP_WORDS[COMP_CWORD]} previous=${COMP_WORDS[COMP_CWORD - 1]} command='' word='' options=''
     local common='--json --quiet --help --usage --version'
     COMPREPLY=()
 
