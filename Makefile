@@ -71,7 +71,7 @@ rebuild:
 ## ---- the command and the libraries around the proved archive
 
 STRICT = -std=c11 -Wall -Wextra -Wpedantic -Wconversion -Wshadow
-COMPILE = $(CC) $(STRICT) $(CFLAGS) -fPIC -Iinclude -DTOOLCHAIN='"$(TOOLCHAIN)"'
+COMPILE = $(CC) $(STRICT) $(CFLAGS) -fPIC -Iinclude -DTOOLCHAIN="\"$(TOOLCHAIN)\""
 SOURCES = $(filter-out host/meaning.c,$(wildcard host/*.c))
 OBJECTS = $(SOURCES:host/%.c=$(BUILD)/%.o)
 ARCHIVE = $(BUILD)/libsagepliers.a
@@ -80,12 +80,17 @@ SHARED = $(BUILD)/libsagepliers.so.$(VERSION)
 ## command          the command sagepliers, and the libraries for hosts, in target/host
 command: $(BUILD)/sagepliers $(ARCHIVE) $(SHARED)
 
-$(BUILD)/%.o: host/%.c $(wildcard host/*.h) include/sagepliers.h TOOLCHAIN Makefile
+# Beside the sources: which library, which compiler, which flags. The file is new only when one of them is another, whatever the dates of files say.
+$(BUILD)/inputs: library
 	@mkdir -p $(BUILD)
+	@{ cksum < "$(LIBRARY)" && echo '$(COMPILE) $(LDFLAGS) $(AR)'; } > $@.new
+	@if cmp -s $@.new $@; then rm $@.new; else mv $@.new $@; fi
+
+$(BUILD)/%.o: host/%.c $(wildcard host/*.h) include/sagepliers.h $(BUILD)/inputs
 	$(COMPILE) -c $< -o $@
 
 # The proved objects as they are, and meaning.o beside them. D: no dates and no owners, so that equal inputs give equal archives.
-$(ARCHIVE): $(BUILD)/meaning.o $(wildcard $(LIBRARY)) | library
+$(ARCHIVE): $(BUILD)/meaning.o
 	@rm -f $@.new
 	cp "$(LIBRARY)" $@.new
 	chmod u+w $@.new
@@ -180,17 +185,23 @@ demo: command
 test:
 	.ci/run
 
-## test-quick       tests of the package and of the command, and a short comparison; two minutes once all is built
-test-quick: check-package
-	SAGEPLIERS_LIB_DIR="$(dir $(LIBRARY))" tests/run.sh --quick
+# Where the scripts find what was built.
+BUILT = SAGEPLIERS_LIB_DIR="$(dir $(LIBRARY))" SAGEPLIERS_BIN_DIR="$(BIN)"
 
-## check-package    tests of the package and of the command, in temporary directories
-# The programs are tested if they are built; the scripts say so where they are not.
-check-package: library
-	SAGEPLIERS_LIB_DIR="$(dir $(LIBRARY))" SAGEPLIERS_BIN_DIR="$(if $(wildcard $(BIN)/answer),$(BIN))" tests/package.sh
+## test-quick       the command, the package, the tutorial, and a short comparison with the independent implementation: two minutes once built
+test-quick: proved
+	$(BUILT) tests/host.sh --quick
+	$(BUILT) tests/package.sh
 	$(PYTHON) tests/sheets_test.py
-	SAGEPLIERS_LIB_DIR="$(dir $(LIBRARY))" SAGEPLIERS_BIN_DIR="$(if $(wildcard $(BIN)/answer),$(BIN))" $(PYTHON) tests/tutorial.py
-	SAGEPLIERS_LIB_DIR="$(dir $(LIBRARY))" SAGEPLIERS_BIN_DIR="$(if $(wildcard $(BIN)/answer),$(BIN))" tests/host.sh
+	$(BUILT) $(PYTHON) tests/tutorial.py
+	$(BUILT) tests/run.sh --quick
+
+## check-package    all tests of the command and of the package, in temporary directories
+check-package: proved
+	$(BUILT) tests/host.sh
+	$(BUILT) tests/package.sh
+	$(PYTHON) tests/sheets_test.py
+	$(BUILT) $(PYTHON) tests/tutorial.py
 
 ## dist             an archive for people without the toolchain: libraries, header, programs, man page, documents, checksums
 dist: all

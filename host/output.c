@@ -104,17 +104,23 @@ static size_t utf8_character(const char *text)
     return length;
 }
 
-/* Whether a terminal shows the text on one line and as it is: UTF-8 without control characters. */
+/* Whether the UTF-8 character is a control character, ends a line, has no width, or turns the direction of what follows. */
+static bool unseen(const char *character)
+{
+    const unsigned char *t = (const unsigned char *)character;
+    if (t[0] < 0x20 || t[0] == 0x7f || (t[0] == 0xc2 && t[1] < 0xa0))
+        return true;
+    if (t[0] == 0xe2 && t[1] == 0x80) /* U+200B to U+200F, U+2028 to U+202E */
+        return (t[2] >= 0x8b && t[2] <= 0x8f) || (t[2] >= 0xa8 && t[2] <= 0xae);
+    return t[0] == 0xe2 && t[1] == 0x81 && t[2] >= 0xa0 && t[2] <= 0xaf; /* U+2060 to U+206F */
+}
+
+/* Whether a terminal shows the text on one line and as it is. */
 static bool printable(const char *text)
 {
     for (const char *t = text; *t != '\0';) {
         size_t length = utf8_character(t);
-        unsigned char first = (unsigned char)t[0];
-        if (length == 0 || first < 0x20 || first == 0x7f)
-            return false;
-        if (first == 0xc2 && (unsigned char)t[1] < 0xa0) /* U+0080 to U+009F */
-            return false;
-        if (first == 0xe2 && (unsigned char)t[1] == 0x80 && ((unsigned char)t[2] & 0xfe) == 0xa8) /* U+2028 and U+2029 end a line */
+        if (length == 0 || unseen(t))
             return false;
         t += length;
     }

@@ -1,10 +1,10 @@
 #!/bin/sh
 # Tests of the command sagepliers, of the libraries around the proved archive, and of what make install and make dist make of them.
 #
-#     SAGEPLIERS_LIB_DIR=directory/of/libsagepliers.a SAGEPLIERS_BIN_DIR=directory/of/programs tests/host.sh [FILE.bats ..]
+#     SAGEPLIERS_LIB_DIR=directory/of/libsagepliers.a SAGEPLIERS_BIN_DIR=directory/of/programs tests/host.sh [--quick]
 #
 # Everything is built here, into a temporary directory: plain, with the address and undefined-behaviour sanitizers, and with the thread sanitizer. The
-# tests are tests/host/*.bats. Where something that they need is missing, the script says so and fails; on Debian the packages are those of `packages`.
+# tests are tests/host/*.bats. The quick form has the plain build alone. Where something that they need is missing, the script says so and fails; on Debian the packages are those of `packages`.
 set -eu
 here=$(pwd)
 root=$(cd "$(dirname "$0")/.." && pwd)
@@ -70,16 +70,13 @@ step "the scripts"
 shellcheck -s sh host/man.sh host/demo.sh host/dist.sh tests/host.sh bench/check.sh
 shellcheck -s bash host/sagepliers.bash
 
-step "plain, without a warning, by gcc and by clang where it is there"
-build command BUILD="$work/plain" CFLAGS="-O2 $strict"
-if command -v clang >/dev/null; then build command BUILD="$work/clang" CC=clang CFLAGS="-O2 $strict"; fi
-if [ $# -gt 0 ]; then
-    build install BUILD="$work/plain" PREFIX="$PREFIX"
-    for file in "$@"; do tests "$work/plain/sagepliers" "$file"; done
+step "plain, without a warning"
+build install BUILD="$work/plain" CFLAGS="-O2 $strict" PREFIX="$PREFIX"
+for file in commands refusals files many installed; do tests "$PREFIX/bin/sagepliers" "tests/host/$file.bats"; done
+if [ "${1:-}" = --quick ]; then
+    step "all passed of the quick form"
     exit 0
 fi
-build install BUILD="$work/plain" PREFIX="$PREFIX"
-for file in commands refusals files many installed; do tests "$PREFIX/bin/sagepliers" "tests/host/$file.bats"; done
 
 step "with the address and undefined-behaviour sanitizers"
 build command BUILD="$work/address" CFLAGS="-O1 -g $strict -fsanitize=address,undefined -fno-sanitize-recover=all"

@@ -169,22 +169,22 @@ PY
 @test "names with blanks, line feeds, leading dashes, quotes, and bytes that are no UTF-8" {
     mkdir odd
     for name in 'a b' $'line\nfeed' '-dash' '--json' "quote'" 'back\slash' '"double"' $'\033[31mred' \
-        $'bad\xff\xfe' $'\xc3\xa9t\xc3\xa9' '$home' "\$'x'" '-23' 1009 infinity; do
+        $'bad\xff\xfe' $'\xc3\xa9t\xc3\xa9' '$home' "\$'x'" '-23' 1009 infinity $'turn\xe2\x80\xae' $'line\xe2\x80\xa8'; do
         cp question.bin "odd/$name"
     done
     run --separate-stderr sagepliers check odd
     [ "$status" -eq 1 ]
-    [ "${#lines[@]}" -eq 16 ] || say "${#lines[@]} lines"
-    [ "${lines[15]}" = '15 files: 0 pass, 15 refused' ]
+    [ "${#lines[@]}" -eq 18 ] || say "${#lines[@]} lines"
+    [ "${lines[17]}" = '17 files: 0 pass, 17 refused' ]
     # Each name is read back by the shell to a file that is there.
-    for line in "${lines[@]:0:15}"; do
+    for line in "${lines[@]:0:17}"; do
         shown=${line%": $(refusal 6)"}
         case $shown in
         \$\'*) eval "name=$shown" ;;
         *) name=$shown ;;
         esac
         [ -f "$name" ] || say "no file $shown"
-        [[ $shown != *$'\033'* ]]
+        [[ $shown != *$'\033'* && $shown != *$'\xe2\x80'* ]]
     done
     cd odd
     gives 1 "./-dash: $(refusal 6)" check ./-dash

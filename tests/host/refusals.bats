@@ -42,9 +42,19 @@ sheet_refused() {
     }
 }
 
-@test "check: what PARI/GP gives for x - 22 gets 10" {
-    gives 0 '' show -q -o pari.bin 1009 1 3 606 295 3 44 -22 1 958 363 -44 1
-    gives 1 "pari.bin: $(refusal 10)" check pari.bin
+# pari_sheet U: the certificate of what PARI/GP computes for the kernel polynomial x - U of (1, 3) over 1009, in decimal.
+pari_sheet() {
+    echo "v = ellisogeny(ellinit([1, 3], 1009), x - $1); c = lift(v[1]); n = Vecrev(lift(v[2][1]));
+          print(strjoin([1009, 1, 3, c[4], c[5], 3, $((2 * $1)), -$1, 1, n[1], n[2], n[3], n[4]], \" \"))" | gp -q -f
+}
+
+@test "check: what PARI/GP gives for x - 22, which is no kernel polynomial, gets 10; for x - 23 it passes" {
+    pari_sheet 22 >pari.txt
+    [ "$(cat pari.txt)" = '1009 1 3 606 295 3 44 -22 1 958 363 -44 1' ] || say "$(cat pari.txt)"
+    gives 1 "pari.txt: $(refusal 10)" check pari.txt
+    gives 1 "$(refusal 11)" kernel 1009 1 3 3 -22 1
+    pari_sheet 23 >pari.txt
+    gives 0 'pari.txt: passes' check pari.txt
 }
 
 @test "bytes that are no whole words get 2, and so does nothing at all" {
