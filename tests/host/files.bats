@@ -266,4 +266,15 @@ PY
     got=0
     sagepliers check missing.bin 2>&- >out || got=$?
     [ "$got" -eq 2 ]
+    # With standard input closed, no other file may get its place while a thread reads it.
+    mkfifo pipe
+    for _ in 1 2 3 4 5; do
+        { sleep 0.1 && cat first.bin; } >pipe &
+        got=0
+        sagepliers check -v -j 2 pipe - <&- >out 2>err || got=$?
+        wait
+        [ "$got" -eq 2 ]
+        [ "$(head -n 1 out)" = 'pipe: passes' ] || say "$(cat out err)"
+        grep -q 'standard input: Bad file descriptor' err
+    done
 }
