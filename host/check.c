@@ -56,17 +56,19 @@ struct call {
     struct timespec told; /* when progress was last shown */
 };
 
+static size_t read_jobs(const char *text, struct argp_state *state)
+{
+    int64_t number = 0;
+    if (!read_number(text, strlen(text), &number) || number < 0 || number > MOST_JOBS)
+        argp_error(state, "--jobs=%s: wanted is a number from 0 to %d", shown_name(text), MOST_JOBS);
+    return (size_t)number;
+}
+
 static error_t parse(int key, char *argument, struct argp_state *state)
 {
     struct call *call = state->input;
-    int64_t number = 0;
     switch (key) {
-    case 'j':
-        argument = (char *)plain(argument);
-        if (!read_number(argument, strlen(argument), &number) || number < 0 || number > MOST_JOBS)
-            argp_error(state, "--jobs=%s: wanted is a number from 0 to %d", shown_name(argument), MOST_JOBS);
-        call->jobs = (size_t)number;
-        return 0;
+    case 'j': call->jobs = read_jobs(plain(argument), state); return 0;
     case 'v': call->verbose = true; return 0;
     case KEY_PROGRESS: call->progress = isatty(STDERR_FILENO); return 0;
     case KEY_MATCH: call->walk.match = argument; return 0;

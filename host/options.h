@@ -27,7 +27,7 @@ struct options {
 /* Takes the options above and gathers the arguments; ends the program with a message if a word is wrong. */
 error_t common_option(int key, char *argument, struct argp_state *state, struct options *options);
 
-/* Makes room for the arguments; to be called first. The arguments are released at the end of the program. */
+/* Room for the arguments, to be made before they are taken and released after. */
 void begin_options(struct options *options, int argc);
 void end_options(struct options *options);
 
