@@ -30,7 +30,12 @@ done
 for tool in ar bats c++ cc cmp gp help2man make man nm pkg-config python3 readelf script setpriv shellcheck valgrind; do
     command -v "$tool" >/dev/null || fail "$tool is missing; the packages needed are: $packages"
 done
-python3 -c 'import cffi' 2>/dev/null || fail "python3 has no cffi; the packages needed are: $packages"
+# The system's Python has the packages of the system, whichever Python comes first in PATH.
+CFFI_PYTHON=
+for python in python3 /usr/bin/python3; do
+    if [ -z "$CFFI_PYTHON" ] && "$python" -c 'import cffi' 2>/dev/null; then CFFI_PYTHON=$python; fi
+done
+[ -n "$CFFI_PYTHON" ] || fail "python3 has no cffi; the packages needed are: $packages"
 [ -c /dev/full ] || fail "there is no /dev/full"
 
 # Some tests go on as nobody, who has to get at the command.
@@ -50,7 +55,7 @@ SAGEPLIERS_TOOLCHAIN=$(cat TOOLCHAIN)
 ASAN_OPTIONS=detect_leaks=1:abort_on_error=0:exitcode=99
 UBSAN_OPTIONS=print_stacktrace=1:halt_on_error=1:exitcode=99
 TSAN_OPTIONS=exitcode=99
-export ROOT PREFIX SAGEPLIERS_LIB_DIR SAGEPLIERS_BIN_DIR SAGEPLIERS_VERSION SAGEPLIERS_TOOLCHAIN ASAN_OPTIONS UBSAN_OPTIONS TSAN_OPTIONS
+export CFFI_PYTHON ROOT PREFIX SAGEPLIERS_LIB_DIR SAGEPLIERS_BIN_DIR SAGEPLIERS_VERSION SAGEPLIERS_TOOLCHAIN ASAN_OPTIONS UBSAN_OPTIONS TSAN_OPTIONS
 
 # Nothing that is proved may be built again here.
 build() {

@@ -72,8 +72,7 @@ strict='-std=c11 -Wall -Wextra -Wpedantic -Wconversion -Werror'
 }
 
 @test "Python takes the header by cffi, and every entry by it" {
-    python3 -c 'import cffi' || say 'python3 has no cffi: install the package python3-cffi'
-    run python3 "$PREFIX/share/doc/sagepliers/examples/host.py" "$PREFIX/include/sagepliers.h" "$PREFIX/lib/libsagepliers.so.0"
+    run "$CFFI_PYTHON" "$PREFIX/share/doc/sagepliers/examples/host.py" "$PREFIX/include/sagepliers.h" "$PREFIX/lib/libsagepliers.so.0"
     [ "$status" -eq 0 ] || say "$output"
     [ "$output" = "solve: 14 words
 kernel: 14 words
