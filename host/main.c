@@ -29,7 +29,7 @@ static void print_version(FILE *stream, struct argp_state *state)
     (void)state;
     fprintf(stream,
             "sagepliers " SAGEPLIERS_VERSION "\n"
-            "Library " SAGEPLIERS_VERSION ": every function is proved to meet its contract (toolchain " TOOLCHAIN ").\n"
+            "Library " SAGEPLIERS_VERSION ": every function behind its five entries is proved to meet its contract (toolchain " TOOLCHAIN ").\n"
             "This command around it is C11: tested, not proved.\n");
 }
 

@@ -269,7 +269,7 @@ g = x^2 + 7*x + 6' show --form=kernel 1009 1 3 5 6 7 1
     run --separate-stderr sagepliers --version
     [ "$status" -eq 0 ]
     [ "${lines[0]}" = "sagepliers $SAGEPLIERS_VERSION" ]
-    [[ $output == *'every function is proved'*"toolchain $SAGEPLIERS_TOOLCHAIN"* ]]
+    [[ $output == *'every function behind its five entries is proved'*"toolchain $SAGEPLIERS_TOOLCHAIN"* ]]
     [[ $output == *'not proved'* ]]
     for name in solve kernel check push name show; do
         run --separate-stderr sagepliers --help
