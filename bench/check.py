@@ -52,35 +52,41 @@ def spent(command, stdin):
     return done.stdout.strip(), after.ru_utime + after.ru_stime - before.ru_utime - before.ru_stime, wall
 
 
-def main():
-    os.makedirs(f"{WORK}/files")
-    sheets = certificates(FILES)
-    random.shuffle(sheets)
-    with open(f"{WORK}/names", "w") as names:
+def measure(title, sheets):
+    folder = f"{WORK}/{title.replace(' ', '_')}"
+    os.makedirs(folder)
+    with open(f"{folder}.names", "w") as names:
         for i, sheet in enumerate(sheets):
-            name = f"{WORK}/files/{i:05}.bin"
+            name = f"{folder}/{i:05}.bin"
             names.write(name + "\n")
             with open(name, "wb") as file:
                 file.write(sheet)
     ways = {
         "the C loop": [f"{WORK}/loop"],
-        "sagepliers check": [COMMAND, "check", f"{WORK}/files"],
-        "sagepliers check --jobs 2": [COMMAND, "check", "--jobs", "2", f"{WORK}/files"],
+        "sagepliers check": [COMMAND, "check", folder],
+        "sagepliers check --jobs 2": [COMMAND, "check", "--jobs", "2", folder],
     }
     times = {way: [] for way in ways}
     for turn in range(ROUNDS + 1):
         for way, command in ways.items():
-            with open(f"{WORK}/names") as names:
+            with open(f"{folder}.names") as names:
                 said, processor, wall = spent(command, names)
             assert f"{FILES} pass, 0 refused" in said, said
             if turn > 0:
                 times[way].append((processor, wall))
     processor = {way: statistics.median(t[0] for t in times[way]) for way in ways}
     wall = {way: statistics.median(t[1] for t in times[way]) for way in ways}
-    print(f"{FILES} files, {ROUNDS} rounds, medians")
+    print(f"{title}: {FILES} files, {ROUNDS} rounds, medians")
     for way in ways:
-        print(f"{way:26} processor {processor[way]:.3f} s ({processor[way] / processor['the C loop']:.2f}), "
+        print(f"  {way:26} processor {processor[way]:.3f} s ({processor[way] / processor['the C loop']:.2f}), "
               f"wall {wall[way]:.3f} s ({wall[way] / wall['the C loop']:.2f})")
+
+
+def main():
+    sheets = certificates(FILES)
+    random.shuffle(sheets)
+    measure("primes of all sizes", sheets)
+    measure("the cheapest certificate", [kernel(1009, 1, 3, 3, [986, 1])] * FILES)
 
 
 main()

@@ -3,9 +3,10 @@
 #
 #     bench/check.sh [ROUNDS]
 #
-# The certificates are of degree 3, half of them over primes below 2000, where a call costs least and the rest of the command counts most, a quarter over
-# primes of 21 bits and a quarter over the largest. Rounds alternate between the two, after one round each that does not
-# count; what is printed are the medians of the time that the processor spent for the process, user and system, and of the wall time.
+# There are two folders. The first has certificates of degree 3, half of them over primes below 2000, a quarter over primes of 21 bits and a quarter over the
+# largest. The second has the cheapest one alone, of degree 3 over 1009, where a call costs least and all else counts most. The loop is given the names;
+# the command finds them in the folder and sorts them. Rounds alternate between the two, after one round each that does not count; what is printed are
+# the medians of the time that the processor spent for the process, user and system, and of the wall time.
 set -eu
 rounds=${1:-15}
 root=$(cd "$(dirname "$0")/.." && pwd)

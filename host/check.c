@@ -37,7 +37,7 @@ static const struct argp_option option_table[] = {
 
 /* A file and what was found of it. */
 struct item {
-    char *name;
+    size_t name; /* where it starts among the names */
     bool in_folder;
     struct problem problem;
     uint32_t verdict;
@@ -50,6 +50,8 @@ struct call {
     size_t jobs;
     struct item window[WINDOW];
     size_t filled;
+    char *names; /* of the window, one after the other */
+    size_t names_length, names_room;
     atomic_size_t next, judged; /* of the window: the next item to take, and how many have been judged */
     size_t files, refused, unread;
     size_t left_out; /* links to folders that were not followed */
@@ -106,7 +108,7 @@ static void judge(struct call *call, bool main_thread)
         if (sheet == NULL)
             item->problem = (struct problem){SYSTEM_ERROR, ENOMEM};
         else if (item->problem.trouble == NO_TROUBLE)
-            item->problem = read_sheet(item->name, item->in_folder, CERTIFICATE, call->options.writing, sheet);
+            item->problem = read_sheet(call->names + item->name, item->in_folder, CERTIFICATE, call->options.writing, sheet);
         if (item->problem.trouble == NO_TROUBLE)
             item->verdict = sagepliers_check(sheet->bytes, sheet->count);
         atomic_fetch_add(&call->judged, 1);
@@ -140,14 +142,15 @@ static void judge_window(struct call *call)
 
 static void put_item(const struct call *call, const struct item *item)
 {
+    const char *name = call->names + item->name;
     bool read = item->problem.trouble == NO_TROUBLE;
     if (!read)
-        complain("%s: %s", input_name(item->name), problem_text(item->problem));
+        complain("%s: %s", input_name(name), problem_text(item->problem));
     if (call->options.quiet || item->problem.trouble == LINK_TO_FOLDER)
         return;
     if (call->options.view == AS_JSON) {
         putchar('{');
-        put_json_file(item->name);
+        put_json_file(name);
         putchar(',');
         if (!read) {
             printf("\"result\":\"unread\",\"message\":");
@@ -159,9 +162,9 @@ static void put_item(const struct call *call, const struct item *item)
         }
         printf("}\n");
     } else if (read && item->verdict != 0) {
-        printf("%s: refused %" PRIu32 ": %s\n", input_name(item->name), item->verdict, sagepliers_meaning(item->verdict));
+        printf("%s: refused %" PRIu32 ": %s\n", input_name(name), item->verdict, sagepliers_meaning(item->verdict));
     } else if (read && (call->verbose || call->single)) {
-        printf("%s: passes\n", input_name(item->name));
+        printf("%s: passes\n", input_name(name));
     }
 }
 
@@ -186,16 +189,28 @@ static bool close_window(struct call *call)
         struct item *item = &call->window[i];
         count_item(call, item);
         put_item(call, item);
-        free(item->name);
     }
     call->filled = 0;
+    call->names_length = 0;
     return !output_failed();
+}
+
+static size_t add_name(struct call *call, const char *name)
+{
+    size_t start = call->names_length, size = strlen(name) + 1;
+    if (call->names_room - start < size) {
+        call->names_room = 2 * (call->names_room + size);
+        call->names = need(realloc(call->names, call->names_room));
+    }
+    memcpy(call->names + start, name, size);
+    call->names_length += size;
+    return start;
 }
 
 static bool gather(void *context, const char *name, bool in_folder, struct problem problem)
 {
     struct call *call = context;
-    call->window[call->filled++] = (struct item){need(strdup(name)), in_folder, problem, 0};
+    call->window[call->filled++] = (struct item){add_name(call, name), in_folder, problem, 0};
     return call->filled < WINDOW || close_window(call);
 }
 
@@ -255,6 +270,7 @@ enum status command_check(int argc, char **argv)
         status = check_all(call);
     }
     end_options(&call->options);
+    free(call->names);
     free(call);
     return status;
 }

@@ -25,8 +25,8 @@ static struct problem system_error(void)
     return (struct problem){SYSTEM_ERROR, errno};
 }
 
-/* Reads until the end or until the buffer is full. A short read of a regular file has reached its end. */
-static bool read_to_end(int file, bool regular, uint8_t *bytes, size_t *count)
+/* Reads until the end or until the buffer is full. */
+static bool read_to_end(int file, uint8_t *bytes, size_t *count)
 {
     *count = 0;
     while (*count < LONGEST_INPUT) {
@@ -35,9 +35,9 @@ static bool read_to_end(int file, bool regular, uint8_t *bytes, size_t *count)
             continue;
         if (got < 0)
             return false;
-        *count += (size_t)got;
-        if (got == 0 || regular)
+        if (got == 0)
             break;
+        *count += (size_t)got;
     }
     return true;
 }
@@ -55,30 +55,41 @@ static struct problem cut(int file, size_t *count)
     return problem(NO_TROUBLE);
 }
 
-static struct problem read_open(int file, bool in_folder, uint8_t *bytes, size_t *count, bool *whole)
+/* A file that was found in a folder. Reading at a place tells files from pipes, sockets, terminals and folders, so one call does for nearly all; and a
+ * short read of a regular file has reached its end. Devices remain, which give nothing or no end of bytes: then it is asked what the thing is. */
+static struct problem read_found(int file, uint8_t *bytes, size_t *count)
 {
+    ssize_t got = pread(file, bytes, LONGEST_INPUT, 0);
     struct stat status;
-    if (fstat(file, &status) != 0)
+    if (got < 0 && errno == EISDIR)
+        return problem(LINK_TO_FOLDER);
+    if (got < 0 && (errno == ESPIPE || errno == EAGAIN))
+        return problem(NOT_A_FILE);
+    if (got < 0)
         return system_error();
-    bool regular = S_ISREG(status.st_mode);
-    if (in_folder && !regular)
-        return problem(S_ISDIR(status.st_mode) ? LINK_TO_FOLDER : NOT_A_FILE);
-    if (!read_to_end(file, regular, bytes, count))
-        return system_error();
-    *whole = *count < LONGEST_INPUT;
-    return *whole ? problem(NO_TROUBLE) : cut(file, count);
+    if ((got == 0 || got == LONGEST_INPUT) && (fstat(file, &status) != 0 || !S_ISREG(status.st_mode)))
+        return problem(NOT_A_FILE);
+    *count = (size_t)got;
+    return problem(NO_TROUBLE);
 }
 
 static struct problem read_bytes(const char *name, bool in_folder, uint8_t *bytes, size_t *count, bool *whole)
 {
-    if (!in_folder && strcmp(name, "-") == 0)
-        return read_open(STDIN_FILENO, false, bytes, count, whole);
+    bool standard = !in_folder && strcmp(name, "-") == 0;
     /* Opening a pipe in a folder must not wait for somebody to write. */
-    int file = open(name, O_RDONLY | O_CLOEXEC | O_NOCTTY | (in_folder ? O_NONBLOCK : 0));
+    int file = standard ? STDIN_FILENO : open(name, O_RDONLY | O_CLOEXEC | O_NOCTTY | (in_folder ? O_NONBLOCK : 0));
     if (file == -1)
         return in_folder && errno == ENXIO ? problem(NOT_A_FILE) : system_error(); /* a socket */
-    struct problem found = read_open(file, in_folder, bytes, count, whole);
-    close(file);
+    struct problem found = problem(NO_TROUBLE);
+    if (in_folder)
+        found = read_found(file, bytes, count);
+    else if (!read_to_end(file, bytes, count))
+        found = system_error();
+    *whole = *count < LONGEST_INPUT;
+    if (found.trouble == NO_TROUBLE && !*whole)
+        found = cut(file, count);
+    if (!standard)
+        close(file);
     return found;
 }
 
@@ -158,6 +169,7 @@ static struct problem read_text(const char *text, size_t count, enum form form, 
 struct problem read_sheet(const char *name, bool in_folder, enum form form, enum writing writing, struct sheet *sheet)
 {
     bool whole = false;
+    sheet->count = 0;
     struct problem found = read_bytes(name, in_folder, sheet->bytes, &sheet->count, &whole);
     if (found.trouble != NO_TROUBLE)
         return found;

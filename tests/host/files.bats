@@ -101,11 +101,20 @@ tree/z: $(refusal 6)
 @test "what is neither file nor folder: told in a folder, read when named" {
     mkdir tree
     mkfifo tree/pipe pipe
+    python3 -c 'import socket; socket.socket(socket.AF_UNIX).bind("tree/socket")'
+    ln -s /dev/null tree/null
+    ln -s /dev/zero tree/zero
     cp first.bin tree
+    : >tree/empty
+    # shellcheck disable=SC2086
     run --separate-stderr timeout 20 $SAGEPLIERS check tree
     [ "$status" -eq 2 ]
-    [ "$output" = '2 files: 1 pass, 0 refused, 1 not read' ]
-    [ "$stderr" = 'sagepliers: tree/pipe: neither a file nor a folder' ]
+    [ "$output" = "tree/empty: $(refusal 2)
+6 files: 1 pass, 1 refused, 4 not read" ] || say "$output"
+    [ "$stderr" = 'sagepliers: tree/null: neither a file nor a folder
+sagepliers: tree/pipe: neither a file nor a folder
+sagepliers: tree/socket: neither a file nor a folder
+sagepliers: tree/zero: neither a file nor a folder' ] || say "$stderr"
     cat first.bin >pipe &
     gives 0 'pipe: passes' check pipe
     wait
