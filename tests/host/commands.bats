@@ -216,6 +216,18 @@ g = x^2 + 7*x + 6' show --form=kernel 1009 1 3 5 6 7 1
     [ -z "$output" ]
 }
 
+@test "polynomials: coefficients 0 and 1, and none but 0" {
+    gives 0 'kernel sheet: p = 1009, degree 7
+domain: y^2 = x^3
+g = x^3 + 2*x + 1' show --form=kernel 1009 0 0 7 1 2 0 1
+    gives 0 'kernel sheet: p = 1009, degree 5
+domain: y^2 = x^3 + x
+g = 0' show --form=kernel 1009 1 0 5 0 0 0
+    gives 0 'kernel sheet: p = 1009, degree 3
+domain: y^2 = x^3 + 1
+g = 5*x' show --form=kernel 1009 0 1 3 0 5
+}
+
 @test "polynomials are shown so that PARI/GP reads them back" {
     sagepliers solve --json 1009 1 3 81 169 9 0 >answer.json
     sagepliers solve 1009 1 3 81 169 9 0 >answer.txt
