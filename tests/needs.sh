@@ -2,6 +2,8 @@
 # Sees that everything is there that the gate needs. What Debian has and is missing is installed if root runs this; anybody else is told what to
 # install. Prints one line and ends with status 0 if all is there (apt-get's own words go to standard error); else says what is missing, status 1.
 set -eu
+cd "$(dirname "$0")"
+. ./environment.sh
 
 # Each command with the Debian package that has it.
 commands='
@@ -9,7 +11,9 @@ gp pari-gp
 gcc gcc
 cc gcc
 g++ g++
+c++ g++
 make make
+ar binutils
 nm binutils
 readelf binutils
 pkg-config pkg-config
@@ -18,12 +22,13 @@ cmp diffutils
 diff diffutils
 setpriv util-linux
 setarch util-linux
+script bsdutils
+bats bats
+shellcheck shellcheck
+valgrind valgrind
+help2man help2man
+man man-db
 '
-
-fail() {
-    echo "needs.sh: FAILED: $*" >&2
-    exit 1
-}
 
 work=$(mktemp -d)
 trap 'rm -rf "$work"' EXIT
@@ -36,6 +41,7 @@ missing() {
         echo "$commands" | while read -r command package; do
             [ -z "$command" ] || command -v "$command" >/dev/null || echo "$package"
         done
+        cffi_python >/dev/null || echo python3-cffi
         # The C library's headers and the sanitizers' libraries are packages of their own; only a build shows that they are there.
         if command -v gcc >/dev/null; then
             gcc "$work/small.c" -o "$work/small" 2>/dev/null || echo libc6-dev

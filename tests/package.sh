@@ -9,44 +9,34 @@
 # come from document 01 alone: its printed words and rows, and the order of its questions.
 set -eu
 here=$(pwd)
-root=$(cd "$(dirname "$0")/.." && pwd)
+cd "$(dirname "$0")"
+. ./environment.sh
+cd ..
+root=$(pwd)
 CC=${CC:-gcc}
 CXX=${CXX:-g++}
 PKG_CONFIG=${PKG_CONFIG:-pkg-config}
 strict='-Wall -Wextra -Wpedantic -Wconversion -Werror'
 umask 022
 
-fail() {
-    echo "package.sh: FAILED: $*" >&2
-    exit 1
-}
-
 step() {
     echo "package: $*"
 }
+
+need_library
+need_programs
+need_tools "$CC" "$CXX" "$PKG_CONFIG" make nm readelf cmp diff
+[ -c /dev/full ] || fail "there is no /dev/full, which stands for a full disk"
+lib=$SAGEPLIERS_LIB_DIR
+bin=$SAGEPLIERS_BIN_DIR
 
 work=$(mktemp -d)
 trap 'rm -rf "$work"' EXIT
 trap 'exit 1' HUP INT TERM
 
-# Directories that are given relative are meant from where the script was called.
-[ -n "${SAGEPLIERS_LIB_DIR:-}" ] || fail "SAGEPLIERS_LIB_DIR is not set"
-lib=$(cd "$here" && cd "$SAGEPLIERS_LIB_DIR" && pwd) || fail "there is no directory $SAGEPLIERS_LIB_DIR"
-[ -f "$lib/libsagepliers.a" ] || fail "no libsagepliers.a in $lib"
-[ -n "${SAGEPLIERS_BIN_DIR:-}" ] || fail "SAGEPLIERS_BIN_DIR is not set"
-bin=$(cd "$here" && cd "$SAGEPLIERS_BIN_DIR" && pwd) || fail "there is no directory $SAGEPLIERS_BIN_DIR"
-for name in answer kernel verify push; do
-    [ -x "$bin/$name" ] || fail "no program $name in $bin"
-done
-for tool in "$CC" "$CXX" "$PKG_CONFIG" make nm readelf cmp diff; do
-    command -v "$tool" >/dev/null || fail "$tool is missing; tests/needs.sh installs what the tests need"
-done
-[ -c /dev/full ] || fail "there is no /dev/full, which stands for a full disk"
-cd "$root"
-
 # RT=false: nothing that is built already may be built again.
 install() {
-    make --no-print-directory RT=false LIBRARY="$lib/libsagepliers.a" BIN="$bin" "$@"
+    make --no-print-directory RT=false LIBRARY="$lib/libsagepliers.a" BIN="$bin" BUILD="$work/build" "$@"
 }
 
 # Bytes of words given in hexadecimal, lowest byte first.
@@ -81,20 +71,24 @@ awk '$1 != "Name" && $5 !~ /^0*$/ && $7 ~ /W/ { print $1; found = 1 } END { exit
 step "install and uninstall under DESTDIR"
 stage=$work/stage
 install install DESTDIR="$stage" PREFIX=/prefix >"$work/log" 2>&1 || { cat "$work/log"; fail "install"; }
-(cd "$stage" && find . -type f | sort) >"$work/installed"
+(cd "$stage" && find . ! -type d | sort) >"$work/installed"
+version=$(sed -n 's/^.define SAGEPLIERS_VERSION "\(.*\)"/\1/p' include/sagepliers.h)
 {
-    echo ./prefix/lib/libsagepliers.a
+    printf './prefix/lib/libsagepliers.%s\n' a so so.0 "so.$version"
     echo ./prefix/lib/pkgconfig/sagepliers.pc
     echo ./prefix/include/sagepliers.h
+    echo ./prefix/bin/sagepliers
     echo ./prefix/bin/sagepliers-sheets
-    echo ./prefix/share/doc/sagepliers/TUTORIAL.md
-    echo ./prefix/share/doc/sagepliers/examples/host.c
+    echo ./prefix/share/man/man1/sagepliers.1
+    echo ./prefix/share/bash-completion/completions/sagepliers
+    printf './prefix/share/doc/sagepliers/%s\n' CHANGELOG.md LICENSE SPECIFICATION.md TRUST.md TUTORIAL.md
+    printf './prefix/share/doc/sagepliers/examples/%s\n' host.c host.py kernel.c name.c solve.c
     printf './prefix/bin/sagepliers-%s\n' answer kernel verify push
 } | sort >"$work/wanted"
 diff "$work/wanted" "$work/installed" || fail "the installed files are not those wanted"
 if grep -rn -e '@' -e "$work" "$stage/prefix/lib/pkgconfig/sagepliers.pc"; then fail "the pkg-config file names DESTDIR or has a gap"; fi
 install uninstall DESTDIR="$stage" PREFIX=/prefix >"$work/log" 2>&1 || { cat "$work/log"; fail "uninstall"; }
-[ -z "$(find "$stage" -type f)" ] || fail "uninstall left files behind"
+[ -z "$(find "$stage" ! -type d)" ] || fail "uninstall left files behind"
 [ ! -d "$stage/prefix/share/doc/sagepliers" ] || fail "uninstall left its directory behind"
 
 step "make refuses what it cannot do"
@@ -111,9 +105,9 @@ for left in "$work/no" relative; do
 done
 
 step "make builds with rt what is missing, and only that"
-# A copy without target/, and in place of rt a script that notes its words and makes empty files where rt would build.
+# A copy without target/, and in place of rt a script that notes its words and makes empty files where rt would build. The command is not built of these.
 mkdir "$work/copy"
-cp -R Makefile sagepliers.pc.in include tools docs examples "$work/copy"
+cp -R Makefile TOOLCHAIN LICENSE CHANGELOG.md sagepliers.pc.in include host tools docs examples "$work/copy"
 cat >"$work/copy/rt" <<'SH'
 #!/bin/sh
 echo "$*" >>calls
@@ -128,13 +122,13 @@ chmod +x "$work/copy/rt"
     cd "$work/copy"
     make RT=false PREFIX="$work/no" install >log 2>&1 && fail "make installs though rt failed"
     [ ! -e "$work/no/lib" ] || fail "make installed though rt failed"
-    make RT=./rt >log 2>&1 || { cat log; fail "make"; }
+    make RT=./rt proved >log 2>&1 || { cat log; fail "make proved"; }
     printf '%s\n' 'staticlib sagepliers' 'check answer kernel verify push' >wanted
     diff wanted calls || fail "make called rt with other words"
-    make RT=./rt all >log 2>&1 || { cat log; fail "make, once more"; }
+    make RT=./rt proved >log 2>&1 || { cat log; fail "make proved, once more"; }
     diff wanted calls || fail "make built again what is built"
     rm target/bin/verify
-    make RT=./rt >log 2>&1 || { cat log; fail "make, with a program missing"; }
+    make RT=./rt proved >log 2>&1 || { cat log; fail "make proved, with a program missing"; }
     echo 'check answer kernel verify push' >>wanted
     diff wanted calls || fail "make did not build the missing program"
     make RT=./rt rebuild >log 2>&1 || { cat log; fail "make rebuild"; }
@@ -144,8 +138,8 @@ chmod +x "$work/copy/rt"
 
 step "install for the hosts"
 prefix=$work/prefix
-install install PREFIX="$prefix" >"$work/log" 2>&1 || { cat "$work/log"; fail "install"; }
-cmp "$lib/libsagepliers.a" "$prefix/lib/libsagepliers.a" || fail "another library was installed"
+# Without the shared library, so that the hosts take the archive. host.sh sees that its objects are the proved ones, and tries the shared library.
+install install-library install-programs install-tools PREFIX="$prefix" >"$work/log" 2>&1 || { cat "$work/log"; fail "install"; }
 for name in answer kernel verify push; do
     cmp "$bin/$name" "$prefix/bin/sagepliers-$name" || fail "another program $name was installed"
 done
@@ -210,7 +204,7 @@ about() {
     3) echo 'prime from 11 to 2^28 - 1' ;;
     4) echo 'odd, from 3 to 255' ;;
     5) echo 'below p' ;;
-    6) echo 'exactly those of a certificate' ;;
+    6) echo 'exactly those of the sheet' ;;
     7) echo 'singular' ;;
     8) echo 'R1' ;;
     9) echo 'R2' ;;
@@ -307,7 +301,7 @@ runs 2 ' is neither' first.bin '' 1
 cp first.bin unreadable.bin
 chmod 000 unreadable.bin
 if [ "$(id -u)" -eq 0 ]; then
-    command -v setpriv >/dev/null || fail "setpriv is missing; tests/needs.sh installs what the tests need"
+    need_tools setpriv
     as='setpriv --reuid=65534 --regid=65534 --clear-groups'
     chmod 711 "$work"
 fi
@@ -357,12 +351,7 @@ $CC -std=c11 -O2 $strict -DSTACK=65536 "$root/tests/threads.c" $flags -pthread -
 $CC -std=c11 -g -O1 $strict -fsanitize=thread "$root/tests/threads.c" $flags -pthread -o threads_sanitized ||
     fail "threads.c does not build with the thread sanitizer"
 got=0
-./threads_sanitized 200 >out 2>&1 || got=$?
-# Under the address randomisation of some kernels the sanitizer does not start; then it is started without.
-if [ "$got" -ne 0 ] && { [ ! -s out ] || grep -q 'FATAL: ThreadSanitizer' out; }; then
-    got=0
-    setarch "$(uname -m)" -R ./threads_sanitized 200 >out 2>&1 || got=$?
-fi
+$(unrandomized) ./threads_sanitized 200 >out 2>&1 || got=$?
 [ "$got" -eq 0 ] || { cat out; fail "threads under the thread sanitizer ended with $got"; }
 echo "under the thread sanitizer: $(cat out)"
 

@@ -7,24 +7,17 @@ here=$(pwd)
 cd "$(dirname "$0")"
 . ./environment.sh
 
-if ! command -v gp >/dev/null; then
-    echo "PARI/GP: FAILED: there is no gp, so nothing was compared with it; tests/needs.sh installs it (Debian's pari-gp)" >&2
-    exit 1
-fi
+need_tools gp
 need_library
 cargo build -q -j1 --release -p pari
 script=$CARGO_TARGET_DIR/pari.gp
-if ! "$CARGO_TARGET_DIR/release/pari" "$script"; then
-    echo "PARI/GP: the comparison failed"
-    exit 1
-fi
+"$CARGO_TARGET_DIR/release/pari" "$script" || fail "the comparison failed"
 # gp goes on after an error and ends with status 0, so its last line counts.
 verdict=$(gp -q -f --default parisize=128M pari/compare.gp "$script" </dev/null 2>&1 | tee "$CARGO_TARGET_DIR/pari.log" | tail -n 1)
 case $verdict in
 "PARI/GP "*": 0 differences") echo "$verdict" ;;
 *)
     head -n 40 "$CARGO_TARGET_DIR/pari.log" >&2
-    echo "PARI/GP: the comparison failed"
-    exit 1
+    fail "the comparison failed"
     ;;
 esac

@@ -90,9 +90,10 @@ def main():
         directory = os.path.join(work, "empty")
         os.mkdir(directory)
         # RT=false: what is built already may not be built again.
-        call("make", "RT=false", f"PREFIX={prefix}", f"LIBRARY={library}", f"BIN={programs}", "install")
+        call("make", "RT=false", f"PREFIX={prefix}", f"LIBRARY={library}", f"BIN={programs}", f"BUILD={work}/build", "install")
         environment = dict(os.environ, LC_ALL="C.UTF-8", PATH=os.path.join(prefix, "bin") + os.pathsep + os.environ["PATH"])
         environment["PKG_CONFIG_PATH"] = os.path.join(prefix, "lib", "pkgconfig")
+        environment["LD_LIBRARY_PATH"] = os.path.join(prefix, "lib")
 
         # A page that is wrong must be seen: another output, one line too few, a command that fails.
         for wrong in ("$ echo a\nb", "$ printf 'a\\nb\\n'\na", "$ false", "$ sagepliers-sheets show missing.bin"):
