@@ -5,6 +5,8 @@ CARGO_NET_OFFLINE=true
 CARGO_TARGET_DIR=${CARGO_TARGET_DIR:-$(cd .. && pwd)/target/tests}
 RUSTFLAGS=${RUSTFLAGS:--Dwarnings}
 export CARGO_NET_OFFLINE CARGO_TARGET_DIR RUSTFLAGS
+# A make that calls a script hands its variables on to every make below it; those of a script are its own.
+unset MAKEFLAGS MFLAGS MAKELEVEL
 
 fail() {
     echo "${0##*/}: FAILED: $*" >&2

@@ -85,6 +85,8 @@ def main():
     if len(found) != dollars or dollars < 20:
         fail(f"{dollars} lines of the page start with a dollar sign, and {len(found)} commands stand in console blocks")
 
+    # A make that calls this script hands its variables on to the one below.
+    os.environ.pop("MAKEFLAGS", None)
     with tempfile.TemporaryDirectory() as work:
         prefix = os.path.join(work, "prefix")
         directory = os.path.join(work, "empty")
