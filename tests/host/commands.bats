@@ -295,3 +295,12 @@ g = 5*x' show --form=kernel 1009 0 1 3 0 5
         [ "$status" -eq 0 ]
     done
 }
+
+@test "README shows what the command prints" {
+    awk 'BEGIN { RS = "" } /^    \$ /' "$ROOT/README.md" | sed 's/^    //' >screen
+    [ "$(grep -c '^\$ sagepliers' screen)" -eq 2 ]
+    sed -n 's/^\$ //p' screen >lines
+    # Refusals end with status 1.
+    while IFS= read -r line; do eval "$line" </dev/null >>got || true; done <lines
+    sed '/^\$ /d' screen | diff - got
+}

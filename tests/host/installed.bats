@@ -28,7 +28,7 @@ strict='-std=c11 -Wall -Wextra -Wpedantic -Wconversion -Werror'
     [ "$(ls installed)" = meaning.o ]
 }
 
-@test "the shared library: its soname, no text relocations, no writable memory of its own" {
+@test "the shared library: its soname, no text relocations, and that it calls nothing but functions on memory" {
     readelf -dW "$PREFIX/lib/libsagepliers.so" >dynamic
     grep -q 'Library soname: \[libsagepliers.so.0\]' dynamic
     run grep TEXTREL dynamic
