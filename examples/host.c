@@ -20,24 +20,6 @@ enum { ALL_PASSED = 0, REFUSED = 1, FAILED = 2 };
 /* The longest certificate in bytes. */
 enum { LONGEST = 4 * SAGEPLIERS_ROOM };
 
-/* What the number of a refusal means: the question that was answered with no. */
-static const char *meaning(uint64_t number)
-{
-    switch (number) {
-    case 2: return "the seven words before the coefficients are not all there, each of its kind, or the bytes are no whole words";
-    case 3: return "p is not a prime from 11 to 2^28 - 1";
-    case 4: return "the degree is not odd, from 3 to 255, with 2 l - 1 below p";
-    case 5: return "a curve value or sigma is not below p";
-    case 6: return "the words after the first seven are not exactly those of a certificate";
-    case 7: return "a curve is singular";
-    case 8: return "g does not meet rule R1: its degree, its leading 1, or sigma";
-    case 9: return "N is not the one that rule R2 gives";
-    case 10: return "rule R3 does not hold";
-    case 12: return "the point is not one of the domain";
-    default: return "a number that neither check nor push gives";
-    }
-}
-
 /* Reads a whole file of at most LONGEST bytes into `bytes`, which has room for one more. Returns 0 after a message if that is not possible. */
 static int read_file(const char *name, uint8_t *bytes, size_t *count)
 {
@@ -142,7 +124,7 @@ int main(int argc, char **argv)
     if (verdict == 0) {
         printf("the certificate passes\n");
     } else {
-        printf("the certificate is refused with %" PRIu32 ": %s\n", verdict, meaning(verdict));
+        printf("the certificate is refused with %" PRIu32 ": %s\n", verdict, sagepliers_meaning(verdict));
         status = REFUSED;
     }
 
@@ -156,8 +138,8 @@ int main(int argc, char **argv)
             print_point(image);
             printf("\n");
         } else {
-            uint64_t number = image - SAGEPLIERS_REFUSED;
-            printf(" is refused with %" PRIu64 ": %s\n", number, meaning(number));
+            uint32_t number = (uint32_t)(image - SAGEPLIERS_REFUSED);
+            printf(" is refused with %" PRIu32 ": %s\n", number, sagepliers_meaning(number));
             status = REFUSED;
         }
     }

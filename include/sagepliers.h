@@ -1,4 +1,4 @@
-/* Sagepliers: normalized isogenies of odd degree over a prime field. The C entries of libsagepliers.a.
+/* Sagepliers: normalized isogenies of odd degree over a prime field. The C entries of the library.
  *
  * Isogenies. The domain is y^2 = x^3 + A x + B over the field of p elements, the codomain y^2 = x^3 + A~ x + B~, and the degree l is odd. An isogeny is
  * given by two polynomials: the kernel polynomial g, of degree d = (l - 1)/2, whose roots are the abscissas of the kernel, and the numerator N. It takes
@@ -52,6 +52,9 @@
 extern "C" {
 #endif
 
+/* The version of the library and of this header. */
+#define SAGEPLIERS_VERSION "0.1.0"
+
 /* The words that an answer of solve and kernel must have room for; no certificate has more. */
 #define SAGEPLIERS_ROOM 392
 
@@ -83,6 +86,10 @@ uint64_t sagepliers_kernel(const uint32_t *sheet, size_t words, uint32_t *answer
 /* Name: the j-value of the curve y^2 = x^3 + a x + b over the prime p, 1728 * 4 a^3 / (4 a^3 + 27 b^2). Puts questions 3, 5 and 7.
  * Returns the j-value, below p, or SAGEPLIERS_REFUSED plus the number of the refusal. */
 uint64_t sagepliers_name(uint32_t p, uint32_t a, uint32_t b);
+
+/* Meaning: the refusal with a number in words, as "N is not the one that rule R2 gives"; for any other number it says that there is no such refusal.
+ * The text is constant, never NULL, and without a full stop. This function is plain C and not proved; the five above are. */
+const char *sagepliers_meaning(uint32_t number);
 
 #ifdef __cplusplus
 }

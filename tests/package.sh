@@ -1,51 +1,42 @@
 #!/bin/sh
-# Tests the C package: installs it into a temporary directory, builds hosts against what was installed, and runs them on the rows of document 01.
+# Tests the C package: installs it into a temporary directory, builds hosts against what was installed, and runs them and the programs on the rows of
+# document 01.
 #
-#     SAGEPLIERS_LIB_DIR=directory/of/libsagepliers.a [SAGEPLIERS_BIN_DIR=directory/of/programs] tests/package.sh
+#     SAGEPLIERS_LIB_DIR=directory/of/libsagepliers.a SAGEPLIERS_BIN_DIR=directory/of/programs tests/package.sh
 #
-# Any step that fails ends the script with status 1 and says which. Needs a C and a C++ compiler (CC, CXX), make, nm and readelf; pkg-config
-# (PKG_CONFIG), or pkg_config.sh of this directory takes its place. Expectations come from document 01 alone: its printed words and rows, and the
-# order of its questions.
+# Any step that fails, or cannot be run here, ends the script with status 1 and says which. Needs a C and a C++ compiler (CC, CXX) with the address,
+# undefined and thread sanitizers, pkg-config (PKG_CONFIG), make, nm, readelf, /dev/full, and for root setpriv; needs.sh installs them. Expectations
+# come from document 01 alone: its printed words and rows, and the order of its questions.
 set -eu
 here=$(pwd)
-root=$(cd "$(dirname "$0")/.." && pwd)
+cd "$(dirname "$0")"
+. ./environment.sh
+cd ..
+root=$(pwd)
 CC=${CC:-gcc}
 CXX=${CXX:-g++}
 PKG_CONFIG=${PKG_CONFIG:-pkg-config}
 strict='-Wall -Wextra -Wpedantic -Wconversion -Werror'
-
-fail() {
-    echo "package.sh: FAILED: $*" >&2
-    exit 1
-}
+umask 022
 
 step() {
     echo "package: $*"
 }
 
+need_library
+need_programs
+need_tools "$CC" "$CXX" "$PKG_CONFIG" make nm readelf cmp diff
+[ -c /dev/full ] || fail "there is no /dev/full, which stands for a full disk"
+lib=$SAGEPLIERS_LIB_DIR
+bin=$SAGEPLIERS_BIN_DIR
+
 work=$(mktemp -d)
 trap 'rm -rf "$work"' EXIT
 trap 'exit 1' HUP INT TERM
 
-# Directories that are given relative are meant from where the script was called.
-[ -n "${SAGEPLIERS_LIB_DIR:-}" ] || fail "SAGEPLIERS_LIB_DIR is not set"
-lib=$(cd "$here" && cd "$SAGEPLIERS_LIB_DIR" && pwd) || fail "there is no directory $SAGEPLIERS_LIB_DIR"
-[ -f "$lib/libsagepliers.a" ] || fail "no libsagepliers.a in $lib"
-bin=
-if [ -n "${SAGEPLIERS_BIN_DIR:-}" ]; then
-    bin=$(cd "$here" && cd "$SAGEPLIERS_BIN_DIR" && pwd) || fail "there is no directory $SAGEPLIERS_BIN_DIR"
-    for name in answer kernel verify push; do
-        [ -x "$bin/$name" ] || fail "no program $name in $bin"
-    done
-fi
-for tool in "$CC" "$CXX" make nm readelf cmp; do
-    command -v "$tool" >/dev/null || fail "$tool is missing"
-done
-cd "$root"
-
 # RT=false: nothing that is built already may be built again.
 install() {
-    make --no-print-directory RT=false LIBRARY="$lib/libsagepliers.a" ${bin:+BIN="$bin"} "$@"
+    make --no-print-directory RT=false LIBRARY="$lib/libsagepliers.a" BIN="$bin" BUILD="$work/build" "$@"
 }
 
 # Bytes of words given in hexadecimal, lowest byte first.
@@ -79,21 +70,25 @@ awk '$1 != "Name" && $5 !~ /^0*$/ && $7 ~ /W/ { print $1; found = 1 } END { exit
 
 step "install and uninstall under DESTDIR"
 stage=$work/stage
-install install-library install-tools ${bin:+install-programs} DESTDIR="$stage" PREFIX=/prefix >"$work/log" 2>&1 || { cat "$work/log"; fail "install"; }
-(cd "$stage" && find . -type f | sort) >"$work/installed"
+install install DESTDIR="$stage" PREFIX=/prefix >"$work/log" 2>&1 || { cat "$work/log"; fail "install"; }
+(cd "$stage" && find . ! -type d | sort) >"$work/installed"
+version=$(sed -n 's/^.define SAGEPLIERS_VERSION "\(.*\)"/\1/p' include/sagepliers.h)
 {
-    echo ./prefix/lib/libsagepliers.a
+    printf './prefix/lib/libsagepliers.%s\n' a so so.0 "so.$version"
     echo ./prefix/lib/pkgconfig/sagepliers.pc
     echo ./prefix/include/sagepliers.h
+    echo ./prefix/bin/sagepliers
     echo ./prefix/bin/sagepliers-sheets
-    echo ./prefix/share/doc/sagepliers/TUTORIAL.md
-    echo ./prefix/share/doc/sagepliers/examples/host.c
-    [ -z "$bin" ] || printf './prefix/bin/sagepliers-%s\n' answer kernel verify push
+    echo ./prefix/share/man/man1/sagepliers.1
+    echo ./prefix/share/bash-completion/completions/sagepliers
+    printf './prefix/share/doc/sagepliers/%s\n' CHANGELOG.md LICENSE SPECIFICATION.md TRUST.md TUTORIAL.md
+    printf './prefix/share/doc/sagepliers/examples/%s\n' host.c host.py kernel.c name.c solve.c
+    printf './prefix/bin/sagepliers-%s\n' answer kernel verify push
 } | sort >"$work/wanted"
 diff "$work/wanted" "$work/installed" || fail "the installed files are not those wanted"
 if grep -rn -e '@' -e "$work" "$stage/prefix/lib/pkgconfig/sagepliers.pc"; then fail "the pkg-config file names DESTDIR or has a gap"; fi
 install uninstall DESTDIR="$stage" PREFIX=/prefix >"$work/log" 2>&1 || { cat "$work/log"; fail "uninstall"; }
-[ -z "$(find "$stage" -type f)" ] || fail "uninstall left files behind"
+[ -z "$(find "$stage" ! -type d)" ] || fail "uninstall left files behind"
 [ ! -d "$stage/prefix/share/doc/sagepliers" ] || fail "uninstall left its directory behind"
 
 step "make refuses what it cannot do"
@@ -110,9 +105,9 @@ for left in "$work/no" relative; do
 done
 
 step "make builds with rt what is missing, and only that"
-# A copy without target/, and in place of rt a script that notes its words and makes empty files where rt would build.
+# A copy without target/, and in place of rt a script that notes its words and makes empty files where rt would build. The command is not built of these.
 mkdir "$work/copy"
-cp -R Makefile sagepliers.pc.in include tools docs examples "$work/copy"
+cp -R Makefile TOOLCHAIN LICENSE CHANGELOG.md sagepliers.pc.in include host tools docs examples "$work/copy"
 cat >"$work/copy/rt" <<'SH'
 #!/bin/sh
 echo "$*" >>calls
@@ -127,13 +122,13 @@ chmod +x "$work/copy/rt"
     cd "$work/copy"
     make RT=false PREFIX="$work/no" install >log 2>&1 && fail "make installs though rt failed"
     [ ! -e "$work/no/lib" ] || fail "make installed though rt failed"
-    make RT=./rt >log 2>&1 || { cat log; fail "make"; }
+    make RT=./rt proved >log 2>&1 || { cat log; fail "make proved"; }
     printf '%s\n' 'staticlib sagepliers' 'check answer kernel verify push' >wanted
     diff wanted calls || fail "make called rt with other words"
-    make RT=./rt all >log 2>&1 || { cat log; fail "make, once more"; }
+    make RT=./rt proved >log 2>&1 || { cat log; fail "make proved, once more"; }
     diff wanted calls || fail "make built again what is built"
     rm target/bin/verify
-    make RT=./rt >log 2>&1 || { cat log; fail "make, with a program missing"; }
+    make RT=./rt proved >log 2>&1 || { cat log; fail "make proved, with a program missing"; }
     echo 'check answer kernel verify push' >>wanted
     diff wanted calls || fail "make did not build the missing program"
     make RT=./rt rebuild >log 2>&1 || { cat log; fail "make rebuild"; }
@@ -143,15 +138,14 @@ chmod +x "$work/copy/rt"
 
 step "install for the hosts"
 prefix=$work/prefix
-install install-library install-tools PREFIX="$prefix" >"$work/log" 2>&1 || { cat "$work/log"; fail "install"; }
-cmp "$lib/libsagepliers.a" "$prefix/lib/libsagepliers.a" || fail "another library was installed"
+# Without the shared library, so that the hosts take the archive. host.sh sees that its objects are the proved ones, and tries the shared library.
+install install-library install-programs install-tools PREFIX="$prefix" >"$work/log" 2>&1 || { cat "$work/log"; fail "install"; }
+for name in answer kernel verify push; do
+    cmp "$bin/$name" "$prefix/bin/sagepliers-$name" || fail "another program $name was installed"
+done
 
 # ---- what pkg-config says
 
-if ! command -v "$PKG_CONFIG" >/dev/null; then
-    echo "package: THERE IS NO $PKG_CONFIG: tests/pkg_config.sh reads the file in its place"
-    PKG_CONFIG=$root/tests/pkg_config.sh
-fi
 flags=$(PKG_CONFIG_PATH="$prefix/lib/pkgconfig" "$PKG_CONFIG" --static --cflags --libs sagepliers) || fail "pkg-config does not take the file"
 step "flags: $flags"
 case $flags in
@@ -182,14 +176,16 @@ over_11='1000000b 20000000 30000001 40000000 50000006 60000003 70000000 80000000
     sheet $over_11 >over_11.bin
 }
 
-# runs STATUS TEXT ARGUMENTS..: every host prints exactly the text, on standard output if the status is 0 or 1, and ends with the status.
+# runs STATUS TEXT ARGUMENTS..: every host prints exactly the text, on standard output if the status is 0 or 1, and ends with the status. It is run by
+# the command $as, if there is one.
+as=
 runs() {
     status=$1
     printf '%s\n' "$2" >expected
     shift 2
     for build in plain sanitized; do
         got=0
-        "./host_$build" "$@" >out 2>err || got=$?
+        $as "./host_$build" "$@" >out 2>err || got=$?
         [ "$got" -eq "$status" ] || { cat out err; fail "host_$build $* ended with $got, not $status"; }
         if [ "$status" -lt 2 ]; then
             [ ! -s err ] || { cat err; fail "host_$build $* wrote to standard error"; }
@@ -208,7 +204,7 @@ about() {
     3) echo 'prime from 11 to 2^28 - 1' ;;
     4) echo 'odd, from 3 to 255' ;;
     5) echo 'below p' ;;
-    6) echo 'exactly those of a certificate' ;;
+    6) echo 'exactly those of the sheet' ;;
     7) echo 'singular' ;;
     8) echo 'R1' ;;
     9) echo 'R2' ;;
@@ -216,7 +212,14 @@ about() {
     esac
 }
 
-# refused NUMBER WORDS..: the certificate is refused with the number, and the line says what the question is about.
+# prints PROGRAM TEXT FILE: the program prints exactly the text on the file's bytes.
+prints() {
+    printf '%s\n' "$2" >expected
+    "$prefix/bin/sagepliers-$1" <"$3" >out || fail "$1 ended with $?"
+    diff expected out || fail "$1 printed something else on $3 ($(stat -c %s "$3") bytes)"
+}
+
+# refused NUMBER WORDS..: host, verify and push refuse the certificate with the number, and the host's line says what the question is about.
 refused() {
     number=$1
     shift
@@ -231,6 +234,13 @@ refused_file() {
         [ "$got" -eq 1 ] || { cat out err; fail "host_$build on a sheet that gets $1 ended with $got"; }
         grep -q "^the certificate is refused with $1: .*$(about "$1")" out || { cat out; fail "host_$build: not refused with $1"; }
         [ "$(wc -l <out)" -eq 1 ] || { cat out; fail "host_$build pushed a point through a refused certificate"; }
+    done
+    prints verify "refused $1" "$2"
+    # (1008, 1), and a number above 2^56, which gets 12, but only through a certificate that passes.
+    for point in '100003f0 00000000' '00000001 01000000'; do
+        # shellcheck disable=SC2086
+        { sheet $point && cat "$2"; } >pushed.bin
+        prints push "refused $1" pushed.bin
     done
 }
 
@@ -248,7 +258,7 @@ runs 1 'the certificate passes
 (1009, 1) is refused with 12: the point is not one of the domain
 (1008, 1) goes to (617, 44)' first.bin 1008 2 1009 1 1008 1
 
-step "host: refused certificates, by document 01's questions"
+step "host, verify and push: refused certificates, by document 01's questions"
 g='800003da 80000001'
 n='900003b5 900002a6 900003c3 90000001'
 # shellcheck disable=SC2086
@@ -257,6 +267,8 @@ n='900003b5 900002a6 900003c3 90000001'
     refused 2 100003f1 20000001 30000003 40000109 5000036d 60000003                        # no seven words
     refused 3 100003e9 20000001 30000003 40000109 5000036d 60000003 7000002e $g $n f0000000 # p = 1001
     refused 4 100003f1 20000001 30000003 40000109 5000036d 60000006 7000002e $g $n f0000000 # l = 6
+    refused 4 1000000b 20000000 30000001 40000000 50000006 60000007 70000000 f0000000       # p = 11 with l = 7
+    refused 6 1000000b 20000000 30000001 40000000 50000006 60000005 70000000 f0000000       # p = 11 with l = 5 passes question 4
     refused 5 100003f1 200003f1 30000003 40000109 5000036d 60000003 7000002e $g $n f0000000 # A = p
     refused 6 $header $g $n                                                                # no end
     refused 6 $header $g $n f0000001                                                       # an end with value 1
@@ -285,21 +297,21 @@ runs 2 '-1 is neither' first.bin 1008 -1
 runs 2 '268435456 is neither' first.bin 268435456 1
 runs 2 '1x is neither' first.bin 1008 1x
 runs 2 ' is neither' first.bin '' 1
-if [ "$(id -u)" -ne 0 ]; then
-    cp first.bin unreadable.bin
-    chmod 000 unreadable.bin
-    runs 2 'cannot open unreadable.bin' unreadable.bin
-else
-    echo "package: run as root, who may read every file: the file without permission is left out"
+# Root may read every file, so there it is nobody who may not.
+cp first.bin unreadable.bin
+chmod 000 unreadable.bin
+if [ "$(id -u)" -eq 0 ]; then
+    need_tools setpriv
+    as='setpriv --reuid=65534 --regid=65534 --clear-groups'
+    chmod 711 "$work"
 fi
-if [ -c /dev/full ]; then
-    got=0
-    ./host_plain first.bin 1008 1 >/dev/full 2>err || got=$?
-    [ "$got" -eq 2 ] || fail "host does not see that its answer cannot be written"
-    grep -q 'cannot write' err || { cat err; fail "host does not say that its answer cannot be written"; }
-else
-    echo "package: there is no /dev/full: the full disk is left out"
-fi
+runs 0 'the certificate passes' first.bin
+runs 2 'cannot open unreadable.bin' unreadable.bin
+as=
+got=0
+./host_plain first.bin 1008 1 >/dev/full 2>err || got=$?
+[ "$got" -eq 2 ] || fail "host does not see that its answer cannot be written"
+grep -q 'cannot write' err || { cat err; fail "host does not say that its answer cannot be written"; }
 
 # ---- C++
 
@@ -336,72 +348,167 @@ $CC -std=c11 -O2 $strict -DSTACK=65536 "$root/tests/threads.c" $flags -pthread -
 ./threads || fail "threads"
 # The library is not instrumented: of its own accesses the sanitizer sees those through memcpy and memset. That it has no writable memory is seen above.
 # shellcheck disable=SC2086
-if $CC -std=c11 -g -O1 $strict -fsanitize=thread "$root/tests/threads.c" $flags -pthread -o threads_sanitized 2>log; then
-    got=0
-    ./threads_sanitized 200 >out 2>&1 || got=$?
-    if [ "$got" -ne 0 ] && grep -q 'FATAL: ThreadSanitizer' out; then
-        echo "package: THE THREAD SANITIZER DOES NOT START HERE: $(grep -m1 FATAL out)"
-    else
-        [ "$got" -eq 0 ] || { cat out; fail "threads under the thread sanitizer"; }
-        echo "under the thread sanitizer: $(cat out)"
-    fi
-else
-    echo "package: THE THREAD SANITIZER IS LEFT OUT, a build with it failed: $(head -n 1 log)"
-fi
+$CC -std=c11 -g -O1 $strict -fsanitize=thread "$root/tests/threads.c" $flags -pthread -o threads_sanitized ||
+    fail "threads.c does not build with the thread sanitizer"
+got=0
+$(unrandomized) ./threads_sanitized 200 >out 2>&1 || got=$?
+[ "$got" -eq 0 ] || { cat out; fail "threads under the thread sanitizer ended with $got"; }
+echo "under the thread sanitizer: $(cat out)"
 
 # ---- the programs
 
-# A program's output on a sheet, which goes to its standard input.
-prints() {
+# says PROGRAM TEXT WORDS..: the program prints exactly the text on the words.
+says() {
     program=$1
-    printf '%s\n' "$2" >expected
-    "$programs/sagepliers-$program" <"$3" >out || fail "$program ended with $?"
-    diff expected out || fail "$program printed something else"
+    text=$2
+    shift 2
+    sheet "$@" >sheet.bin
+    prints "$program" "$text" sheet.bin
 }
 
-programs_print() {
-    # shellcheck disable=SC2086
-    {
-        prints answer "$(printf '%s\n' $first)" question.bin
-        sheet 100003f1 20000001 30000003 40000109 5000036d 60000003 70000030 f0000000 >sheet.bin
-        prints answer 'refused 11' sheet.bin
-        prints answer 'refused 2' empty.bin
-        sheet 1000000b 20000000 30000001 60000003 80000000 80000001 f0000000 >sheet.bin
-        prints kernel "$(printf '%s\n' $over_11)" sheet.bin
-        sheet 1000000b 20000000 30000001 60000003 8000000a 80000001 f0000000 >sheet.bin
-        prints kernel 'refused 11' sheet.bin
-        prints verify passes first.bin
-        prints verify passes over_11.bin
-        prints verify 'refused 6' question.bin
-        # A point's number is u + 2^28 v in eight bytes, the low word first: (1008, 1), (0, 1), infinity.
-        { sheet 100003f0 00000000 && cat first.bin; } >sheet.bin
-        prints push "$(printf '%016x' $((617 + (44 << 28))))" sheet.bin
-        { sheet 10000000 00000000 && cat over_11.bin; } >sheet.bin
-        prints push 0100000000000000 sheet.bin
-        { sheet 00000000 01000000 && cat first.bin; } >sheet.bin
-        prints push 0100000000000000 sheet.bin
-        { sheet 20000000 00000000 && cat over_11.bin; } >sheet.bin
-        prints push 'refused 12' sheet.bin
-        prints push 'refused 2' empty.bin
-    }
+step "answer: document 01's questions"
+# shellcheck disable=SC2086
+{
+    says answer "$(printf '%s\n' $first)" $header f0000000
+    says answer "$(printf '%s\n' $over_11)" 1000000b 20000000 30000001 40000000 50000006 60000003 70000000 f0000000
+    says answer 'refused 11' 100003f1 20000001 30000003 40000109 5000036d 60000003 70000030 f0000000 # sigma = 48
+    says answer 'refused 11' 100003f1 20000001 30000003 40000109 5000036e 60000003 7000002e f0000000 # B~ = 878
+    says answer 'refused 2' 100003f1 30000001 30000003 40000109 5000036d 60000003 7000002e f0000000  # the second word of another kind
+    says answer 'refused 3' 100003e9 20000001 30000003 40000109 5000036d 60000003 7000002e f0000000  # p = 1001
+    says answer 'refused 4' 1000000b 20000000 30000001 40000000 50000006 60000007 70000000 f0000000  # p = 11 with l = 7
+    says answer 'refused 6' 1000000b 20000000 30000001 40000000 50000006 60000005 70000000           # with l = 5 it passes 4; there is no end
+    says answer 'refused 4' 100003f1 20000001 30000003 40000109 5000036d 60000006 7000002e f0000000  # l = 6
+    says answer 'refused 5' 100003f1 200003f1 30000003 40000109 5000036d 60000003 7000002e f0000000  # A = p
+    says answer 'refused 6' $header f0000000 f0000000                                                # a ninth word
+    says answer 'refused 6' $header f0000001                                                         # an end with value 1
+    says answer 'refused 6' $first                                                                   # a certificate is no question
+    says answer 'refused 7' 100003f1 20000000 30000000 40000109 5000036d 60000003 7000002e f0000000  # A = B = 0
 }
 
-step "the stand-ins for the programs, which the tutorial uses where there are no programs"
-programs=$work/stand_in
-mkdir "$programs"
-for name in answer kernel verify push; do
-    # shellcheck disable=SC2086
-    $CC -std=c11 -O2 $strict "$root/tests/stand_in.c" $flags -o "$programs/sagepliers-$name" || fail "stand_in.c does not build"
+step "kernel: document 01's kernel sheets"
+# shellcheck disable=SC2086
+{
+    says kernel "$(printf '%s\n' $over_11)" 1000000b 20000000 30000001 60000003 80000000 80000001 f0000000
+    says kernel "$(printf '%s\n' $first)" 100003f1 20000001 30000003 60000003 $g f0000000
+    says kernel 'refused 11' 1000000b 20000000 30000001 60000003 8000000a 80000001 f0000000         # g = x - 1
+    says kernel 'refused 2' $header f0000000                                                        # a question: its fourth word is no l
+    says kernel 'refused 3' 100003e9 20000000 30000001 60000003 80000000 80000001 f0000000          # p = 1001
+    says kernel 'refused 4' 1000000b 20000000 30000001 60000006 80000000 80000001 f0000000          # l = 6
+    says kernel 'refused 4' 1000000b 20000000 30000001 60000007 80000000 80000001 f0000000          # p = 11 with l = 7
+    says kernel 'refused 6' 1000000b 20000000 30000001 60000005 80000000 80000001 f0000000          # with l = 5 it passes 4; g is too short
+    says kernel 'refused 5' 1000000b 2000000b 30000001 60000003 80000000 80000001 f0000000          # A = p
+    says kernel 'refused 6' 1000000b 20000000 30000001 60000003 8000000b 80000001 f0000000          # a coefficient p
+    says kernel 'refused 6' 1000000b 20000000 30000001 60000003 80000000 80000001 f0000001          # an end with value 1
+    says kernel 'refused 7' 1000000b 20000000 30000000 60000003 80000000 80000001 f0000000          # A = B = 0
+    says kernel 'refused 8' 1000000b 20000000 30000001 60000003 80000000 80000002 f0000000          # g with leading 2
+}
+
+step "verify and push: document 01's certificates and points"
+prints verify passes first.bin
+prints verify passes over_11.bin
+# shellcheck disable=SC2086
+{
+    # A point's number is u + 2^28 v in eight bytes, the low word first.
+    says push "$(printf '%016x' $((617 + (44 << 28))))" 100003f0 00000000 $first # (1008, 1)
+    says push "$(printf '%016x' 3)" 30000002 00000000 $over_11                   # (2, 3) goes to (3, 0)
+    says push 0100000000000000 10000000 00000000 $over_11                        # (0, 1) goes to infinity
+    says push 0100000000000000 00000000 01000000 $first                          # infinity
+    says push 'refused 12' 20000000 00000000 $over_11                            # (0, 2) is not on the domain
+    says push 'refused 12' 100003f1 00000000 $first                              # u = p
+    says push 'refused 12' 00000001 01000000 $first                              # a number above 2^56
+    says push 'refused 12' ffffffff ffffffff $first
+}
+
+# agree COUNT LINE G QUESTION..: answer prints COUNT words, and from the line LINE on the words G, which end the coefficients of g; verify passes them,
+# kernel finds them again from p, A, B, l and g, and push takes infinity to infinity.
+agree() {
+    count=$1
+    line=$2
+    coefficients=$3
+    shift 3
+    sheet "$@" >sheet.bin
+    "$prefix/bin/sagepliers-answer" <sheet.bin >words || fail "answer ended with $?"
+    [ "$(wc -l <words)" -eq "$count" ] || { cat words; fail "answer did not print $count words"; }
+    case $(tail -n "+$line" words | tr '\n' ' ') in "$coefficients 9"*) ;; *) cat words && fail "answer printed another g" ;; esac
+    "$prefix/bin/sagepliers-sheets" bytes <words >certificate.bin || fail "what answer printed is no certificate"
+    prints verify passes certificate.bin
+    # shellcheck disable=SC2046
+    says kernel "$(cat words)" $(grep -e '^[1236]' -e '^8' words) f0000000
+    { sheet 00000000 01000000 && cat certificate.bin; } >pushed.bin
+    prints push 0100000000000000 pushed.bin
+}
+
+step "the programs agree: the kernel that is not cyclic, and multiplication by 15, over two primes"
+agree 23 8 '80000150 8000000c 80000002 80000000 80000001' 100003f1 20000001 30000003 40000051 500000a9 60000009 70000000 f0000000
+# By 15 on y^2 = x^3 + x + 3, as threads.c says: degree 225, codomain (15^4, 3 * 15^6), sigma 0, so the last coefficients of g are 0 and 1.
+for p in 268435399 457; do
+    # shellcheck disable=SC2046
+    agree 347 119 '80000000 80000001' $(printf '%x ' $((0x10000000 + p)) 0x20000001 0x30000003 $((0x40000000 + 50625 % p)) $((0x50000000 + 34171875 % p))) \
+        600000e1 70000000 f0000000
 done
-programs_print
 
-if [ -n "$bin" ]; then
-    step "the programs, installed by make install"
-    (cd "$root" && install install PREFIX="$work/whole") >log 2>&1 || { cat log; fail "make install"; }
-    programs=$work/whole/bin
-    programs_print
-else
-    echo "package: SAGEPLIERS_BIN_DIR IS NOT SET: THE PROGRAMS ARE LEFT OUT"
-fi
+step "the programs: sheets that are cut or go on"
+sheet 1000000b 20000000 30000001 60000003 80000000 80000001 f0000000 >kernel.bin
+cp question.bin answer.bin
+cp first.bin verify.bin
+{ sheet 100003f0 00000000 && cat first.bin; } >push.bin
+# header_of PROGRAM: how many bytes stand before the coefficients, or the end. A sheet that is cut there or later gets 6, one that is cut earlier, or within
+# a word, gets 2.
+header_of() {
+    case $1 in kernel) echo 16 ;; push) echo 36 ;; *) echo 28 ;; esac
+}
+for program in answer kernel verify push; do
+    before=$(header_of $program)
+    size=$(wc -c <$program.bin)
+    cut=0
+    while [ $cut -lt "$size" ]; do
+        number=2
+        if [ $((cut % 4)) -eq 0 ] && [ $cut -ge "$before" ]; then number=6; fi
+        head -c $cut $program.bin >sheet.bin
+        prints $program "refused $number" sheet.bin
+        cut=$((cut + 1))
+    done
+    # All lengths about the programs' room, 1572 bytes and eight more, and about the first piece behind it; 4001 and 5000 bytes more; and millions.
+    for whole in $(seq 1560 1590) $(seq 5660 5690) $((size + 1)) $((size + 2)) $((size + 3)) $((size + 4)) $((size + 4001)) $((size + 5000)) \
+        8000000 8000001 8000002 8000003; do
+        number=2
+        if [ $((whole % 4)) -eq 0 ]; then number=6; fi
+        { cat $program.bin && head -c $((whole - size)) /dev/zero; } >sheet.bin
+        prints $program "refused $number" sheet.bin
+    done
+done
+
+step "verify and push: the longest certificate"
+# Degree 255, 392 words: g = x^127 meets R1 with sigma 0, and N = 0 is not that of R2, whose highest coefficient is 1.
+# shellcheck disable=SC2046
+sheet 100003f1 20000001 30000003 40000109 5000036d 600000ff 70000000 \
+    $(yes 80000000 | head -n 127) 80000001 $(yes 90000000 | head -n 256) f0000000 >longest.bin
+[ "$(wc -c <longest.bin)" -eq 1568 ] || fail "the longest certificate has 392 words"
+refused_file 9 longest.bin
+for more in 1 2 3 4; do
+    { cat longest.bin && head -c $more /dev/zero; } >sheet.bin
+    { sheet 100003f0 00000000 && cat sheet.bin; } >pushed.bin
+    prints verify "refused $((more == 4 ? 6 : 2))" sheet.bin
+    prints push "refused $((more == 4 ? 6 : 2))" pushed.bin
+done
+
+step "the programs: input that comes in parts, is empty or cannot be read, and output that cannot be written"
+for program in answer kernel verify push; do
+    called=$prefix/bin/sagepliers-$program
+    "$called" <$program.bin >expected
+    { head -c 5 $program.bin && sleep 0.1 && tail -c +6 $program.bin; } | "$called" >out || fail "$program ended with $?"
+    cmp expected out || fail "$program printed something else on input that comes in parts"
+    # An input without words fails question 2. Closed, a directory, and open for writing alone: nothing can be read.
+    prints $program 'refused 2' empty.bin
+    prints $program 'refused 2' directory
+    echo 'refused 2' >expected
+    "$called" <&- >out || fail "$program ended with $? on closed input"
+    diff expected out || fail "$program printed something else on closed input"
+    "$called" 0>written >out || fail "$program ended with $? on input that is open for writing"
+    diff expected out || fail "$program printed something else on input that is open for writing"
+    # A program has no exit status of its own, so it ends as ever; docs/TRUST.md says what follows.
+    "$called" <$program.bin >&- 2>err || fail "$program ended with $? on closed output"
+    "$called" <$program.bin >/dev/full 2>err || fail "$program ended with $? on a full disk"
+done
 
 step "all passed"

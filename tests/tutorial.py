@@ -1,10 +1,10 @@
 #!/usr/bin/env python3
 """Runs docs/TUTORIAL.md: every command of its console blocks, in order, in an empty directory, and compares what each prints with the page.
 
-    SAGEPLIERS_LIB_DIR=directory/of/libsagepliers.a [SAGEPLIERS_BIN_DIR=directory/of/programs] tests/tutorial.py
+    SAGEPLIERS_LIB_DIR=directory/of/libsagepliers.a SAGEPLIERS_BIN_DIR=directory/of/programs tests/tutorial.py
 
-The package is installed into a temporary directory first. Where SAGEPLIERS_BIN_DIR is not set, tests/stand_in.c stands in for the programs. A command
-must end with status 0. Exit status 0 if all is as on the page, else 1. Needs make, a C compiler, and pkg-config or pkg_config.sh in its place.
+The package is installed into a temporary directory first. A command must end with status 0. Exit status 0 if all is as on the page, else 1. Needs make,
+a C compiler and pkg-config; needs.sh installs them.
 """
 
 import os
@@ -15,7 +15,6 @@ import tempfile
 
 ROOT = os.path.dirname(os.path.dirname(os.path.abspath(__file__)))
 PAGE = os.path.join(ROOT, "docs", "TUTORIAL.md")
-PROGRAMS = ("answer", "kernel", "verify", "push")
 LONGEST_RUN = 120  # seconds until a command that hangs is given up
 
 
@@ -55,11 +54,15 @@ def differences(page, directory, environment):
     return told
 
 
-def given_directory(variable):
+def given_directory(variable, names):
+    """The directory that an environment variable names; it has files of these names."""
     text = os.environ.get(variable, "")
-    if text and not os.path.isdir(text):
-        fail(f"{variable}: there is no directory {text}")
-    return os.path.abspath(text) if text else None
+    if not text:
+        fail(f"{variable} is not set")
+    for name in names:
+        if not os.path.isfile(os.path.join(text, name)):
+            fail(f"{variable}: there is no {name} in {text}")
+    return os.path.abspath(text)
 
 
 def call(*command):
@@ -69,16 +72,11 @@ def call(*command):
 
 
 def main():
-    library_directory = given_directory("SAGEPLIERS_LIB_DIR")
-    if library_directory is None:
-        fail("SAGEPLIERS_LIB_DIR is not set")
-    library = os.path.join(library_directory, "libsagepliers.a")
-    if not os.path.isfile(library):
-        fail(f"no libsagepliers.a in {library_directory}")
-    for tool in ("make", "cc"):
+    library = os.path.join(given_directory("SAGEPLIERS_LIB_DIR", ["libsagepliers.a"]), "libsagepliers.a")
+    programs = given_directory("SAGEPLIERS_BIN_DIR", ["answer", "kernel", "verify", "push"])
+    for tool in ("make", "cc", "pkg-config"):
         if shutil.which(tool) is None:
-            fail(f"{tool} is missing")
-    programs = given_directory("SAGEPLIERS_BIN_DIR")
+            fail(f"{tool} is missing; tests/needs.sh installs what the tests need")
 
     with open(PAGE, encoding="utf-8") as file:
         page = file.read()
@@ -87,23 +85,17 @@ def main():
     if len(found) != dollars or dollars < 20:
         fail(f"{dollars} lines of the page start with a dollar sign, and {len(found)} commands stand in console blocks")
 
+    # A make that calls this script hands its variables on to the one below.
+    os.environ.pop("MAKEFLAGS", None)
     with tempfile.TemporaryDirectory() as work:
         prefix = os.path.join(work, "prefix")
         directory = os.path.join(work, "empty")
         os.mkdir(directory)
-        if programs is None:
-            print("tutorial: SAGEPLIERS_BIN_DIR IS NOT SET: STAND-INS OVER THE LIBRARY RUN IN PLACE OF THE PROGRAMS")
-            programs = os.path.join(work, "stand_in")
-            os.mkdir(programs)
-            for name in PROGRAMS:
-                call("cc", "-std=c11", "-O2", "-Iinclude", "tests/stand_in.c", library, "-o", os.path.join(programs, name))
         # RT=false: what is built already may not be built again.
-        call("make", "RT=false", f"PREFIX={prefix}", f"LIBRARY={library}", f"BIN={programs}", "install")
+        call("make", "RT=false", f"PREFIX={prefix}", f"LIBRARY={library}", f"BIN={programs}", f"BUILD={work}/build", "install")
         environment = dict(os.environ, LC_ALL="C.UTF-8", PATH=os.path.join(prefix, "bin") + os.pathsep + os.environ["PATH"])
         environment["PKG_CONFIG_PATH"] = os.path.join(prefix, "lib", "pkgconfig")
-        if shutil.which("pkg-config") is None:
-            print("tutorial: THERE IS NO PKG-CONFIG: tests/pkg_config.sh reads the file in its place")
-            shutil.copy(os.path.join(ROOT, "tests", "pkg_config.sh"), os.path.join(prefix, "bin", "pkg-config"))
+        environment["LD_LIBRARY_PATH"] = os.path.join(prefix, "lib")
 
         # A page that is wrong must be seen: another output, one line too few, a command that fails.
         for wrong in ("$ echo a\nb", "$ printf 'a\\nb\\n'\na", "$ false", "$ sagepliers-sheets show missing.bin"):

@@ -1,0 +1,306 @@
+# Every subcommand: its answers, its ways to take a sheet and to show one, and what it says of a wrong command line.
+load common
+
+@test "solve: seven numbers, the answer in words, as JSON, in hexadecimal" {
+    gives 0 "$first_text" solve 1009 1 3 265 877 3 46
+    gives 0 "$first_json" solve --json 1009 1 3 265 877 3 46
+    # shellcheck disable=SC2086
+    gives 0 "$(printf '%s\n' $first)" solve --hex 1009 1 3 265 877 3 46
+    gives 0 '' solve -q 1009 1 3 265 877 3 46
+}
+
+@test "solve: the other marked questions" {
+    run --separate-stderr sagepliers solve --json 1009 1 3 81 169 9 0
+    [ "$status" -eq 0 ]
+    [[ $output == *'"g":[336,12,2,0,1]'* ]]
+    gives 0 'certificate: p = 11, degree 3, kernel sum 0
+domain: y^2 = x^3 + 1
+codomain: y^2 = x^3 + 6
+g = x
+N = x^3 + 4' solve 11 0 1 0 6 3 0
+}
+
+@test "solve: a negative number stands for itself plus p" {
+    gives 0 "$first_text" solve 1009 -1008 3 -744 877 3 -963
+    gives 0 "$first_text" solve 1009 1 3 265 -132 3 46
+}
+
+@test "solve: -o writes the bytes, and a refusal leaves the file as it was" {
+    gives 0 "$first_text" solve 1009 1 3 265 877 3 46 -o out.bin
+    cmp out.bin first.bin
+    gives 1 "$(refusal 11)" solve 1009 1 3 265 877 3 48 -o out.bin
+    cmp out.bin first.bin
+    gives 1 "$(refusal 11)" solve 1009 1 3 265 877 3 48 -o new.bin
+    [ ! -e new.bin ]
+    gives 0 '' solve -q --output=quiet.bin 1009 1 3 265 877 3 46
+    cmp quiet.bin first.bin
+}
+
+@test "solve: -o - writes nothing but bytes to standard output" {
+    sagepliers solve 1009 1 3 265 877 3 46 -o - >out.bin
+    cmp out.bin first.bin
+    run --separate-stderr sagepliers solve 1009 1 3 265 877 3 48 -o -
+    [ "$status" -eq 1 ]
+    [ -z "$output" ]
+    [ "$stderr" = "sagepliers: $(refusal 11)" ]
+}
+
+@test "solve and kernel: sheets from files and standard input, in bytes, hexadecimal and decimal" {
+    gives 0 "$first_text" solve question.bin
+    # shellcheck disable=SC2086
+    printf '%s\n' $header f0000000 >question.hex
+    gives 0 "$first_text" solve question.hex
+    tr 'a-f\n' 'A-F ' <question.hex >upper.hex
+    gives 0 "$first_text" solve upper.hex
+    printf '1009 1 3\r\n265 877\t3 -963\r\n' >question.txt
+    gives 0 "$first_text" solve question.txt
+    [ "$(sagepliers solve <question.bin)" = "$first_text" ]
+    [ "$(sagepliers solve - <question.hex)" = "$first_text" ]
+    printf '1009 1 3 3 -23 1' >kernel.txt
+    gives 0 "$first_text" kernel kernel.txt
+    gives 0 "$first_json" kernel --json kernel.txt
+    [ "$(sagepliers kernel --json <kernel.bin)" = '{"form":"certificate","p":11,"domain":[0,1],"codomain":[0,6],"degree":3,"sigma":0,"g":[0,1],"N":[4,0,0,1]}' ]
+}
+
+@test "kernel: numbers, and the marked refusals" {
+    gives 0 "$first_text" kernel 1009 1 3 3 -23 1
+    gives 0 "$first_text" kernel 1009 1 3 3 986 1 -o out.bin
+    cmp out.bin first.bin
+    gives 1 "$(refusal 11)" kernel 11 0 1 3 -1 1
+    gives 1 '{"result":"refused","number":11,"meaning":"there is no answer: nothing meets the rules"}' kernel --json 11 0 1 3 -1 1
+    # x - 22 is no kernel, though PARI/GP has a codomain for it
+    gives 1 "$(refusal 11)" kernel 1009 1 3 3 -22 1
+}
+
+@test "push: points, infinity, points of the kernel, and pairs that are no points" {
+    gives 0 '(1008, 1) -> (617, 44)
+infinity -> infinity' push first.bin 1008 1 infinity
+    gives 0 '(1008, 1) -> (617, 44)' push first.bin -1 -1008
+    # shellcheck disable=SC2086
+    words $over_11 >over_11.bin
+    gives 0 '(2, 3) -> (3, 0)
+(0, 1) -> infinity' push over_11.bin 2 3 0 1
+    gives 1 "(1008, 2): $(refusal 12)
+(1009, 1): $(refusal 12)
+(1008, 1) -> (617, 44)" push first.bin 1008 2 1009 1 1008 1
+    gives 0 '00000002c0000269
+0100000000000000' push --hex first.bin 1008 1 infinity
+    gives 1 "$(refusal 12)" push --hex first.bin 1008 2
+    gives 1 '{"point":[1008,1],"image":[617,44]}
+{"point":"infinity","image":"infinity"}
+{"point":[1008,2],"result":"refused","number":12,"meaning":"the point is not one of the domain"}' push --json first.bin 1008 1 infinity 1008 2
+    gives 1 '' push --quiet first.bin 1008 2
+    [ "$(sagepliers push - 1008 1 <first.bin)" = '(1008, 1) -> (617, 44)' ]
+}
+
+@test "push: a refused certificate pushes no point" {
+    gives 1 "$(refusal 6)" push question.bin 1008 1
+    gives 1 '{"result":"refused","number":6,"meaning":"the remaining words are not exactly those of the sheet"}' push --json question.bin 1008 1
+}
+
+@test "name: the j-value" {
+    gives 0 269 name 1009 1 3
+    gives 0 269 name 1009 -1008 3
+    gives 0 '{"p":1009,"curve":[1,3],"j":269}' name --json 1009 1 3
+    gives 0 '' name -q 1009 1 3
+}
+
+@test "check: one certificate" {
+    gives 0 'first.bin: passes' check first.bin
+    gives 0 '' check -q first.bin
+    gives 0 '{"file":"first.bin","result":"passes"}' check --json first.bin
+    [ "$(sagepliers check <first.bin)" = 'standard input: passes' ]
+    [ "$(sagepliers check - <first.bin)" = 'standard input: passes' ]
+    [ "$(sagepliers check --json - <first.bin)" = '{"file":"-","result":"passes"}' ]
+    gives 1 "question.bin: $(refusal 6)" check question.bin
+    gives 1 '{"file":"question.bin","result":"refused","number":6,"meaning":"the remaining words are not exactly those of the sheet"}' check --json question.bin
+}
+
+@test "check: several, with a summary" {
+    gives 0 '2 files: 2 pass, 0 refused' check first.bin first.bin
+    gives 1 "question.bin: $(refusal 6)
+3 files: 2 pass, 1 refused" check first.bin question.bin first.bin
+    gives 1 "first.bin: passes
+question.bin: $(refusal 6)
+2 files: 1 pass, 1 refused" check --verbose first.bin question.bin
+}
+
+@test "check: hexadecimal and decimal certificates are told apart" {
+    # shellcheck disable=SC2086
+    printf '%s\n' $first >first.hex
+    echo '1009 1 3 265 877 3 46 -23 1 949 678 -46 1' >first.txt
+    gives 0 '3 files: 3 pass, 0 refused' check first.bin first.hex first.txt
+    gives 0 '1 file: 1 pass, 0 refused' check --match '*.hex' .
+    gives 0 'first.hex: passes' check --input=hex first.hex
+    gives 0 'first.txt: passes' check --input=decimal first.txt
+    gives 0 'first.bin: passes' check --input=bytes first.bin
+    fails 'first.hex: this looks like hexadecimal text' check --input=bytes first.hex
+    fails 'first.hex: this looks like hexadecimal text' check --input=decimal first.hex
+    fails 'first.txt: this looks like decimal text' check --input=bytes first.txt
+    fails 'first.bin: this is no text' check --input=hex first.bin
+}
+
+@test "text that is no sheet is told as such, and is not refused" {
+    echo 'refused 11' >refusal.txt
+    fails 'refusal.txt: this looks like text, and not like a sheet' check refusal.txt
+    fails 'refusal.txt: this looks like text, and not like a sheet' solve refusal.txt
+    fails 'refusal.txt: this looks like text, and not like a sheet' push refusal.txt 1008 1
+    fails 'refusal.txt: this looks like text, and not like a sheet' show refusal.txt
+    printf ' \n' >blank.txt
+    fails 'not like a sheet' check blank.txt
+    printf 'Grüße\n' >utf8.txt
+    fails 'not like a sheet' check utf8.txt
+    echo '1009 1 3 265 877 3 046' >zero.txt # no shortest decimal form
+    fails 'not like a sheet' solve zero.txt
+    echo '1009 1 3 265 877 3 268435456' >large.txt
+    fails 'has no place in a word' solve large.txt
+    echo '1009 1 3 265 877 3 -1010' >small.txt
+    fails 'has no place in a word' solve small.txt
+}
+
+@test "show: the three forms in every view" {
+    gives 0 "$first_text" show first.bin
+    gives 0 "$first_json" show --json first.bin
+    # shellcheck disable=SC2086
+    gives 0 "$(printf '%s\n' $first)" show --hex first.bin
+    gives 0 'question: p = 1009, degree 3, kernel sum 46
+domain: y^2 = x^3 + x + 3
+codomain: y^2 = x^3 + 265*x + 877' show question.bin
+    gives 0 '{"form":"question","p":1009,"domain":[1,3],"codomain":[265,877],"degree":3,"sigma":46}' show --json question.bin
+    gives 0 'kernel sheet: p = 11, degree 3
+domain: y^2 = x^3 + 1
+g = x' show kernel.bin
+    gives 0 '{"form":"kernel","p":11,"domain":[0,1],"degree":3,"g":[0,1]}' show --json kernel.bin
+    gives 0 '  0  1000000b  kind  1  p      11
+  1  20000000  kind  2  A      0
+  2  30000001  kind  3  B      1
+  3  60000003  kind  6  l      3
+  4  80000000  kind  8  g      0
+  5  80000001  kind  8  g      1
+  6  f0000000  kind 15  end    0' show --words kernel.bin
+    gives 0 '' show -q first.bin
+}
+
+@test "show: judges nothing, and turns one writing into another" {
+    gives 0 'question: p = 1001, degree 6, kernel sum 5000
+domain: y^2 = x^3
+codomain: y^2 = x^3 + 2*x' show 1001 0 0 2 0 6 5000 -o question.out
+    words 100003e9 20000000 30000000 40000002 50000000 60000006 70001388 f0000000 | cmp - question.out
+    sagepliers show --hex first.bin >first.hex
+    sagepliers show -o - first.hex | cmp - first.bin
+    gives 0 '' show -q -o again.bin 1009 1 3 265 877 3 46 -23 1 949 678 963 1
+    cmp again.bin first.bin
+    gives 0 '' show -q -o again.bin --form=kernel 11 0 1 3 0 1
+    cmp again.bin kernel.bin
+    # Seven numbers may be either; l = 5 and three coefficients of g
+    gives 0 'kernel sheet: p = 1009, degree 5
+domain: y^2 = x^3 + x + 3
+g = x^2 + 7*x + 6' show --form=kernel 1009 1 3 5 6 7 1
+}
+
+@test "show: what is no sheet is shown word by word, with status 1" {
+    # shellcheck disable=SC2086
+    words $header $g $n >cut.bin
+    printf 'xyz' >>cut.bin
+    run --separate-stderr sagepliers show cut.bin
+    [ "$status" -eq 1 ]
+    [ "${lines[0]}" = '  0  100003f1  kind  1  p      1009' ]
+    [ "${lines[13]}" = ' 13  78        left over' ]
+    [[ $stderr == *'no question, certificate or kernel sheet'* ]]
+    run --separate-stderr sagepliers show --json cut.bin
+    [ "$status" -eq 1 ]
+    [[ $output == '{"form":null,"bytes":55,"words":["100003f1",'*'"90000001"]}' ]]
+    : >empty.bin
+    run --separate-stderr sagepliers show empty.bin
+    [ "$status" -eq 1 ]
+    [ -z "$output" ]
+}
+
+@test "polynomials: coefficients 0 and 1, and none but 0" {
+    gives 0 'kernel sheet: p = 1009, degree 7
+domain: y^2 = x^3
+g = x^3 + 2*x + 1' show --form=kernel 1009 0 0 7 1 2 0 1
+    gives 0 'kernel sheet: p = 1009, degree 5
+domain: y^2 = x^3 + x
+g = 0' show --form=kernel 1009 1 0 5 0 0 0
+    gives 0 'kernel sheet: p = 1009, degree 3
+domain: y^2 = x^3 + 1
+g = 5*x' show --form=kernel 1009 0 1 3 0 5
+}
+
+@test "polynomials are shown so that PARI/GP reads them back" {
+    sagepliers solve --json 1009 1 3 81 169 9 0 >answer.json
+    sagepliers solve 1009 1 3 81 169 9 0 >answer.txt
+    for name in g N; do
+        text=$(sed -n "s/^$name = //p" answer.txt)
+        wanted=$(sed "s/.*\"$name\":\(\[[0-9,]*\]\).*/\1/" answer.json)
+        got=$(echo "print(Vecrev($text))" | gp -q -f | tr -d ' ')
+        [ "$got" = "$wanted" ] || say "$name: $got, not $wanted"
+    done
+}
+
+@test "wrong command lines" {
+    fails 'a command is missing'
+    fails 'guess is no command' guess
+    fails '-5 is no command' -5
+    fails "unrecognized option '--guess'" --guess
+    fails "unrecognized option '--guess'" solve --guess
+    fails '6 numbers' solve 1009 1 3 265 877 3
+    fails '8 numbers' solve 1009 1 3 265 877 3 46 1
+    fails 'write ./1009' solve 1009
+    fails 'x is no number' solve 1009 1 3 265 877 3 x
+    fails '007 is no number' solve 1009 1 3 265 877 3 007
+    fails ' is no number' solve 1009 1 3 265 877 3 ''
+    fails '+3 is no number' solve 1009 1 +3 265 877 3 46
+    fails 'first.bin is no number' solve first.bin b.bin
+    fails '268435456 has no place in a word' solve 268435456 1 3 265 877 3 46
+    fails '-1010 has no place in a word' solve 1009 1 3 265 877 3 -1010
+    fails '-3 has no place in a word' solve 1009 1 3 265 877 -3 46
+    fails '-1009 has no place in a word' solve -1009 1 3 265 877 3 46
+    fails '4294967296 is no number' solve 4294967296 1 3 265 877 3 46
+    fails '5 numbers' kernel 1009 1 3 3 1
+    fails 'a certificate and points are missing' push
+    fails 'points are missing' push first.bin
+    fails 'has no v' push first.bin 1008
+    fails 'x is neither a number nor infinity' push first.bin 1008 x
+    fails '268435456 is no coordinate' push first.bin 268435456 1
+    fails '-1010 is no coordinate' push first.bin 1008 -1010
+    fails '2 arguments' name 1009 1
+    fails '4 arguments' name 1009 1 3 4
+    fails 'x is no number' name 1009 1 x
+    fails '-1010 is out of range' name 1009 1 -1010
+    fails '--jobs=x' check --jobs=x first.bin
+    fails '--jobs=257' check --jobs 257 first.bin
+    fails '--jobs=-1' check -j -1 first.bin
+    fails '--input=words' check --input=words first.bin
+    fails '--form=sheet' show --form=sheet first.bin
+    fails "requires an argument" solve 1009 1 3 265 877 3 46 -o
+}
+
+@test "--help, --usage and --version, of the command and of each subcommand" {
+    run --separate-stderr sagepliers --version
+    [ "$status" -eq 0 ]
+    [ "${lines[0]}" = "sagepliers $SAGEPLIERS_VERSION" ]
+    [[ $output == *'every function behind its five entries is proved'*"toolchain $SAGEPLIERS_TOOLCHAIN"* ]]
+    [[ $output == *'not proved'* ]]
+    for name in solve kernel check push name show; do
+        run --separate-stderr sagepliers --help
+        [ "$status" -eq 0 ]
+        [[ $output == *"  $name  "* ]]
+        [ "$(sagepliers "$name" --version)" = "$(sagepliers --version)" ]
+        run --separate-stderr sagepliers "$name" --help
+        [ "$status" -eq 0 ]
+        [[ $output == "Usage: sagepliers $name "* ]]
+        run --separate-stderr sagepliers "$name" --usage
+        [ "$status" -eq 0 ]
+    done
+}
+
+@test "README shows what the command prints" {
+    awk 'BEGIN { RS = "" } /^    \$ /' "$ROOT/README.md" | sed 's/^    //' >screen
+    [ "$(grep -c '^\$ sagepliers' screen)" -eq 2 ]
+    sed -n 's/^\$ //p' screen >lines
+    # Refusals end with status 1.
+    while IFS= read -r line; do eval "$line" </dev/null >>got || true; done <lines
+    sed '/^\$ /d' screen | diff - got
+}

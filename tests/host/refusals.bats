@@ -1,0 +1,121 @@
+# Every refusal that each subcommand can give, by the questions' own rows. Question 1 cannot fail here: the command lends the room that it asks for.
+load common
+
+# check_refuses NUMBER WORDS..
+check_refuses() {
+    local number=$1
+    shift
+    words "$@" >damaged.bin
+    gives 1 "damaged.bin: $(refusal "$number")" check damaged.bin
+    gives 1 "$(refusal "$number")" push damaged.bin 1008 1
+}
+
+# sheet_refused COMMAND NUMBER WORDS..
+sheet_refused() {
+    local command=$1 number=$2
+    shift 2
+    words "$@" >damaged.bin
+    gives 1 "$(refusal "$number")" "$command" damaged.bin
+}
+
+@test "check and push: 2 to 10" {
+    # shellcheck disable=SC2086
+    {
+        check_refuses 2 200003f1 20000001 30000003 40000109 5000036d 60000003 7000002e $g $n f0000000 # the first word of another kind
+        check_refuses 2 100003f1 20000001 30000003 40000109 5000036d 60000003                        # no seven words
+        check_refuses 3 100003e9 20000001 30000003 40000109 5000036d 60000003 7000002e $g $n f0000000 # p = 1001
+        check_refuses 3 10000007 20000001 30000003 40000001 50000003 60000003 70000002 $g $n f0000000 # p = 7
+        check_refuses 4 100003f1 20000001 30000003 40000109 5000036d 60000006 7000002e $g $n f0000000 # l = 6
+        check_refuses 4 1000000b 20000001 30000003 40000001 50000003 60000007 70000002 $g $n f0000000 # p = 11 with l = 7
+        check_refuses 6 1000000b 20000001 30000003 40000001 50000003 60000005 70000002 $g $n f0000000 # with l = 5 it passes 4
+        check_refuses 5 100003f1 200003f1 30000003 40000109 5000036d 60000003 7000002e $g $n f0000000 # A = p
+        check_refuses 5 100003f1 20000001 30000003 40000109 5000036d 60000003 700003f1 $g $n f0000000 # sigma = p
+        check_refuses 6 $header $g $n                                                                # no end
+        check_refuses 6 $header $g $n f0000001                                                       # an end with value 1
+        check_refuses 6 $header $g $n f0000000 f0000000                                              # a word after the end
+        check_refuses 6 $header 800003f1 80000001 $n f0000000                                        # a coefficient p
+        check_refuses 6 $header f0000000                                                             # a question is no certificate
+        check_refuses 7 100003f1 20000000 30000000 40000109 5000036d 60000003 7000002e $g $n f0000000 # A = B = 0
+        check_refuses 8 $header 800003da 80000002 $n f0000000                                        # g with leading 2
+        check_refuses 9 1000000b 20000000 30000001 40000000 50000001 60000003 70000002 8000000a 80000001 90000000 90000001 90000009 90000001 f0000000
+        check_refuses 10 1000000b 20000000 30000001 40000000 50000007 60000003 70000000 80000000 80000001 90000004 90000000 90000000 90000001 f0000000
+    }
+}
+
+# pari_sheet U: the certificate of what PARI/GP computes for the kernel polynomial x - U of (1, 3) over 1009, in decimal.
+pari_sheet() {
+    echo "v = ellisogeny(ellinit([1, 3], 1009), x - $1); c = lift(v[1]); n = Vecrev(lift(v[2][1]));
+          print(strjoin([1009, 1, 3, c[4], c[5], 3, $((2 * $1)), -$1, 1, n[1], n[2], n[3], n[4]], \" \"))" | gp -q -f
+}
+
+@test "check: what PARI/GP gives for x - 22, which is no kernel polynomial, gets 10; for x - 23 it passes" {
+    pari_sheet 22 >pari.txt
+    [ "$(cat pari.txt)" = '1009 1 3 606 295 3 44 -22 1 958 363 -44 1' ] || say "$(cat pari.txt)"
+    gives 1 "pari.txt: $(refusal 10)" check pari.txt
+    gives 1 "$(refusal 11)" kernel 1009 1 3 3 -22 1
+    pari_sheet 23 >pari.txt
+    gives 0 'pari.txt: passes' check pari.txt
+}
+
+@test "bytes that are no whole words get 2, and so does nothing at all" {
+    head -c 55 first.bin >short.bin
+    gives 1 "short.bin: $(refusal 2)" check short.bin
+    { cat first.bin && printf '\0'; } >long.bin
+    gives 1 "long.bin: $(refusal 2)" check long.bin
+    head -c 31 question.bin >short.bin
+    gives 1 "$(refusal 2)" solve short.bin
+    head -c 27 kernel.bin >short.bin
+    gives 1 "$(refusal 2)" kernel short.bin
+    : >empty.bin
+    gives 1 "empty.bin: $(refusal 2)" check empty.bin
+    gives 1 "$(refusal 2)" solve empty.bin
+    gives 1 "$(refusal 2)" kernel empty.bin
+    gives 1 "$(refusal 2)" push empty.bin 1008 1
+    gives 1 "/dev/null: $(refusal 2)" check /dev/null
+}
+
+@test "solve: 2 to 7 and 11, from words and from numbers" {
+    # shellcheck disable=SC2086
+    {
+        sheet_refused solve 2 $g $n
+        sheet_refused solve 6 $header f0000000 f0000000 # a ninth word
+        sheet_refused solve 6 $header
+    }
+    gives 1 "$(refusal 3)" solve 1001 1 3 265 877 3 46
+    gives 1 "$(refusal 4)" solve 1009 1 3 265 877 6 46
+    gives 1 "$(refusal 4)" solve 11 0 1 0 6 7 0
+    gives 1 "$(refusal 4)" solve 1009 1 3 265 877 257 46
+    gives 1 "$(refusal 5)" solve 1009 1009 3 265 877 3 46
+    gives 1 "$(refusal 7)" solve 1009 0 0 265 877 3 46
+    gives 1 "$(refusal 11)" solve 1009 1 3 265 877 3 48
+    gives 1 "$(refusal 11)" solve 1009 1 3 265 878 3 46
+}
+
+@test "kernel: 2 to 8 and 11" {
+    # shellcheck disable=SC2086
+    sheet_refused kernel 2 $first
+    gives 1 "$(refusal 3)" kernel 1001 1 3 3 986 1
+    gives 1 "$(refusal 4)" kernel 1009 1 3 6 986 1
+    gives 1 "$(refusal 5)" kernel 1009 1 1009 3 986 1
+    gives 1 "$(refusal 6)" kernel 1009 1 3 3 986 1 1
+    gives 1 "$(refusal 6)" kernel 1009 1 3 3 1009 1
+    gives 1 "$(refusal 7)" kernel 1009 0 0 3 986 1
+    gives 1 "$(refusal 8)" kernel 1009 1 3 3 986 2
+    gives 1 "$(refusal 11)" kernel 11 0 1 3 10 1
+}
+
+@test "name: 3, 5 and 7, for all of 32 bits" {
+    gives 1 "$(refusal 3)" name 1001 1 3
+    gives 1 "$(refusal 3)" name 268435456 1 3
+    gives 1 "$(refusal 3)" name 4294967295 1 3
+    gives 1 "$(refusal 5)" name 1009 1 1009
+    gives 1 "$(refusal 5)" name 1009 4294967295 3
+    gives 1 "$(refusal 7)" name 1009 0 0
+    gives 1 '{"result":"refused","number":7,"meaning":"a curve is singular"}' name --json 1009 0 0
+}
+
+@test "12 comes after the certificate's own questions" {
+    gives 1 "(1009, 0): $(refusal 12)" push first.bin 1009 0
+    gives 1 "(268435455, 268435455): $(refusal 12)" push first.bin 268435455 268435455
+    gives 1 "$(refusal 6)" push question.bin 1009 0
+}
