@@ -18,7 +18,7 @@ use Rattle.promises.specs.declared.Image.{Image}
 use Rattle.promises.specs.Asked.{enough}
 use Rattle.promises.specs.Answer.{CheckRight, SolveRight, KernelRight, PushRight}
 
--- "Q" lists p, A, B, Ã, B̃, ℓ, σ
+-- a question by its seven numbers
 abbrev pub Q : ℕ → ℕ → ℕ → ℕ → ℕ → ℕ → ℕ → Values
 Q p A B Ã B̃ ℓ σ = record { p = p; a = A; b = B; atilde = Ã; btilde = B̃; degree = ℓ; sigma = σ }
 
@@ -46,7 +46,7 @@ question-words v =
 abbrev pub kernel-words : Values → List ℕ → List ℕ
 kernel-words v g = word 1 (v .p) ∷ word 2 (v .a) ∷ word 3 (v .b) ∷ word 6 (v .degree) ∷ map (word 8) g ++ word 15 0 ∷ []
 
--- "3d + 11 words", and a certificate in a lent buffer
+-- how many words a certificate has, and one in a lent buffer
 abbrev pub count : Values → ℕ
 count v = 3 * half v + 11
 
