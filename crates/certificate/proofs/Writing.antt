@@ -17,7 +17,7 @@ use Rattle.sheet.specs.Ready.{Ready}
 use Rattle.certificate.specs.Certificate.{headerWords, certificate, valueAt, Writable, Stored}
 use Rattle.certificate.specs.Fits.{ValuesFit, values-fit}
 use Rattle.sheet.specs.Table.{at}
-use Rattle.sheet.proofs.Places.{place-is}
+use Rattle.sheet.specs.Places.{place-is}
 use Rattle.certificate.proofs.Stores.{Front, front-paste, front-one, front-length}
 
 -- kind k stands at place k − 1 of a certificate

@@ -30,6 +30,12 @@ module _ (R : CRing) where
   unfoldable pub JValue : Car → Car → Car → Type 0
   JValue A B j = j ⊗ discriminant A B ≡ # 1728 ⊗ (# 4 ⊗ A ^ 3)
 
+  -- one name for two curves: some j is the j-value of both
+  pub record SameName (A B A′ B′ : Car) : Type 0 where
+    pub j : Car
+    pub first : JValue A B j
+    pub second : JValue A′ B′ j
+
   -- the affine point (u, v) is on the curve
   unfoldable pub OnCurve : Car → Car → Car → Car → Type 0
   OnCurve A B u v = v ^ 2 ≡ u ^ 3 ⊕ A ⊗ u ⊕ B

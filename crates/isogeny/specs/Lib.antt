@@ -3,6 +3,8 @@ pub mod Rules
 pub mod Expansion
 pub mod Solution
 pub mod Kernel
+pub mod Velu
+pub mod Source
 pub mod Theorems
 pub mod Examples
 pub mod Proof

@@ -19,6 +19,7 @@ pub mod Factor
 pub mod Fast
 pub mod Quotient
 pub mod Codomain
+pub mod Velu
 pub mod Decision
 pub mod Image
 pub mod JValue

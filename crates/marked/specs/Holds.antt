@@ -1,22 +1,23 @@
 -- Whether a row of the table holds, by computing: `test` is a boolean that the checker computes, and a row that passes it holds.
 -- Assumes nothing.
-use mathlib.Core.Path.{_≡_, refl, sym, ap, subst}
+use mathlib.Core.Path.{_≡_, refl, sym, _∙_, ap, subst}
 use mathlib.Core.Bool.{Bool, true, false, not}
 use mathlib.Core.Logic.{inl, inr}
 use mathlib.Core.List.{List, [], _∷_, _++_}
-use Prim.Native.Nat.{ℕ, _+_, _*_, _<_, _≤_}
+use Prim.Native.Nat.{ℕ, suc, _+_, _*_, _%_, _<_, _≤_}
 use native.Mathlib.Omega.{arith}
-use lib.Dec.{T, eqb, eqb→eq, ltb, ltb→lt}
-use lib.ListN.{length, drop}
+use lib.Dec.{T, eqb, eqb→eq, leb, leb→le, ltb, ltb→lt}
+use lib.ListN.{length, getD, drop}
 use Rattle.ring.specs.Test.{both, both-left, both-right}
-use Rattle.zmod.specs.Zmod.{Elt, Zmod, mk}
+use Rattle.zmod.specs.Zmod.{Elt, Zmod, mk, mk-eq}
 use Rattle.zmod.specs.Prime.{prime-pos}
-use Rattle.zmod.specs.Residues.{poly}
+use Rattle.zmod.specs.Residues.{poly, poly-at}
 use Rattle.isogeny.specs.Curve.{Nonsingular}
 use Rattle.isogeny.specs.Rules as Rules
 use Rattle.isogeny.specs.Rules.{N, R1, R3, Meets}
 use Rattle.sheet.specs.declared.Form.the-variants.{Question, Certificate, Kernel}
 use Rattle.sheet.specs.declared.Values.{Values}
+use Rattle.sheet.specs.Form.{certificateWords}
 use Rattle.sheet.specs.Values.{gOf, nOf, valuesOf, half}
 use Rattle.sheet.specs.Asked.{asked}
 use Rattle.certificate.specs.Certificate.{certificate}
@@ -27,13 +28,14 @@ use Rattle.promises.specs.declared.Point.{Point}
 use Rattle.promises.specs.declared.Point.the-variants as point
 use Rattle.promises.specs.declared.Image.{Image}
 use Rattle.promises.specs.declared.Image.the-variants as image
-use Rattle.promises.specs.Asked.{prime, put, g, n, enough, check-asks, push-asks, Solvable, Codomain, Leading, Given}
-use Rattle.promises.specs.Answer.{SolveRight, KernelRight, PushRight, Filled, kernel-values}
+use Rattle.promises.specs.Asked.{prime, put, g, n, Room, check-asks, push-asks, Solvable, last-ask, Passing, Leading, Given}
+use Rattle.promises.specs.Answer.{SolveRight, KernelRight, PushRight, CertificateIn, with}
 use Rattle.marked.specs.Tests.{every, Every, every-yes, same-list, same-list-yes, below, below-yes}
-use Rattle.marked.specs.Rules.{R1-test, R1-by-computing, R2-test, R2-by-computing, R2-refuted, R3-test, R3-by-computing, R3-refuted, meets-test, meets-by-computing, none-test, none-by-computing, nonsingular-test, nonsingular-by-computing, on-curve-test, on-curve-by-computing, image-test, image-by-computing, vanishes-test, vanishes-by-computing}
+use Rattle.marked.specs.Rules.{numerator, R1-test, R1-by-computing, R2-test, R2-by-computing, R2-refuted, R3-test, R3-by-computing, R3-refuted, meets-test, meets-by-computing, none-test, none-by-computing, nonsingular-test, nonsingular-by-computing, on-curve-test, on-curve-by-computing, image-test, image-by-computing, vanishes-test, vanishes-by-computing}
 use Rattle.marked.specs.Sheets.{asked-test, asked-by-computing, prime-by-computing, least-by-computing}
+use Rattle.marked.specs.NoCodomain.{candidate, no-codomain}
 use Rattle.marked.specs.Row.{Row, Claim, question-words, kernel-words, count, filled}
-use Rattle.marked.specs.Row.Row.{solves, unsolved, pushes, kernel, refused, refused-though}
+use Rattle.marked.specs.Row.Row.{solves, unsolved, pushes, kernel, no-kernel, refused, refused-though}
 
 -- ── a certificate in the buffer: the values v, g and n of a row against those that are read from the sheet
 
@@ -41,20 +43,16 @@ module _ (read : Values) (g n : List ℕ) (v : Values) (g₀ : List ℕ) where
   abbrev fill-tests : List Bool
   fill-tests =
       meets-test read g n ∷ eqb (length g) (half read + 1) ∷ eqb (length n) (2 * half read + 2) ∷ below (read .p) g ∷ below (read .p) n
-      ∷ eqb (count v) (3 * half read + 11) ∷ same-list (certificate v g₀ n) (certificate read g n) ∷ []
+      ∷ eqb (count v) (certificateWords (half read)) ∷ same-list (certificate v g₀ n) (certificate read g n) ∷ []
 
-  abbrev fill-by-computing : 0 < read .p → Every fill-tests → (before : List ℕ) → Filled read before (filled v g₀ n before) (count v)
+  abbrev fill-by-computing : 0 < read .p → Every fill-tests → (before : List ℕ) → CertificateIn read before (filled v g₀ n before) (count v)
   fill-by-computing pos t before = record {
     g = g;
     n = n;
-    g-length = eqb→eq _ _ (t 1);
-    n-length = eqb→eq _ _ (t 2);
-    g-reduced = below-yes (read .p) pos g (t 3);
+    g-words = record { count = eqb→eq _ _ (t 1); reduced = below-yes (read .p) pos g (t 3) };
+    n-words = record { count = eqb→eq _ _ (t 2); reduced = below-yes (read .p) pos n (t 4) };
     meets = meets-by-computing read g n pos (t 0);
-    n-is = record {
-      reduced = below-yes (read .p) pos n (t 4);
-      coefficients = λ i l. ap (λ s. s i) (R2-by-computing read g n pos (both-left (R2-test read g n) (R3-test read g n) (both-right (R1-test read g) _ (t 0))));
-    };
+    n-is = R2-by-computing read g n pos (both-left (R2-test read g n) (R3-test read g n) (both-right (R1-test read g) _ (t 0)));
     count-is = eqb→eq _ _ (t 5);
     words = ap (λ l. l ++ drop (count v) before) (same-list-yes (certificate v g₀ n) (certificate read g n) (t 6));
   }
@@ -71,19 +69,19 @@ module _ (v : Values) where
   abbrev solve-test : List ℕ → List ℕ → Bool
   solve-test g n = both (asked-test Question ws) (every (fill-tests read g n v g))
 
-  solve-by-computing : (g n : List ℕ) → T (solve-test g n) → (before : List ℕ) → enough ≤ length before
+  solve-by-computing : (g n : List ℕ) → T (solve-test g n) → (before : List ℕ) → Room (length before)
       → SolveRight ws before (filled v g n before) (written.Count (count v))
   solve-by-computing g n t before room =
       let a : Bool = asked-test Question ws in
       let ta : T (asked-test Question ws) = both-left a _ t in
       let pos : 0 < read .p = prime-pos (prime-by-computing Question ws ta) in
-      let fill : Filled read before (filled v g n before) (count v) = fill-by-computing read g n v g pos (every-yes (fill-tests read g n v g) (both-right a _ t)) before in
-      ((room, all-all (asked Question ws) ((11, Solvable ws) ∷ []) (asked-by-computing Question ws ta) (record { g = poly (read .p) (fill .g); meets = fill .meets }, tt)), fill)
+      let fill : CertificateIn read before (filled v g n before) (count v) = fill-by-computing read g n v g pos (every-yes (fill-tests read g n v g) (both-right a _ t)) before in
+      ((room, all-all (asked Question ws) ((11, Solvable read) ∷ []) (asked-by-computing Question ws ta) (record { g = poly (read .p) (fill .g); meets = fill .meets }, tt)), fill)
 
   abbrev unsolved-test : ℕ → Bool
   unsolved-test k = both (asked-test Question ws) (both (none-test read) (eqb k 11))
 
-  unsolved-by-computing : (k : ℕ) → T (unsolved-test k) → (before : List ℕ) → enough ≤ length before
+  unsolved-by-computing : (k : ℕ) → T (unsolved-test k) → (before : List ℕ) → Room (length before)
       → SolveRight ws before before (written.Refused k)
   unsolved-by-computing k t before room =
       let a : Bool = asked-test Question ws in
@@ -92,7 +90,7 @@ module _ (v : Values) where
       let small : 11 ≤ read .p = least-by-computing Question ws ta in (
         inr (
           room,
-          no-after (asked Question ws) ((11, Solvable ws) ∷ []) k (asked-by-computing Question ws ta)
+          no-after (asked Question ws) ((11, Solvable read) ∷ []) k (asked-by-computing Question ws ta)
               (inl (
                 eqb→eq k 11 (both-right (none-test read) (eqb k 11) rest),
                 λ s. none-by-computing read (prime-by-computing Question ws ta) (omega arith) (both-left (none-test read) (eqb k 11) rest) (s .g) (s .meets),
@@ -175,10 +173,10 @@ module _ (ws : List ℕ) where
   given-by-computing t u w s =
       let r : Every (given-tests u w) = every-yes (given-tests u w) s in
       let p : Every pass-tests = every-yes pass-tests t in
-      all-all (check-asks ws) ((12, Given ws (point.Affine u w)) ∷ []) (pass-by-computing p) (
+      all-all (check-asks ws) ((12, Given v (point.Affine u w)) ∷ []) (pass-by-computing p) (
         record {
-          u-below = ltb→lt u (v .p) (r 0);
-          v-below = ltb→lt w (v .p) (r 1);
+          x-below = ltb→lt u (v .p) (r 0);
+          y-below = ltb→lt w (v .p) (r 1);
           on = on-curve-by-computing (positive (p 0)) (v .a) (v .b) u w (r 2);
         },
         tt,
@@ -189,7 +187,7 @@ module _ (ws : List ℕ) where
     given-by-computing (t 0) u w (t 1),
     record {
       u-below = ltb→lt u′ (v .p) (t 2);
-      v-below = ltb→lt w′ (v .p) (t 3);
+      w-below = ltb→lt w′ (v .p) (t 3);
       image = image-by-computing v γ ν (positive (every-yes pass-tests (t 0) 0)) u w u′ w′ (t 4);
     },
   )
@@ -198,7 +196,7 @@ module _ (ws : List ℕ) where
   push-by-computing (point.Affine u w) (image.Refused k) t = absurd (t 0)
   push-by-computing point.Infinity (image.Affine u′ w′) t = absurd (t 0)
   push-by-computing point.Infinity image.Infinity t =
-      (all-all (check-asks ws) ((12, Given ws point.Infinity) ∷ []) (pass-by-computing (every-yes pass-tests (t 0))) (tt, tt), tt)
+      (all-all (check-asks ws) ((12, Given v point.Infinity) ∷ []) (pass-by-computing (every-yes pass-tests (t 0))) (tt, tt), tt)
   push-by-computing point.Infinity (image.Refused k) t = absurd (t 0)
 
 -- ── kernel
@@ -208,7 +206,7 @@ module _ (v : Values) (g₀ n : List ℕ) where
   sheet = kernel-words v g₀
 
   abbrev completed : Values
-  completed = kernel-values sheet (v .atilde) (v .btilde) (v .sigma)
+  completed = with (valuesOf Kernel sheet) (v .atilde) (v .btilde) (v .sigma)
 
   abbrev γ₀ : List ℕ
   γ₀ = gOf Kernel sheet
@@ -229,7 +227,7 @@ module _ (v : Values) (g₀ n : List ℕ) where
     σ = s;
   }
 
-  kernel-by-computing : Every codomain-tests → (before : List ℕ) → enough ≤ length before
+  kernel-by-computing : Every codomain-tests → (before : List ℕ) → Room (length before)
       → KernelRight sheet before (filled v g₀ n before) (written.Count (count v))
   kernel-by-computing t before room =
       let p : ℕ = completed .p in
@@ -241,7 +239,7 @@ module _ (v : Values) (g₀ n : List ℕ) where
       let meets : Meets (Zmod p) (with-sigma (mk p (v .sigma))) (poly p γ₀) = meets-by-computing completed γ₀ n pos (fill 0) in (
         (
           room,
-          all-all (asked Kernel sheet) ((8, Leading sheet) ∷ (11, Codomain sheet) ∷ []) (asked-by-computing Kernel sheet (t 0)) (
+          all-all (asked Kernel sheet) (last-ask (valuesOf Kernel sheet) γ₀) (asked-by-computing Kernel sheet (t 0)) (
             meets .r1 .leading,
             (
               record {
@@ -261,9 +259,40 @@ module _ (v : Values) (g₀ n : List ℕ) where
           b̃-below = ltb→lt (v .btilde) p (t 2);
           σ-below = ltb→lt (v .sigma) p (t 3);
           nonsingular = curve;
-          filled = fill-by-computing completed γ₀ n v g₀ pos fill before;
+          certificate = fill-by-computing completed γ₀ n v g₀ pos fill before;
           same-g = refl;
         },
+      )
+
+-- 11 where questions 1 to 8 pass and Vélu's codomain does not meet R3
+module _ (v : Values) (g₀ : List ℕ) where
+  abbrev asking : List ℕ
+  asking = kernel-words v g₀
+
+  abbrev known : Values
+  known = valuesOf Kernel asking
+
+  abbrev kernel-g : List ℕ
+  kernel-g = gOf Kernel asking
+
+  abbrev no-kernel-tests : ℕ → List Bool
+  no-kernel-tests k =
+      asked-test Kernel asking ∷ leb 1 (half known) ∷ leb (length kernel-g) (suc (half known)) ∷ eqb (getD kernel-g (half known) 0 % known .p) (1 % known .p)
+      ∷ not (R3-test (candidate known kernel-g) kernel-g (numerator (candidate known kernel-g) kernel-g)) ∷ eqb k 11 ∷ []
+
+  no-kernel-by-computing : (k : ℕ) → Every (no-kernel-tests k) → (before : List ℕ) → Room (length before)
+      → KernelRight asking before before (written.Refused k)
+  no-kernel-by-computing k t before room =
+      let pos : 0 < known .p = prime-pos (prime-by-computing Kernel asking (t 0)) in
+      let leading : Leading known kernel-g = poly-at (known .p) kernel-g (half known) ∙ mk-eq pos (getD kernel-g (half known) 0) 1 (eqb→eq _ _ (t 3)) in
+      let short : length kernel-g ≤ suc (half known) = leb→le (length kernel-g) (suc (half known)) (t 2) in
+      let none : Passing known kernel-g → ⊥ = no-codomain known kernel-g pos (leb→le 1 (half known) (t 1)) short leading (t 4) in (
+        inr (
+          room,
+          no-after (asked Kernel asking) (last-ask known kernel-g) k (asked-by-computing Kernel asking (t 0))
+              (inr (leading, inl (eqb→eq k 11 (t 5), none))),
+        ),
+        refl,
       )
 
 -- ── the rows
@@ -276,6 +305,7 @@ test (solves v g n) = solve-test v g n
 test (unsolved v k) = unsolved-test v k
 test (pushes v g n from to) = every (push-tests (certificate v g n) from to)
 test (kernel v g n) = every (codomain-tests v g n)
+test (no-kernel v g k) = every (no-kernel-tests v g k)
 test (refused v g n k) = every (refused-tests (certificate v g n) k)
 test (refused-though v g n k) = every (though-tests v g n k)
 
@@ -285,6 +315,7 @@ row-holds (solves v g n) t = solve-by-computing v g n t
 row-holds (unsolved v k) t = unsolved-by-computing v k t
 row-holds (pushes v g n from to) t = push-by-computing (certificate v g n) from to (every-yes (push-tests (certificate v g n) from to) t)
 row-holds (kernel v g n) t = kernel-by-computing v g n (every-yes (codomain-tests v g n) t)
+row-holds (no-kernel v g k) t = no-kernel-by-computing v g k (every-yes (no-kernel-tests v g k) t)
 row-holds (refused v g n k) t = refused-by-computing (certificate v g n) k (every-yes (refused-tests (certificate v g n) k) t)
 row-holds (refused-though v g n k) t =
     let s : Every (though-tests v g n k) = every-yes (though-tests v g n k) t in (

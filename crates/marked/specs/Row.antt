@@ -2,23 +2,24 @@
 -- terms of what the services have to answer.
 -- Assumes nothing.
 use mathlib.Core.List.{List, [], _∷_, _++_, map}
-use Prim.Native.Nat.{ℕ, _+_, _*_, _≤_}
+use Prim.Native.Nat.{ℕ}
 use lib.ListN.{length, drop}
 use Rattle.zmod.specs.Zmod.{Zmod}
 use Rattle.zmod.specs.Residues.{poly}
 use Rattle.isogeny.specs.Rules.{R3}
 use Rattle.sheet.specs.declared.Values.{Values}
 use Rattle.sheet.specs.Word.{word}
+use Rattle.sheet.specs.Form.{certificateWords}
 use Rattle.certificate.specs.Certificate.{certificate}
 use Rattle.sheet.specs.Values.{question, half}
 use Rattle.promises.specs.declared.Verdict.the-variants as verdict
 use Rattle.promises.specs.declared.Written.the-variants as written
 use Rattle.promises.specs.declared.Point.{Point}
 use Rattle.promises.specs.declared.Image.{Image}
-use Rattle.promises.specs.Asked.{enough}
+use Rattle.promises.specs.Asked.{Room}
 use Rattle.promises.specs.Answer.{CheckRight, SolveRight, KernelRight, PushRight}
 
--- a question by its seven numbers
+-- p, A, B, Ã, B̃, ℓ, σ, in the order in which document 01 lists them
 abbrev pub Q : ℕ → ℕ → ℕ → ℕ → ℕ → ℕ → ℕ → Values
 Q p A B Ã B̃ ℓ σ = record { p = p; a = A; b = B; atilde = Ã; btilde = B̃; degree = ℓ; sigma = σ }
 
@@ -32,6 +33,8 @@ pub data Row : Type 0 where
   pushes : Values → List ℕ → List ℕ → Point → Image → Row
   -- kernel answers the sheet of p, A, B, ℓ and g with the certificate of the codomain, σ, g and N
   kernel : Values → List ℕ → List ℕ → Row
+  -- kernel refuses the sheet of p, A, B, ℓ and g with a number; of the values, no others are on the sheet
+  no-kernel : Values → List ℕ → ℕ → Row
   -- check refuses the certificate of g and N with a number
   refused : Values → List ℕ → List ℕ → ℕ → Row
   -- the same, though R3 holds
@@ -46,9 +49,9 @@ question-words v =
 abbrev pub kernel-words : Values → List ℕ → List ℕ
 kernel-words v g = word 1 (v .p) ∷ word 2 (v .a) ∷ word 3 (v .b) ∷ word 6 (v .degree) ∷ map (word 8) g ++ word 15 0 ∷ []
 
--- how many words a certificate has, and one in a lent buffer
+-- how many words the certificate has, and a certificate in a lent buffer
 abbrev pub count : Values → ℕ
-count v = 3 * half v + 11
+count v = certificateWords (half v)
 
 abbrev pub filled : Values → List ℕ → List ℕ → List ℕ → List ℕ
 filled v g n before = certificate v g n ++ drop (count v) before
@@ -57,11 +60,12 @@ filled v g n before = certificate v g n ++ drop (count v) before
 
 unfoldable pub Claim : Row → Type 0
 Claim (solves v g n) =
-    (before : List ℕ) → enough ≤ length before → SolveRight (question-words v) before (filled v g n before) (written.Count (count v))
-Claim (unsolved v k) = (before : List ℕ) → enough ≤ length before → SolveRight (question-words v) before before (written.Refused k)
+    (before : List ℕ) → Room (length before) → SolveRight (question-words v) before (filled v g n before) (written.Count (count v))
+Claim (unsolved v k) = (before : List ℕ) → Room (length before) → SolveRight (question-words v) before before (written.Refused k)
 Claim (pushes v g n from to) = PushRight (certificate v g n) from to
 Claim (kernel v g n) =
-    (before : List ℕ) → enough ≤ length before → KernelRight (kernel-words v g) before (filled v g n before) (written.Count (count v))
+    (before : List ℕ) → Room (length before) → KernelRight (kernel-words v g) before (filled v g n before) (written.Count (count v))
+Claim (no-kernel v g k) = (before : List ℕ) → Room (length before) → KernelRight (kernel-words v g) before before (written.Refused k)
 Claim (refused v g n k) = CheckRight (certificate v g n) (verdict.Refused k)
 Claim (refused-though v g n k) =
     CheckRight (certificate v g n) (verdict.Refused k) × R3 (Zmod (v .p)) (question v) (poly (v .p) g) (poly (v .p) n)

@@ -153,7 +153,7 @@ R1-test v g =
     (both (eqb (getD g (half v) 0 % v .p) (1 % v .p)) (eqb (v .sigma % v .p) ((v .p - (2 * getD g (half v - 1) 0) % v .p) % v .p)))
 
 -- −2 c
-twice : {p : ℕ} → 0 < p → (c : ℕ) → mk p (p - (2 * c) % p) ≡ minus p (times p (cast (Zmod p) 2) (mk p c))
+pub twice : {p : ℕ} → 0 < p → (c : ℕ) → mk p (p - (2 * c) % p) ≡ minus p (times p (cast (Zmod p) 2) (mk p c))
 twice {p} pos c = mk-neg pos (2 * c) ∙ ap (minus p) (mk-mul p 2 c ∙ ap (λ y. times p y (mk p c)) (sym (cast-mk p 2)))
 
 pub R1-by-computing : (v : Values) (g : List ℕ) → 0 < v .p → T (R1-test v g) → R1 (Zmod (v .p)) (question v) (poly (v .p) g)

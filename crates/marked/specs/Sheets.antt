@@ -1,7 +1,7 @@
 -- Questions 2 to 7 put to a sheet of any form, by computing.
 -- Assumes nothing.
 use mathlib.Core.Path.{_≡_, _∙_, ap, subst}
-use mathlib.Core.Bool.{Bool}
+use mathlib.Core.Bool.{Bool, true, cond}
 use mathlib.Core.List.{List, [], _∷_, map}
 use Prim.Native.Nat.{ℕ, _*_, _-_, _%_, _^_, _<_, _≤_}
 use native.Mathlib.Omega.{arith}
@@ -12,34 +12,28 @@ use Rattle.ring.specs.Test.{both, both-left, both-right}
 use Rattle.zmod.specs.Prime.{Prime, prime-pos}
 use Rattle.zmod.specs.Calculation.{primeTest, prime-yes}
 use Rattle.sheet.specs.declared.Form.{Form}
-use Rattle.sheet.specs.declared.Form.the-variants.{Question, Certificate, Kernel}
 use Rattle.sheet.specs.Word.{kindOf, valueOf}
-use Rattle.sheet.specs.Form.{header, body, entry}
-use Rattle.sheet.specs.Values.{half}
+use Rattle.sheet.specs.Form.{header, body, holds, entry}
+use Rattle.sheet.specs.Values.{valuesOf, half}
 use Rattle.questions.specs.Questions.{AllYes}
-use Rattle.sheet.specs.Asked.{asked, Asked2, Asked7}
+use Rattle.sheet.specs.Asked.{asked, Asked2, Curves}
 use Rattle.marked.specs.Tests.{every, Every, every-yes, same-list, same-list-yes, below, below-yes}
 use Rattle.marked.specs.Rules.{nonsingular-test, nonsingular-by-computing}
 
 abbrev curve : Form → List ℕ → ℕ → ℕ → Bool
 curve form ws a b = nonsingular-test (entry form 1 ws) (entry form a ws) (entry form b ws)
 
+-- the codomain is asked where the header has it
 abbrev curves : Form → List ℕ → Bool
-curves Question ws = both (curve Question ws 2 3) (curve Question ws 4 5)
-curves Certificate ws = both (curve Certificate ws 2 3) (curve Certificate ws 4 5)
-curves Kernel ws = curve Kernel ws 2 3
+curves form ws = both (curve form ws 2 3) (cond (holds 4 (header form)) (curve form ws 4 5) true)
 
-curves-yes : (form : Form) (ws : List ℕ) → 0 < entry form 1 ws → T (curves form ws) → Asked7 form ws
-unfolding Asked7
-curves-yes Question ws pos t = (
-  nonsingular-by-computing pos _ _ (both-left (curve Question ws 2 3) (curve Question ws 4 5) t),
-  nonsingular-by-computing pos _ _ (both-right (curve Question ws 2 3) (curve Question ws 4 5) t),
-)
-curves-yes Certificate ws pos t = (
-  nonsingular-by-computing pos _ _ (both-left (curve Certificate ws 2 3) (curve Certificate ws 4 5) t),
-  nonsingular-by-computing pos _ _ (both-right (curve Certificate ws 2 3) (curve Certificate ws 4 5) t),
-)
-curves-yes Kernel ws pos t = nonsingular-by-computing pos _ _ t
+curves-yes : (form : Form) (ws : List ℕ) → 0 < valuesOf form ws .p → T (curves form ws) → Curves form (valuesOf form ws)
+curves-yes form ws pos t = record {
+  domain = nonsingular-by-computing pos _ _ (both-left (curve form ws 2 3) _ t);
+  codomain = λ e.
+      let u : T (cond (holds 4 (header form)) (curve form ws 4 5) true) = both-right (curve form ws 2 3) _ t in
+      nonsingular-by-computing pos _ _ (subst (λ b. T (cond b (curve form ws 4 5) true)) e u);
+}
 
 module _ (form : Form) (ws : List ℕ) where
   abbrev p : ℕ
@@ -60,7 +54,7 @@ module _ (form : Form) (ws : List ℕ) where
       ∷ primeTest p ∷ leb 11 p
       ∷ eqb (ℓ % 2) 1 ∷ leb 3 ℓ ∷ leb ℓ 255 ∷ ltb (2 * ℓ - 1) p
       ∷ below p values
-      ∷ same-list (map kindOf rest) (body form (half form ws)) ∷ below p (map valueOf rest) ∷ eqb (valueOf (getD ws (length ws - 1) 0)) 0
+      ∷ same-list (map kindOf rest) (body form (half (valuesOf form ws))) ∷ below p (map valueOf rest) ∷ eqb (valueOf (getD ws (length ws - 1) 0)) 0
       ∷ curves form ws ∷ ltb p (2 ^ 28) ∷ []
 
   abbrev pub asked-test : Bool
@@ -100,7 +94,7 @@ module _ (form : Form) (ws : List ℕ) where
               small = ltb→lt (2 * ℓ - 1) p (s 6);
             },
             (
-              record { A = small 0; B = small 1; Ã = small 2; B̃ = small 3; σ = small 4 },
+              record { a = small 0; b = small 1; atilde = small 2; btilde = small 3; sigma = small 4 },
               (
                 record {
                   kinds = same-list-yes _ _ (s 8);

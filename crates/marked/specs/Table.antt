@@ -1,4 +1,5 @@
--- Document 01's marked sheets (◆ there) as one table, and the one theorem that covers it: every row holds, from the rules, by computing.
+-- Document 01's marked sheets (◆ there) as one table, with one neighbour that is not marked there, and the one theorem that covers it: every row holds,
+-- from the rules, by computing.
 -- Assumes nothing.
 use mathlib.Core.Bool.{Bool, true}
 use mathlib.Core.List.{List, [], _∷_}
@@ -10,7 +11,7 @@ use Rattle.promises.specs.declared.Point.the-variants as point
 use Rattle.promises.specs.declared.Image.the-variants as image
 use Rattle.marked.specs.Rules.{numerator}
 use Rattle.marked.specs.Row.{Row, Q, Claim}
-use Rattle.marked.specs.Row.Row.{solves, unsolved, pushes, kernel, refused, refused-though}
+use Rattle.marked.specs.Row.Row.{solves, unsolved, pushes, kernel, no-kernel, refused, refused-though}
 use Rattle.marked.specs.Holds.{test, row-holds}
 
 -- the first marked question, over 1009: g = x − 23, N = x³ + 963x² + 678x + 949
@@ -55,6 +56,8 @@ rows =
     ∷ pushes eleven x x³+4 (point.Affine 0 1) image.Infinity
     -- the kernel sheet of g = x over 11 gets the codomain (0, 6)
     ∷ kernel eleven x x³+4
+    -- beside it, not marked there: the same with g = x − 1 gets 11; Ã, B̃ and σ are not on a kernel sheet
+    ∷ no-kernel (Q 11 0 1 0 0 3 0) (10 ∷ 1 ∷ []) 11
     -- g = x − 1 with an N that meets R3 and not R2
     ∷ refused-though (Q 11 0 1 0 1 3 2) (10 ∷ 1 ∷ []) (0 ∷ 1 ∷ 9 ∷ 1 ∷ []) 9
     -- g = x with R2's N, to a wrong codomain

@@ -10,7 +10,7 @@ use Rattle.ring.specs.Identity.Ex.{_:*_}
 use Rattle.zmod.specs.Zmod.{Elt, Zmod, mk, times, cast-mk}
 use Rattle.zmod.specs.Residues.{Residue}
 use Rattle.isogeny.specs.Curve.{discriminant, JValue}
-use Rattle.sheet.proofs.Singular.{cubed}
+use Rattle.ring.specs.Powers.{cubed}
 use Rattle.field.specs.Inverse.{InverseOf}
 
 pub is-zero : {p : ℕ} {x : Elt p} {r : ℕ} → Residue p x r → r ≡ 0 → x ≡ mk p 0

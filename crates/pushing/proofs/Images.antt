@@ -34,7 +34,7 @@ use Rattle.promises.specs.Asked.{rules-ask, check-asks, push-asks, OnDomain, Gi
 use Rattle.promises.specs.Answer.{ToPoint, PushRight}
 use Rattle.pushing.specs.Pushed.{slopeOf, Pushed}
 use Rattle.pushing.proofs.Elements.{not-zero, same, quotient-square, quotient-cube}
-use Rattle.sheet.proofs.Singular.{squared}
+use Rattle.ring.specs.Powers.{squared}
 
 -- ── question 12
 

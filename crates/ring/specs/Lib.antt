@@ -1,4 +1,5 @@
 pub mod Ring
+pub mod Powers
 pub mod Test
 pub mod Identity
 pub mod Derivation

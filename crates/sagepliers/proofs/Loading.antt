@@ -2,13 +2,14 @@
 -- Assumes nothing.
 use mathlib.Core.Path.{_≡_, refl, sym, _∙_, ap, subst}
 use mathlib.Core.List.{List, _++_}
-use Prim.Native.Nat.{ℕ, _/_, _≤_, min}
+use Prim.Native.Nat.{ℕ, _+_, _/_, _≤_, min}
 use native.Mathlib.Decide.{decLe}
 use native.Mathlib.Omega.{arith}
 use lib.ListN.{length, take, drop, length-take, length-drop, length-append}
 use lib.Seq.{take-all, take-append-seam}
 use Rattle.slices.specs.Filling.{length-tab}
 use Rattle.sheet.specs.Word.{wordAt, wordsOf}
+use Rattle.sheet.specs.Form.{mostWords}
 use Rattle.sagepliers.specs.Entry.{Loaded}
 
 words-length : (bytes : List ℕ) → length (wordsOf bytes) ≡ length bytes / 4
@@ -37,7 +38,7 @@ module _ (bytes before out : List ℕ) (n : ℕ) (least : n ≡ min (length byte
         words = front ∙ words ∙ same-words (wordsOf bytes) (length before) n (least ∙ ap (λ m. min m (length before)) (sym (words-length bytes)));
       }
 
--- what holds of the words in the buffer holds of the first 393
+-- what holds of the words in the buffer holds of the first words
 pub at-kept : {bytes after : List ℕ} {count : ℕ} (P : List ℕ → Type 0) (blank : List ℕ)
-    → 393 ≡ length blank → Loaded bytes (length blank) after count → P (take count after) → P (take 393 (wordsOf bytes))
+    → mostWords + 1 ≡ length blank → Loaded bytes (length blank) after count → P (take count after) → P (take (mostWords + 1) (wordsOf bytes))
 at-kept {bytes} P blank full loaded h = subst P (loaded .words ∙ ap (λ m. take m (wordsOf bytes)) (sym full)) h

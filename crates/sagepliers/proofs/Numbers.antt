@@ -10,7 +10,7 @@ use denote.Enum.Declared.{tagOf}
 use Rattle.promises.proofs.Image as declared
 use Rattle.promises.specs.declared.Image.{Image}
 use Rattle.promises.specs.declared.Image.the-variants.{Affine, Infinity, Refused}
-use Rattle.sagepliers.specs.Entry.{imageNumber}
+use Rattle.promises.specs.Outcome.{imageNumber}
 
 pub last-is-infinity : (i : Image) → OneOf (1 ∷ 2 ∷ []) (tagOf declared.the-type i) → OneOf (0 ∷ 1 ∷ []) (tagOf declared.the-type i) → 2 ^ 56 ≡ imageNumber i
 last-is-infinity (Affine u v) (inl e) h = absurd (omega (arith, e))

@@ -9,7 +9,12 @@ use Prim.Native.Nat.{ℕ, _+_, _*_, _-_, _/_, _%_, _^_, _<_, _≤_}
 use native.Mathlib.Omega.{arith}
 use borrow.Author.Tests.{lt-ltb, le-ltb, ne-eqb}
 use lib.Dec.{ltb, eqb}
+use lib.ListN.{length}
+use Rattle.sheet.specs.declared.Form.the-variants.{Certificate}
 use Rattle.sheet.specs.Word.{wordsOf}
+use Rattle.sheet.specs.Form.{mostWords}
+use Rattle.sheet.specs.Values.{valuesOf, gOf, nOf}
+use Rattle.questions.specs.Numbered.{yes-to}
 use Rattle.questions.specs.Questions.{Questions, FirstNo}
 use Rattle.promises.specs.declared.Verdict.{Verdict}
 use Rattle.promises.specs.declared.Verdict.the-variants as verdict
@@ -21,8 +26,10 @@ use Rattle.promises.specs.declared.Image.{Image}
 use Rattle.promises.specs.declared.Image.the-variants as image
 use Rattle.promises.specs.declared.Named.{Named}
 use Rattle.promises.specs.declared.Named.the-variants as named
+use Rattle.promises.specs.Outcome.{verdictNumber, imageNumber, writtenNumber, nameNumber}
+use Rattle.promises.specs.Asked.{solve-asks, kernel-asks, name-asks}
 use Rattle.promises.specs.Answer.{Goes, SolveRight, KernelRight, NameRight}
-use Rattle.sagepliers.specs.Entry.{bytes-ask, CheckAnswer, verdictNumber, CheckNumber, pointOf, imageNumber, writtenNumber, nameNumber, PushAnswer, PushNumber, SolveNumber, KernelNumber, NameNumber}
+use Rattle.sagepliers.specs.Entry.{bytes-ask, CheckAnswer, CheckNumber, pointOf, push-number-asks, PushAnswer, PushNumber, SolveNumber, KernelNumber, NameNumber}
 
 abbrev pub writtenOf : ℕ → Written
 writtenOf r = cond (ltb r (2 ^ 57)) (written.Count r) (written.Refused (r - 2 ^ 57))
@@ -60,9 +67,9 @@ module _ (bytes : List ℕ) where
   pub check-read : (r : ℕ) → CheckNumber bytes r → CheckAnswer bytes (verdictOf r)
   check-read r h = subst (CheckAnswer bytes) (sym (ap verdictOf (h .number) ∙ verdict-back (h .answer) (h .right))) (h .right)
 
--- ── solve and kernel: "3d + 11 words, at most 392"
+-- ── solve and kernel: no certificate has more words than the largest
 
-written-count : (c : ℕ) → c ≤ 392 → writtenOf c ≡ written.Count c
+written-count : (c : ℕ) → c ≤ mostWords → writtenOf c ≡ written.Count c
 written-count c small = ap (λ t. cond t (written.Count c) (written.Refused (c - 2 ^ 57))) (lt-ltb c (2 ^ 57) (omega arith))
 
 written-refused : (n : ℕ) → writtenOf (2 ^ 57 + n) ≡ written.Refused n
@@ -71,8 +78,8 @@ written-refused n =
     ap (λ t. cond t (written.Count (2 ^ 57 + n)) (written.Refused (2 ^ 57 + n - 2 ^ 57))) (le-ltb (2 ^ 57 + n) (2 ^ 57) (omega arith)) ∙ ap written.Refused back
 
 module _ (ws before after : List ℕ) where
-  pub solve-count : (c : ℕ) → SolveRight ws before after (written.Count c) → c ≤ 392
-  solve-count c h = omega (arith, h .0 .1 .1 .1 .0 .most, h .1 .count-is)
+  pub solve-count : (c : ℕ) → SolveRight ws before after (written.Count c) → c ≤ mostWords
+  solve-count c h = omega (arith, yes-to (solve-asks ws (length before)) 4 (h .0) .most, h .1 .count-is)
 
   solve-back : (w : Written) → SolveRight ws before after w → writtenOf (writtenNumber w) ≡ w
   solve-back (written.Count c) h = written-count c (solve-count c h)
@@ -81,8 +88,8 @@ module _ (ws before after : List ℕ) where
   pub solve-read : (r : ℕ) → SolveNumber ws before after r → SolveRight ws before after (writtenOf r)
   solve-read r h = subst (SolveRight ws before after) (sym (ap writtenOf (h .number) ∙ solve-back (h .answer) (h .right))) (h .right)
 
-  pub kernel-count : (c : ℕ) → KernelRight ws before after (written.Count c) → c ≤ 392
-  kernel-count c h = omega (arith, h .0 .1 .1 .1 .0 .most, h .1 .filled .count-is)
+  pub kernel-count : (c : ℕ) → KernelRight ws before after (written.Count c) → c ≤ mostWords
+  kernel-count c h = omega (arith, yes-to (kernel-asks ws (length before)) 4 (h .0) .most, h .1 .certificate .count-is)
 
   kernel-back : (w : Written) → KernelRight ws before after w → writtenOf (writtenNumber w) ≡ w
   kernel-back (written.Count c) h = written-count c (kernel-count c h)
@@ -96,7 +103,7 @@ module _ (ws before after : List ℕ) where
 module _ (p a b : ℕ) where
   name-back : (w : Named) → NameRight p a b w → nameOf (nameNumber w) ≡ w
   name-back (named.Value j) h =
-      ap (λ t. cond t (named.Value j) (named.Refused (j - 2 ^ 57))) (lt-ltb j (2 ^ 57) (omega (arith, h .0 .0 .most, h .1)))
+      ap (λ t. cond t (named.Value j) (named.Refused (j - 2 ^ 57))) (lt-ltb j (2 ^ 57) (omega (arith, yes-to (name-asks p a b) 3 (h .0) .most, h .1 .0)))
   name-back (named.Refused n) h =
       let back : 2 ^ 57 + n - 2 ^ 57 ≡ n = omega arith in
       ap (λ t. cond t (named.Value (2 ^ 57 + n)) (named.Refused (2 ^ 57 + n - 2 ^ 57))) (le-ltb (2 ^ 57 + n) (2 ^ 57) (omega arith)) ∙ ap named.Refused back
@@ -121,13 +128,19 @@ refused-back n =
     ap (λ t. cond t (image.Affine (k % 2 ^ 28) (k / 2 ^ 28)) (cond (eqb k (2 ^ 56)) image.Infinity (image.Refused (k - 2 ^ 57)))) (le-ltb k (2 ^ 56) (omega arith))
     ∙ ap (λ t. cond t image.Infinity (image.Refused (k - 2 ^ 57))) (ne-eqb k (2 ^ 56) (λ e. omega (arith, e))) ∙ ap image.Refused back
 
-goes-small : (ws : List ℕ) (at : Point) (u v : ℕ) → Goes ws at (image.Affine u v) → (u < 2 ^ 28) × (v < 2 ^ 28)
-goes-small ws (point.Affine x y) u v h = (omega (arith, h .u-below), omega (arith, h .v-below))
-goes-small ws point.Infinity u v h = absurd h
-
 module _ (bytes : List ℕ) (k : ℕ) where
+  abbrev ws : List ℕ
+  ws = wordsOf bytes
+
+  goes-small : valuesOf Certificate ws .p < 2 ^ 28 → (at : Point) (u v : ℕ)
+      → Goes (valuesOf Certificate ws) (gOf Certificate ws) (nOf Certificate ws) at (point.Affine u v) → (u < 2 ^ 28) × (v < 2 ^ 28)
+  goes-small small (point.Affine x y) u v h = (omega (arith, h .u-below), omega (arith, h .w-below))
+  goes-small small point.Infinity u v h = absurd h
+
   image-back : (w : Image) → PushAnswer bytes k w → imageOf (imageNumber w) ≡ w
-  image-back (image.Affine u v) h = let small = goes-small (wordsOf bytes) (pointOf k) u v (h .1) in affine-back u v (small .0) (small .1)
+  image-back (image.Affine u v) h =
+      let small = goes-small (yes-to (push-number-asks bytes k) 3 (h .0) .most) (pointOf k) u v (h .1) in
+      affine-back u v (small .0) (small .1)
   image-back image.Infinity h = refl
   image-back (image.Refused n) h = refused-back n
 

@@ -6,26 +6,51 @@ use Prim.Native.Nat.{ℕ, _+_, _*_, _^_, _<_, _≤_}
 use native.Mathlib.Decide.{decLt}
 use native.Mathlib.Omega.{arith}
 use lib.ListN.{length, drop}
+use Rattle.questions.specs.Questions.{AllYes}
+use Rattle.questions.specs.Joined.{all-front}
+use Rattle.questions.specs.Answers.{answers-unique, writes-unique}
+use Rattle.sheet.specs.declared.Form.the-variants.{Question, Certificate, Kernel}
 use Rattle.sheet.specs.Word.{wordAt, wordsOf}
-use Rattle.questions.specs.Questions.{Questions, AllYes, first-no-unique, not-both}
+use Rattle.sheet.specs.Values.{valuesOf, gOf, nOf}
+use Rattle.sheet.specs.Asked.{asked}
+use Rattle.sheet.specs.Ready.{ready}
 use Rattle.promises.specs.declared.Verdict.{Verdict}
-use Rattle.promises.specs.declared.Verdict.the-variants as verdict
 use Rattle.promises.specs.declared.Written.{Written}
-use Rattle.promises.specs.declared.Written.the-variants as written
 use Rattle.promises.specs.declared.Image.{Image}
-use Rattle.promises.specs.declared.Image.the-variants as image
-use Rattle.promises.specs.Asked.{Given, check-asks, push-asks}
-use Rattle.services.specs.Theorems.{solve-unique}
-use Rattle.services.specs.MoreTheorems.{push-unique, kernel-unique, name-unique}
-use Rattle.sagepliers.specs.Entry.{bytes-ask, push-number-asks, solve-bytes-ask, kernel-bytes-ask, pointOf, verdictNumber, imageNumber, writtenNumber, nameNumber, CheckAnswer, CheckNumber, PushAnswer, PushNumber, PushInput, SolveNumber, KernelNumber, NameNumber, SolveAnswer, KernelAnswer}
+use Rattle.promises.specs.Outcome.{verdictOutcome, writtenOutcome, imageOutcome, verdictNumber, writtenNumber, imageNumber, nameNumber, same-verdict, same-written, same-image}
+use Rattle.promises.specs.Asked.{Given, Solvable, last-ask}
+use Rattle.promises.specs.Answer.{Goes, CertificateIn, KernelIn}
+use Rattle.services.specs.Certified.{one-certificate}
+use Rattle.services.specs.Solve.{solve-unique}
+use Rattle.services.specs.Kernel.{one-kernel, kernel-unique}
+use Rattle.services.specs.Push.{goes-once}
+use Rattle.services.specs.Name.{name-unique}
+use Rattle.sagepliers.specs.Entry.{
+  bytes-ask,
+  push-number-asks,
+  solve-bytes-ask,
+  kernel-bytes-ask,
+  pointOf,
+  CheckAnswer,
+  CheckNumber,
+  PushAnswer,
+  PushNumber,
+  PushInput,
+  SolveNumber,
+  KernelNumber,
+  NameNumber,
+  SolveAnswer,
+  KernelAnswer,
+}
 
 -- ── check
 
 pub check-answer-unique : (bytes : List ℕ) (r s : Verdict) → CheckAnswer bytes r → CheckAnswer bytes s → r ≡ s
-check-answer-unique bytes verdict.Passes verdict.Passes h k = refl
-check-answer-unique bytes verdict.Passes (verdict.Refused m) h k = absurd (not-both (bytes-ask bytes) m h k)
-check-answer-unique bytes (verdict.Refused n) verdict.Passes h k = absurd (not-both (bytes-ask bytes) n k h)
-check-answer-unique bytes (verdict.Refused n) (verdict.Refused m) h k = ap verdict.Refused (first-no-unique (bytes-ask bytes) n m h k)
+check-answer-unique bytes r s h k =
+    same-verdict r s (answers-unique (bytes-ask bytes) (λ _. Unit {0}) (λ _ a b _ _. one a b) (verdictOutcome r) (verdictOutcome s) h k)
+  where
+    one : (a b : Unit {0}) → a ≡ b
+    one a b = refl
 
 pub check-number-unique : (bytes : List ℕ) (r s : ℕ) → CheckNumber bytes r → CheckNumber bytes s → r ≡ s
 check-number-unique bytes r s h k =
@@ -33,28 +58,15 @@ check-number-unique bytes r s h k =
 
 -- ── push
 
--- the last question asks for more than one thing
-last-part : (A B : Type 0) (n : ℕ) (qs : Questions) → AllYes (qs ++ (n, A × B) ∷ []) → AllYes (qs ++ (n, B) ∷ [])
-last-part A B n [] all = (all .0 .1, tt)
-last-part A B n (q ∷ qs) all = (all .0, last-part A B n qs (all .1))
-
 module _ (bytes : List ℕ) (k : ℕ) where
-  asked : AllYes (push-number-asks bytes k) → AllYes (push-asks (wordsOf bytes) (pointOf k))
-  asked all = last-part (k ≤ 2 ^ 56) (Given (wordsOf bytes) (pointOf k)) 12 (check-asks (wordsOf bytes)) (all .1)
-
   pub push-answer-unique : (r s : Image) → PushAnswer bytes k r → PushAnswer bytes k s → r ≡ s
-  push-answer-unique (image.Refused m) (image.Refused n) h h′ = ap image.Refused (first-no-unique (push-number-asks bytes k) m n h h′)
-  push-answer-unique (image.Refused m) (image.Affine u v) h h′ = absurd (not-both (push-number-asks bytes k) m (h′ .0) h)
-  push-answer-unique (image.Refused m) image.Infinity h h′ = absurd (not-both (push-number-asks bytes k) m (h′ .0) h)
-  push-answer-unique (image.Affine u v) (image.Refused m) h h′ = absurd (not-both (push-number-asks bytes k) m (h .0) h′)
-  push-answer-unique image.Infinity (image.Refused m) h h′ = absurd (not-both (push-number-asks bytes k) m (h .0) h′)
-  push-answer-unique (image.Affine u v) (image.Affine u′ v′) h h′ =
-      push-unique (wordsOf bytes) (pointOf k) (image.Affine u v) (image.Affine u′ v′) (asked (h .0), h .1) (asked (h′ .0), h′ .1)
-  push-answer-unique (image.Affine u v) image.Infinity h h′ =
-      push-unique (wordsOf bytes) (pointOf k) (image.Affine u v) image.Infinity (asked (h .0), h .1) (asked (h′ .0), h′ .1)
-  push-answer-unique image.Infinity (image.Affine u v) h h′ =
-      push-unique (wordsOf bytes) (pointOf k) image.Infinity (image.Affine u v) (asked (h .0), h .1) (asked (h′ .0), h′ .1)
-  push-answer-unique image.Infinity image.Infinity h h′ = refl
+  push-answer-unique r s h h′ =
+      same-image r s
+      (answers-unique (push-number-asks bytes k)
+      (Goes (valuesOf Certificate (wordsOf bytes)) (gOf Certificate (wordsOf bytes)) (nOf Certificate (wordsOf bytes)) (pointOf k)) (λ all a b.
+      goes-once (wordsOf bytes)
+      (all-front (bytes-ask bytes) ((12, ((k ≤ 2 ^ 56) × Given (valuesOf Certificate (wordsOf bytes)) (pointOf k))) ∷ []) all .1) (pointOf k) a b)
+      (imageOutcome r) (imageOutcome s) h h′)
 
   pub push-number-unique : (r s : ℕ) → PushNumber bytes k r → PushNumber bytes k s → r ≡ s
   push-number-unique r s h h′ = h .number ∙ ap imageNumber (push-answer-unique (h .answer) (h′ .answer) (h .right) (h′ .right)) ∙ sym (h′ .number)
@@ -80,21 +92,26 @@ module _ (ws before after after′ : List ℕ) (r s : ℕ) where
       (h .number ∙ ap writtenNumber (same .0) ∙ sym (k .number), same .1)
 
 module _ (bytes before after after′ : List ℕ) where
+  abbrev us : List ℕ
+  us = wordsOf bytes
+
   pub solve-answer-unique : (r s : Written) → SolveAnswer bytes before after r → SolveAnswer bytes before after′ s → (r ≡ s) × (after ≡ after′)
-  solve-answer-unique (written.Refused m) (written.Refused n) h k =
-      (ap written.Refused (first-no-unique (solve-bytes-ask bytes (length before)) m n (h .0) (k .0)), h .1 ∙ sym (k .1))
-  solve-answer-unique (written.Refused m) (written.Count c) h k = absurd (not-both (solve-bytes-ask bytes (length before)) m (k .0) (h .0))
-  solve-answer-unique (written.Count c) (written.Refused m) h k = absurd (not-both (solve-bytes-ask bytes (length before)) m (h .0) (k .0))
-  solve-answer-unique (written.Count c) (written.Count e) h k =
-      solve-unique (wordsOf bytes) before after after′ (written.Count c) (written.Count e) ((h .0 .0, h .0 .1 .1), h .1) ((k .0 .0, k .0 .1 .1), k .1)
+  solve-answer-unique r s h k =
+      let same =
+      writes-unique (solve-bytes-ask bytes (length before)) (λ count after. CertificateIn (valuesOf Question us) before after count) before
+      (λ all c c′ xs ys a b.
+      one-certificate (valuesOf Question us) (ready Question us (all-front (asked Question us) ((11, Solvable (valuesOf Question us)) ∷ []) (all .1 .1))) before
+      xs ys c c′ a b) (writtenOutcome r) (writtenOutcome s) after after′ h k in
+      (same-written r s (same .0), same .1)
 
   pub kernel-answer-unique : (r s : Written) → KernelAnswer bytes before after r → KernelAnswer bytes before after′ s → (r ≡ s) × (after ≡ after′)
-  kernel-answer-unique (written.Refused m) (written.Refused n) h k =
-      (ap written.Refused (first-no-unique (kernel-bytes-ask bytes (length before)) m n (h .0) (k .0)), h .1 ∙ sym (k .1))
-  kernel-answer-unique (written.Refused m) (written.Count c) h k = absurd (not-both (kernel-bytes-ask bytes (length before)) m (k .0) (h .0))
-  kernel-answer-unique (written.Count c) (written.Refused m) h k = absurd (not-both (kernel-bytes-ask bytes (length before)) m (h .0) (k .0))
-  kernel-answer-unique (written.Count c) (written.Count e) h k =
-      kernel-unique (wordsOf bytes) before after after′ (written.Count c) (written.Count e) ((h .0 .0, h .0 .1 .1), h .1) ((k .0 .0, k .0 .1 .1), k .1)
+  kernel-answer-unique r s h k =
+      let same =
+      writes-unique (kernel-bytes-ask bytes (length before)) (λ count after. KernelIn (valuesOf Kernel us) (gOf Kernel us) before after count) before
+      (λ all c c′ xs ys a b.
+      one-kernel (valuesOf Kernel us) (ready Kernel us (all-front (asked Kernel us) (last-ask (valuesOf Kernel us) (gOf Kernel us)) (all .1 .1)))
+      (gOf Kernel us) before a b) (writtenOutcome r) (writtenOutcome s) after after′ h k in
+      (same-written r s (same .0), same .1)
 
 -- ── name
 

@@ -1,5 +1,6 @@
 // The services on sheets held as bytes, as files and the C entries have them: four bytes a word, lowest first. A byte count that is no multiple of
-// four fails question 2. No sheet has more than 392 words, so of a longer one the first 393 get the answer that all of them would get.
+// four fails question 2. No sheet has more words than
+// the largest certificate, so of a longer one the words up to one more than that get the answer that all of them would get.
 use services::Image;
 use services::Point;
 use services::Verdict;
@@ -8,16 +9,20 @@ ghost use mathlib.Core.Path.{_≡_};
 ghost use Prim.Native.Nat.{_+_, _*_, _^_, _<_, _≤_, min};
 ghost use lib.ListN.{length};
 ghost use Rattle.sheet.specs.Word.{wordAt};
+ghost use Rattle.sheet.specs.Form.{mostWords};
 ghost use Rattle.sagepliers.specs.Entry.{pointOf, CheckAnswer, PushAnswer, PushInput, SolveAnswer, KernelAnswer, Loaded};
 
 // The point number of infinity, 2^56; smaller ones are u + 2^28·v.
 pub const INFINITY: u64 = 72057594037927936;
 
-// Room for the words that are kept.
-fn blank() -> [u32; 393]
-    ensures { λ r. ⌜ 393 ≡ length r ⌝ }
+// The words that are kept: one more than the largest certificate has.
+const KEPT: usize = sheet::MOST_WORDS + 1;
+
+// Room for them.
+fn blank() -> [u32; KEPT]
+    ensures { λ r. ⌜ mostWords + 1 ≡ length r ⌝ }
 {
-    [0; 393]
+    [0; KEPT]
 }
 
 fn least(a: usize, b: usize) -> usize
@@ -101,7 +106,7 @@ pub fn push(bytes: &[u8], point: u64) -> Image
 pub fn solve(bytes: &[u8], answer: &mut [u32]) -> Written
     ensures { λ r. ⌜ SolveAnswer (now (bytes .entry)) (now (answer .entry)) (now (answer .exit)) r ⌝ }
 {
-    if answer.len() < 392 {
+    if answer.len() < sheet::MOST_WORDS {
         return Written::Refused(1);
     }
     if bytes.len() % 4 != 0 {
@@ -115,7 +120,7 @@ pub fn solve(bytes: &[u8], answer: &mut [u32]) -> Written
 pub fn kernel(bytes: &[u8], answer: &mut [u32]) -> Written
     ensures { λ r. ⌜ KernelAnswer (now (bytes .entry)) (now (answer .entry)) (now (answer .exit)) r ⌝ }
 {
-    if answer.len() < 392 {
+    if answer.len() < sheet::MOST_WORDS {
         return Written::Refused(1);
     }
     if bytes.len() % 4 != 0 {

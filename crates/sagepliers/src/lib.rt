@@ -7,7 +7,8 @@ use services::Verdict;
 use services::Written;
 ghost use mathlib.Core.Path.{_≡_};
 ghost use Prim.Native.Nat.{_+_, _*_, _^_};
-ghost use Rattle.sagepliers.specs.Entry.{writtenNumber, CheckNumber, PushNumber, SolveNumber, KernelNumber, NameNumber};
+ghost use Rattle.promises.specs.Outcome.{writtenNumber};
+ghost use Rattle.sagepliers.specs.Entry.{CheckNumber, PushNumber, SolveNumber, KernelNumber, NameNumber};
 
 #[no_mangle]
 pub extern "C" fn sagepliers_check(bytes: &[u8]) -> u32

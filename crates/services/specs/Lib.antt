@@ -4,3 +4,8 @@ pub mod Solve
 pub mod Kernel
 pub mod Push
 pub mod Name
+pub mod Words
+pub mod Demands
+pub mod Source
+pub mod Again
+pub mod Names

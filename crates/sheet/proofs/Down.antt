@@ -17,7 +17,7 @@ use Rattle.sheet.specs.Values.{valuesOf, half}
 use Rattle.sheet.specs.Asked.{Asked6}
 use Rattle.sheet.specs.Leaf.{Section, Sections}
 use Rattle.sheet.specs.Body.{last, last-after, body-some, asked6-words, words-asked6}
-use Rattle.sheet.proofs.Places.{end-place}
+use Rattle.sheet.specs.Places.{end-place}
 
 module _ (form : Form) (d p end : ℕ) (ws : List ℕ) (is-last : end ≡ last form d) where
   abbrev kinds : List ℕ

@@ -1,5 +1,4 @@
-pub mod Linear
-pub mod Places
+pub mod PlaceTable
 pub mod Down
 pub mod Singular
 pub mod Copies

@@ -7,17 +7,11 @@ use Prim.Native.Nat.{ℕ}
 use native.Mathlib.Omega.{arith}
 use borrow.Author.Tests.{eqb-false, ne-eqb, not-true}
 use lib.Dec.{eqb}
-use Rattle.ring.specs.Ring.{CRing, cast, pow, pow-suc, pow-zero}
+use Rattle.ring.specs.Ring.{cast, pow}
+use Rattle.ring.specs.Powers.{squared, cubed}
 use Rattle.zmod.specs.Zmod.{Zmod, Elt, mk, plus, times, cast-mk}
 use Rattle.zmod.specs.Residues.{Residue, residue-unique}
 use Rattle.isogeny.specs.Curve.{discriminant}
-
-module _ (R : CRing) (x : R .Car) where
-  pub squared : R .mul x x ≡ pow R x 2
-  squared = sym (pow-suc R x 1 ∙ ap (R .mul x) (pow-suc R x 0 ∙ ap (R .mul x) (pow-zero R x) ∙ R .mul-one x))
-
-  pub cubed : R .mul (R .mul x x) x ≡ pow R x 3
-  cubed = R .mul-comm (R .mul x x) x ∙ ap (R .mul x) squared ∙ sym (pow-suc R x 2)
 
 module _ (p a b : ℕ) {a₂ a₃ b₂ u v r : ℕ} (sq : Residue p (times p (mk p a) (mk p a)) a₂) (cu : Residue p (times p (mk p a₂) (mk p a)) a₃)
     (sq′ : Residue p (times p (mk p b) (mk p b)) b₂) (four : Residue p (times p (mk p 4) (mk p a₃)) u) (more : Residue p (times p (mk p 27) (mk p b₂)) v)

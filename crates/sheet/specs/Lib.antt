@@ -11,5 +11,7 @@ pub mod Leaf
 pub mod Header
 pub mod Fields
 pub mod Body
+pub mod Linear
+pub mod Places
 pub mod Accepted
 pub mod LongSheet

@@ -1,7 +1,7 @@
 -- `sagepliers::sagepliers_name` meets its contract. Assumes nothing.
 use borrow.Author.Needs.{needs}
 use mathlib.Core.Path.{_∙_, sym, ap}
-use Rattle.sagepliers.specs.Entry.{nameNumber}
+use Rattle.promises.specs.Outcome.{nameNumber}
 use Rattle.sagepliers.proofs.sagepliers_name.Statement.{statement}
 use Rattle.sagepliers.proofs.sagepliers_name.Tie as tie
 

@@ -1,7 +1,7 @@
 -- `sagepliers::sagepliers_push` meets its contract. Assumes nothing.
 use borrow.Author.Needs.{needs}
 use mathlib.Core.Path.{_∙_, sym, ap}
-use Rattle.sagepliers.specs.Entry.{imageNumber}
+use Rattle.promises.specs.Outcome.{imageNumber}
 use Rattle.sagepliers.proofs.Numbers.{last-is-infinity}
 use Rattle.sagepliers.proofs.sagepliers_push.Statement.{statement}
 use Rattle.sagepliers.proofs.sagepliers_push.Tie as tie

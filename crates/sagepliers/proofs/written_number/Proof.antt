@@ -1,7 +1,7 @@
 -- `sagepliers::written_number` meets its contract. Assumes nothing.
 use borrow.Author.Needs.{needs}
 use mathlib.Core.Path.{_∙_, sym, ap}
-use Rattle.sagepliers.specs.Entry.{writtenNumber}
+use Rattle.promises.specs.Outcome.{writtenNumber}
 use Rattle.sagepliers.proofs.written_number.Statement.{statement}
 use Rattle.sagepliers.proofs.written_number.Tie as tie
 

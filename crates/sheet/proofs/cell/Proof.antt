@@ -2,7 +2,7 @@
 -- Assumes nothing.
 use borrow.Author.Needs.{needs}
 use mathlib.Core.Path.{ap, ap₂, _∙_}
-use Rattle.sheet.proofs.Places.{number, start-right, rise-right}
+use Rattle.sheet.proofs.PlaceTable.{number, start-right, rise-right}
 use Rattle.sheet.proofs.cell.Statement.{statement}
 use Rattle.sheet.proofs.cell.Tie as tie
 

@@ -9,7 +9,7 @@ use lib.ListN.{length}
 use Rattle.sheet.specs.Asked.{Asked6}
 use Rattle.sheet.specs.Body.{last}
 use Rattle.questions.specs.Tests.{says-no}
-use Rattle.sheet.proofs.Places.{end-small}
+use Rattle.sheet.specs.Places.{end-small}
 use Rattle.sheet.proofs.Down.{Rest, end-last, rest}
 use Rattle.sheet.proofs.exact.Statement.{statement}
 use Rattle.sheet.proofs.exact.Tie as tie

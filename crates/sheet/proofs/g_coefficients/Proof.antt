@@ -6,7 +6,7 @@ use lib.ListN.{length, take, drop}
 use borrow.Author.Needs.{needs}
 use Rattle.sheet.specs.Word.{valueOf}
 use Rattle.sheet.specs.Form.{header}
-use Rattle.sheet.proofs.Places.{end-place, g-place}
+use Rattle.sheet.specs.Places.{end-place, g-place}
 use Rattle.sheet.proofs.g_coefficients.Statement.{statement}
 use Rattle.sheet.proofs.g_coefficients.Tie as tie
 

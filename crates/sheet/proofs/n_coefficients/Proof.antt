@@ -6,7 +6,7 @@ use native.Mathlib.Omega.{arith}
 use lib.ListN.{length, take, drop}
 use borrow.Author.Needs.{needs}
 use Rattle.sheet.specs.Word.{valueOf}
-use Rattle.sheet.proofs.Places.{n-place}
+use Rattle.sheet.specs.Places.{n-place}
 use Rattle.sheet.proofs.n_coefficients.Statement.{statement}
 use Rattle.sheet.proofs.n_coefficients.Tie as tie
 

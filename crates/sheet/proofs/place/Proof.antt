@@ -5,7 +5,7 @@ use mathlib.Core.Path.{refl, sym, ap₂, _∙_}
 use Prim.Native.Nat.{_+_, _*_, _<_, _^_}
 use native.Mathlib.Nat.{mul-le-mul}
 use native.Mathlib.Omega.{arith}
-use Rattle.sheet.proofs.Places.{nowhere, somewhere}
+use Rattle.sheet.specs.Places.{nowhere, somewhere}
 use Rattle.sheet.proofs.place.Statement.{statement}
 use Rattle.sheet.proofs.place.Tie as tie
 

@@ -25,7 +25,7 @@ returns : tie.Need-returns
 returns c =
     let start = c .before .before .before .before .before in
     push-large (start .args .bytes .now) (start .args .point) (omega (arith, c .before .before .before .if1 .taken))
-    (subst (CheckAnswer (start .args .bytes .now)) (c .enum-told .given .1) (c .before .before .check .ensures))
+    (subst (CheckAnswer (start .args .bytes .now)) (c .enum-told .given .1) (c .before .before .check .ensures) .0)
 
 returns-2 : tie.Need-returns-2
 returns-2 c =

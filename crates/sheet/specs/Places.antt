@@ -1,20 +1,17 @@
--- The places of the kinds in the three forms, and the table that holds them.
+-- The places of the kinds in the forms: each is linear in d, so it is told by the place at d = 0 and by how far it rises to d = 1.
 -- Assumes nothing.
 use mathlib.Core.Path.{_≡_, refl, sym, _∙_, ap, ap₂}
 use mathlib.Core.Bool.{Bool, true, false, cond}
 use mathlib.Core.List.{List, [], _∷_, _++_}
-use Prim.Native.Nat.{ℕ, zero, suc, _+_, _*_, _-_, _<_, _≤_}
-use native.Mathlib.Nat as N
+use Prim.Native.Nat.{ℕ, suc, _+_, _*_, _-_, _<_, _≤_}
 use native.Mathlib.Omega.{arith}
-use lib.Dec.{eqb, ltb, eqb→eq, ltb→lt}
-use lib.ListN.{length, getD, replicate}
+use lib.ListN.{length, replicate}
 use Rattle.sheet.specs.declared.Form.{Form}
 use Rattle.sheet.specs.declared.Form.the-variants.{Question, Certificate, Kernel}
 use Rattle.sheet.specs.Form.{header, kindsOf, position, holds}
-use Rattle.sheet.specs.Place.{placeOf, columnOf}
+use Rattle.sheet.specs.Place.{placeOf}
 use Rattle.sheet.specs.Body.{last, certificate-words, kernel-words}
-use Rattle.sheet.specs.Table.{at}
-use Rattle.sheet.proofs.Linear.{Section, section, expand, has, base, slope, holds-sections, position-sections, total, base-most}
+use Rattle.sheet.specs.Linear.{Section, section, expand, has, base, slope, holds-sections, position-sections, total, base-most}
 
 -- ── the forms in sections
 
@@ -46,41 +43,6 @@ module _ (form : Form) (k : ℕ) where
       ap₂ (λ (t : Bool) (n : ℕ). cond t n none)
       (ap (holds k) (in-sections form d) ∙ holds-sections k d (sections form))
       (ap (position k) (in-sections form d) ∙ position-sections k d (sections form))
-
--- ── the table
-
-abbrev places : List (List (List ℕ))
-places =
-    ((255 ∷ 0 ∷ []) ∷ (255 ∷ 0 ∷ []) ∷ (255 ∷ 0 ∷ []) ∷ []) ∷
-    ((0 ∷ 0 ∷ []) ∷ (0 ∷ 0 ∷ []) ∷ (0 ∷ 0 ∷ []) ∷ []) ∷
-    ((1 ∷ 0 ∷ []) ∷ (1 ∷ 0 ∷ []) ∷ (1 ∷ 0 ∷ []) ∷ []) ∷
-    ((2 ∷ 0 ∷ []) ∷ (2 ∷ 0 ∷ []) ∷ (2 ∷ 0 ∷ []) ∷ []) ∷
-    ((3 ∷ 0 ∷ []) ∷ (3 ∷ 0 ∷ []) ∷ (255 ∷ 0 ∷ []) ∷ []) ∷
-    ((4 ∷ 0 ∷ []) ∷ (4 ∷ 0 ∷ []) ∷ (255 ∷ 0 ∷ []) ∷ []) ∷
-    ((5 ∷ 0 ∷ []) ∷ (5 ∷ 0 ∷ []) ∷ (3 ∷ 0 ∷ []) ∷ []) ∷
-    ((6 ∷ 0 ∷ []) ∷ (6 ∷ 0 ∷ []) ∷ (255 ∷ 0 ∷ []) ∷ []) ∷
-    ((255 ∷ 0 ∷ []) ∷ (7 ∷ 0 ∷ []) ∷ (4 ∷ 0 ∷ []) ∷ []) ∷
-    ((255 ∷ 0 ∷ []) ∷ (8 ∷ 1 ∷ []) ∷ (255 ∷ 0 ∷ []) ∷ []) ∷
-    ((255 ∷ 0 ∷ []) ∷ (255 ∷ 0 ∷ []) ∷ (255 ∷ 0 ∷ []) ∷ []) ∷
-    ((255 ∷ 0 ∷ []) ∷ (255 ∷ 0 ∷ []) ∷ (255 ∷ 0 ∷ []) ∷ []) ∷
-    ((255 ∷ 0 ∷ []) ∷ (255 ∷ 0 ∷ []) ∷ (255 ∷ 0 ∷ []) ∷ []) ∷
-    ((255 ∷ 0 ∷ []) ∷ (255 ∷ 0 ∷ []) ∷ (255 ∷ 0 ∷ []) ∷ []) ∷
-    ((255 ∷ 0 ∷ []) ∷ (255 ∷ 0 ∷ []) ∷ (255 ∷ 0 ∷ []) ∷ []) ∷
-    ((7 ∷ 0 ∷ []) ∷ (10 ∷ 3 ∷ []) ∷ (5 ∷ 1 ∷ []) ∷ []) ∷ []
-
-abbrev pub number : ℕ → ℕ → ℕ → ℕ
-number kind column part = getD (getD (getD places kind []) column []) part 0
-
--- its first numbers are the places at d = 0, its second ones how far they rise from d = 0 to d = 1
-pub start-right : (form : Form) (kind : ℕ) → kind < 16 → number kind (columnOf form) 0 ≡ placeOf form kind 0 255
-start-right Question k h = eqb→eq _ _ (at (λ k. eqb (number k 0 0) (placeOf Question k 0 255)) 16 tt k h)
-start-right Certificate k h = eqb→eq _ _ (at (λ k. eqb (number k 1 0) (placeOf Certificate k 0 255)) 16 tt k h)
-start-right Kernel k h = eqb→eq _ _ (at (λ k. eqb (number k 2 0) (placeOf Kernel k 0 255)) 16 tt k h)
-
-pub rise-right : (form : Form) (kind : ℕ) → kind < 16 → number kind (columnOf form) 1 ≡ placeOf form kind 1 255 - placeOf form kind 0 255
-rise-right Question k h = eqb→eq _ _ (at (λ k. eqb (number k 0 1) (placeOf Question k 1 255 - placeOf Question k 0 255)) 16 tt k h)
-rise-right Certificate k h = eqb→eq _ _ (at (λ k. eqb (number k 1 1) (placeOf Certificate k 1 255 - placeOf Certificate k 0 255)) 16 tt k h)
-rise-right Kernel k h = eqb→eq _ _ (at (λ k. eqb (number k 2 1) (placeOf Kernel k 1 255 - placeOf Kernel k 0 255)) 16 tt k h)
 
 -- ── a place from the place at d = 0 and the rise
 
