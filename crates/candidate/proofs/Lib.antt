@@ -1,4 +1,4 @@
 pub mod Causal
 pub mod Products
-pub mod Steps
+pub mod EquationTurns
 pub mod Only

@@ -21,8 +21,8 @@ use Rattle.candidate.specs.Candidate.{Candidate}
 use Rattle.sheet.specs.Ready.{Ready, half-least, degree-half}
 use Rattle.candidate.specs.Equations.{HAt, SAt, CAt}
 use Rattle.expansion.specs.Equations.{Solved}
-use Rattle.expansion.proofs.Stores.{solved-all}
-use Rattle.expansion.proofs.Parts.{reversed-reduced}
+use Rattle.expansion.specs.Stores.{solved-all}
+use Rattle.expansion.specs.Parts.{reversed-reduced}
 
 module _ {p : ℕ} (q : Question (Zmod p)) (d≥1 : 1 ≤ q .d) (h s c g : List ℕ)
     (hs : Solved p (HAt (Zmod p) q) h (q .d)) (ss : Solved p (SAt (Zmod p) q (poly p h)) s (q .d + 1)) (cs : Solved p (CAt (Zmod p) (poly p s)) c (q .d + 1))

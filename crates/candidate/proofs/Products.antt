@@ -6,7 +6,7 @@ use native.Mathlib.Omega.{arith}
 use Rattle.ring.specs.Ring.{CRing}
 use Rattle.series.specs.Series.{Seq, conv, sum}
 use Rattle.isogeny.specs.Expansion.{sum-to}
-use Rattle.expansion.proofs.Products.{conv-terms}
+use Rattle.expansion.specs.Products.{conv-terms}
 
 module _ (R : CRing) where
   open CRing R using (mul as _⊗_)

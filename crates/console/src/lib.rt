@@ -1,4 +1,5 @@
-// Standard input to its end, and answers as text on standard output: what the programs share.
+// Standard input to its end, and a run of bytes to standard output: all that the programs have of the operating system. No contract can say which bytes
+// came from an input or reached an output; what is said is how many.
 ghost use Prim.Native.Nat.{_≤_, _<_};
 ghost use lib.ListN.{length};
 ghost use Rattle.io.specs.Counts.{Counts};
@@ -32,7 +33,8 @@ fn drain() -> usize
 }
 
 // Reads standard input to its end and keeps its first bytes, as many as `kept` has room for but three. Of a longer input the count has the rest
-// modulo 4 on top, so that it tells whether the input is made of whole words.
+// modulo 4 on top, so that it tells whether the input is made of whole words. The promise is that the count lies within `kept`; that the bytes are those
+// of the input is the C function's to keep. An input that cannot be read counts as one that ends there.
 pub fn read(kept: &mut [u8]) -> usize
     ensures { λ r. ⌜ Counts r (now (kept .exit)) ⌝ }
 {
@@ -47,49 +49,18 @@ pub fn read(kept: &mut [u8]) -> usize
     most + drain()
 }
 
-fn end_line() {
-    io::write_all(STDOUT_FILENO, b"\n");
-}
-
-fn wide(x: u32) -> u64 {
-    x as u64
-}
-
-// A line: the number of the question that is answered with no.
-pub fn print_refused(n: u32) {
-    io::write_all(STDOUT_FILENO, b"refused ");
-    io::print_decimal(STDOUT_FILENO, wide(n));
-    end_line();
-}
-
-// A line: a certificate passes.
-pub fn print_passes() {
-    io::write_all(STDOUT_FILENO, b"passes\n");
-}
-
-// A line: a number as sixteen hexadecimal digits.
-pub fn print_number(n: u64) {
-    io::print_hex(STDOUT_FILENO, n, 16);
-    end_line();
-}
-
-fn least(x: usize, y: usize) -> usize
-    ensures { λ r. ⌜ r ≤ y ⌝ }
+// Hands the bytes to standard output, from the first on, and answers how many were taken: all of them, or fewer where a call failed or took none.
+pub fn write(bytes: &[u8]) -> usize
+    ensures { λ r. ⌜ r ≤ length (now (bytes .entry)) ⌝ }
 {
-    if x < y { x } else { y }
-}
-
-fn print_first(words: &[u32], count: usize)
-    requires { ⌜ count ≤ length (now words) ⌝ }
-{
-    for i in 0..count {
-        io::print_hex(STDOUT_FILENO, wide(words[i]), 8);
-        end_line();
+    let mut done: usize = 0;
+    while done < bytes.len() {
+        let rest = &bytes[done..];
+        let n = io::count(libc::write(STDOUT_FILENO, rest), rest);
+        if n == 0 {
+            return done;
+        }
+        done += n;
     }
-}
-
-// A line for each of the first words: eight hexadecimal digits.
-pub fn print_words(words: &[u32], count: usize) {
-    let n = least(count, words.len());
-    print_first(words, n);
+    done
 }

@@ -1,4 +1,4 @@
 pub mod Cubic
-pub mod Steps
-pub mod Answers
+pub mod SideSteps
+pub mod ComparedSides
 pub mod Conditions

@@ -1,5 +1,2 @@
-pub mod Stores
-pub mod Parts
 pub mod Causal
-pub mod Products
-pub mod Steps
+pub mod Turns

@@ -1,2 +1,5 @@
 pub mod Multiple
 pub mod Equations
+pub mod Stores
+pub mod Parts
+pub mod Products

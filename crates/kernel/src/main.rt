@@ -1,13 +1,17 @@
 // Reads a kernel sheet from standard input and prints the certificate of its domain and kernel polynomial.
-use services::Written;
+ghost use Rattle.printing.specs.Printing.{KernelText};
+
+// The one place that prints. What it asks has `main` proved to hand over nothing but the right text for its input.
+fn print(sheet: &[u8], text: &[u8])
+    requires { ⌜ KernelText (now sheet) (now text) ⌝ }
+{
+    console::write(text);
+}
 
 fn main() {
-    let mut bytes = [0u8; 1575];
+    let mut bytes = [0u8; printing::INPUT];
     let n = console::read(&mut bytes);
-    let mut answer = [0u32; 392];
-    let written = sagepliers::files::kernel(&bytes[..n], &mut answer);
-    match written {
-        Written::Count(count) => console::print_words(&answer, count as usize),
-        Written::Refused(number) => console::print_refused(number),
-    }
+    let mut text = [0u8; printing::ROOM];
+    let count = printing::kernel(&bytes[..n], &mut text);
+    print(&bytes[..n], &text[..count]);
 }

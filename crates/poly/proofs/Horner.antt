@@ -1,4 +1,4 @@
--- Horner's rule from the top: after the turns from n down to i, r is the residue of the value of the polynomial f(i) + f(i + 1) u + .. + f(n − 1) u^(n − 1 − i).
+-- Horner's rule from the top: after the turns from n down to i, r is the residue of the value of f(i) + f(i + 1) u + .. + f(n − 1) u^(n − 1 − i).
 -- Assumes nothing.
 use mathlib.Core.Path.{_≡_, sym, _∙_, ap, ap₂, fun-ext}
 use Prim.Native.Nat.{ℕ, suc, _+_, _-_, _≤_, _<_}

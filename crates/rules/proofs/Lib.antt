@@ -1,2 +1,2 @@
-pub mod Steps
-pub mod Answers
+pub mod NumeratorSteps
+pub mod FirstRule

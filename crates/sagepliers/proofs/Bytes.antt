@@ -10,7 +10,7 @@ use Rattle.sheet.specs.declared.Form.the-variants.{Certificate}
 use Rattle.sheet.specs.Word.{wordsOf}
 use Rattle.sheet.specs.Values.{valuesOf}
 use Rattle.questions.specs.Questions.{Questions, AllYes, FirstNo}
-use Rattle.questions.specs.Joined.{no-before, no-after, all-all}
+use Rattle.questions.specs.Joined.{no-before, no-after, all-all, no-split, all-front, all-back}
 use Rattle.promises.specs.declared.Verdict.{Verdict}
 use Rattle.promises.specs.declared.Verdict.the-variants as verdict
 use Rattle.promises.specs.declared.Written.{Written}
@@ -21,7 +21,6 @@ use Rattle.promises.specs.declared.Image.the-variants as image
 use Rattle.promises.specs.Asked.{Room, check-asks, Given}
 use Rattle.promises.specs.Answer.{CheckRight, SolveRight, KernelRight, PushRight}
 use Rattle.sagepliers.specs.Entry.{WholeWords, bytes-ask, pointOf, push-number-asks, CheckAnswer, PushAnswer, SolveAnswer, KernelAnswer}
-use Rattle.sagepliers.proofs.Split.{no-split, all-split}
 
 module _ (bytes : List ℕ) where
   abbrev ws : List ℕ
@@ -38,8 +37,8 @@ module _ (bytes : List ℕ) where
     -- a number that stands for a point
     push-all : WholeWords bytes → k ≤ 2 ^ 56 → AllYes (check-asks ws ++ (12, Given (valuesOf Certificate ws) (pointOf k)) ∷ []) → AllYes (push-number-asks bytes k)
     push-all even small all =
-        let both = all-split (check-asks ws) ((12, Given (valuesOf Certificate ws) (pointOf k)) ∷ []) all in
-        (even, all-all (check-asks ws) twelve (both .0) ((small, both .1 .0), tt))
+        let last : Questions = (12, Given (valuesOf Certificate ws) (pointOf k)) ∷ [] in
+        (even, all-all (check-asks ws) twelve (all-front (check-asks ws) last all) ((small, all-back (check-asks ws) last all .0), tt))
 
     push-no : (n : ℕ) → WholeWords bytes → k ≤ 2 ^ 56 → FirstNo (check-asks ws ++ (12, Given (valuesOf Certificate ws) (pointOf k)) ∷ []) n → FirstNo (push-number-asks bytes k) n
     push-no n even small h = inr (even, go (no-split (check-asks ws) ((12, Given (valuesOf Certificate ws) (pointOf k)) ∷ []) n h))

@@ -1,4 +1,3 @@
-pub mod Split
 pub mod Long
 pub mod Bytes
 pub mod Loading

@@ -1,4 +1,5 @@
--- A sheet of more words than any sheet has: its first words, one more than the largest certificate has, get the answer that all of them get, since questions 2 to 5 read the header alone and
+-- A sheet of more words than any sheet has: its first words, one more than the largest certificate has, get the answer that all of them get,
+-- since questions 2 to 5 read the header alone and
 -- question 6 is a no.
 -- Assumes nothing.
 use mathlib.Core.Path.{_≡_, subst}
@@ -14,7 +15,7 @@ use Rattle.sheet.specs.Form.{mostWords}
 use Rattle.sheet.specs.Values.{valuesOf, gOf, nOf}
 use Rattle.sheet.specs.Asked.{asked}
 use Rattle.questions.specs.Questions.{Questions, AllYes, FirstNo}
-use Rattle.questions.specs.Joined.{no-before}
+use Rattle.questions.specs.Joined.{no-before, no-split, all-front}
 use Rattle.promises.specs.declared.Verdict.{Verdict}
 use Rattle.promises.specs.declared.Verdict.the-variants as verdict
 use Rattle.promises.specs.declared.Written.{Written}
@@ -24,7 +25,6 @@ use Rattle.promises.specs.declared.Image.{Image}
 use Rattle.promises.specs.declared.Image.the-variants as image
 use Rattle.promises.specs.Asked.{Solvable, last-ask, Given, rules-ask, check-asks}
 use Rattle.promises.specs.Answer.{CheckRight, SolveRight, KernelRight, PushRight}
-use Rattle.sagepliers.proofs.Split.{no-split, all-split}
 
 -- the count of words that are kept: one more than the largest certificate has
 abbrev pub kept : ℕ
@@ -63,7 +63,7 @@ long-no form more ws n h = go (no-split (asked form (take kept ws)) (more (take 
 -- what holds of the words kept, if they pass, holds of all of them
 long-all : (form : Form) (more : List ℕ → Questions) (P : List ℕ → Type 0) (ws : List ℕ)
     → AllYes (asked form (take kept ws) ++ more (take kept ws)) → P (take kept ws) → P ws
-long-all form more P ws all h = subst P (whole form ws (all-split (asked form (take kept ws)) (more (take kept ws)) all .0)) h
+long-all form more P ws all h = subst P (whole form ws (all-front (asked form (take kept ws)) (more (take kept ws)) all)) h
 
 pub check-long : (ws : List ℕ) (r : Verdict) → CheckRight (take kept ws) r → CheckRight ws r
 check-long ws verdict.Passes h = (long-all Certificate certified (λ us. AllYes (check-asks us)) ws (h .0) (h .0), tt)

@@ -48,7 +48,8 @@ sheet-unique ws all a b h k =
     unique (known .prime .prime) (put Question ws) (half-least (valuesOf Question ws) known)
     (omega (arith, known .degree, degree-half (valuesOf Question ws) known)) a b h k
 
--- If there is one, and the buffer has room, solve answers with the count of that certificate's words, 3d + 11, and the buffer holds the certificate with that polynomial.
+-- If there is one, and the buffer has room, solve answers with the count of a certificate's words, 3d + 11, and the buffer holds the certificate with that
+-- polynomial.
 pub solved : (ws before after : List ℕ) (r : Written) → Room (length before) → AllYes (asked Question ws)
     → (a : Seq (Zmod (prime Question ws))) → Meets (Zmod (prime Question ws)) (put Question ws) a → SolveRight ws before after r
     → (r ≡ written.Count (certificateWords (half (valuesOf Question ws))))

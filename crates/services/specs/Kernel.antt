@@ -1,5 +1,5 @@
--- What a customer can cite of kernel: one answer is right and no other, with every word of the lent buffer, since the sheet determines codomain, σ and N; and what
--- it writes passes check.
+-- What a customer can cite of kernel: one answer is right and no other, with every word of the lent buffer, since the sheet determines codomain, σ and N;
+-- and what it writes passes check.
 -- Assumes nothing.
 use mathlib.Core.Path.{_≡_, sym, _∙_, ap, subst}
 use mathlib.Core.List.{List, _++_}

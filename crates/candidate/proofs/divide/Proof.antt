@@ -1,7 +1,7 @@
--- `solution::divide` meets its contract. Assumes nothing.
+-- `candidate::divide` meets its contract. Assumes nothing.
 use lib.ListN.{getD}
 use borrow.Author.Needs.{needs}
-use Rattle.candidate.proofs.Steps.{quotient-is}
+use Rattle.candidate.proofs.EquationTurns.{quotient-is}
 use Rattle.candidate.proofs.divide.Statement.{statement}
 use Rattle.candidate.proofs.divide.Tie as tie
 

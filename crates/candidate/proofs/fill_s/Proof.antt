@@ -1,4 +1,4 @@
--- `solution::fill_s` meets its contract. The invariant: the words before k solve their equations.
+-- `candidate::fill_s` meets its contract. The invariant: the words before k solve their equations.
 -- Assumes nothing.
 use mathlib.Core.Path.{_≡_, subst}
 use Prim.Native.Nat.{_-_, _≤_, _<_}
@@ -10,7 +10,7 @@ use Rattle.zmod.specs.Residues.{poly}
 use Rattle.sheet.specs.Values.{question}
 use Rattle.candidate.specs.Equations.{SAt}
 use Rattle.expansion.specs.Equations.{Solved}
-use Rattle.expansion.proofs.Stores.{solved-none, solved-more}
+use Rattle.expansion.specs.Stores.{solved-none, solved-more}
 use Rattle.candidate.proofs.Causal.{s-causal}
 use Rattle.candidate.proofs.fill_s.Statement.{statement}
 use Rattle.candidate.proofs.fill_s.Tie as tie

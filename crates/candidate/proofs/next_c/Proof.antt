@@ -1,12 +1,12 @@
--- `solution::next_c` meets its contract. Assumes nothing.
+-- `candidate::next_c` meets its contract. Assumes nothing.
 use mathlib.Core.Path.{sym}
 use Prim.Native.Nat.{_-_}
 use native.Mathlib.Omega.{arith}
 use lib.ListN.{length}
 use lib.Seq.{length-take-le}
 use borrow.Author.Needs.{needs}
-use Rattle.expansion.proofs.Parts.{part-reduced, reduced-front}
-use Rattle.candidate.proofs.Steps.{c-zero, c-more}
+use Rattle.expansion.specs.Parts.{part-reduced, reduced-front}
+use Rattle.candidate.proofs.EquationTurns.{c-zero, c-more}
 use Rattle.candidate.proofs.next_c.Statement.{statement}
 use Rattle.candidate.proofs.next_c.Tie as tie
 

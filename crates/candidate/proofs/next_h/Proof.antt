@@ -1,8 +1,8 @@
--- `solution::next_h` meets its contract. Assumes nothing.
+-- `candidate::next_h` meets its contract. Assumes nothing.
 use native.Mathlib.Omega.{arith}
 use borrow.Author.Needs.{needs}
 use Rattle.sheet.specs.Values.{question}
-use Rattle.candidate.proofs.Steps.{h-zero, h-first, h-second, h-more}
+use Rattle.candidate.proofs.EquationTurns.{h-zero, h-first, h-second, h-more}
 use Rattle.candidate.proofs.next_h.Statement.{statement}
 use Rattle.candidate.proofs.next_h.Tie as tie
 

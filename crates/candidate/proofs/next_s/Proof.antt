@@ -1,4 +1,4 @@
--- `solution::next_s` meets its contract. Assumes nothing.
+-- `candidate::next_s` meets its contract. Assumes nothing.
 use mathlib.Core.Path.{_≡_, refl, ap, _∙_}
 use Prim.Native.Nat.{_-_, _*_}
 use native.Mathlib.Omega.{arith}
@@ -7,7 +7,7 @@ use borrow.Author.Needs.{needs}
 use Rattle.zmod.specs.Zmod.{mk, times}
 use Rattle.sheet.specs.Values.{half, question}
 use Rattle.zmod.specs.Residues.{residue-same, residue-self}
-use Rattle.candidate.proofs.Steps.{s-zero, s-one, s-more}
+use Rattle.candidate.proofs.EquationTurns.{s-zero, s-one, s-more}
 use Rattle.candidate.proofs.next_s.Statement.{statement}
 use Rattle.candidate.proofs.next_s.Tie as tie
 

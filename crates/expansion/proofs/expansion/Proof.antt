@@ -1,4 +1,5 @@
--- `expansion::expansion` meets its contract. The invariant: the words before i are residues of the coefficients, and y and z are the multiples of A and B for i. Assumes nothing.
+-- `expansion::expansion` meets its contract. The invariant: the words before i are residues of the coefficients, and y and z are the
+-- multiples of A and B for i. Assumes nothing.
 use mathlib.Core.Path.{_≡_, _∙_}
 use Prim.Native.Nat.{ℕ, _+_, _-_, _*_, _≤_, _<_}
 use native.Mathlib.Omega.{arith}
@@ -12,7 +13,7 @@ use Rattle.isogeny.specs.Expansion.{expansion}
 use Rattle.zmod.specs.Residues.{Residue, poly, residues-filled, residue-self}
 use Rattle.zmod.specs.Zmod.{Zmod}
 use Rattle.expansion.specs.Multiple.{Multiple}
-use Rattle.expansion.proofs.Steps.{none, once, two-more}
+use Rattle.expansion.proofs.Turns.{none, once, two-more}
 use Rattle.expansion.proofs.expansion.Statement.{statement}
 use Rattle.expansion.proofs.expansion.Tie as tie
 

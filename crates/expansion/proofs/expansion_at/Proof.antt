@@ -7,7 +7,7 @@ use borrow.Author.Needs.{needs}
 use Rattle.sheet.specs.Values.{question}
 use Rattle.zmod.specs.Residues.{residue-same}
 use Rattle.zmod.specs.Zmod.{mk, plus, times}
-use Rattle.expansion.proofs.Steps.{expands}
+use Rattle.expansion.proofs.Turns.{expands}
 use Rattle.expansion.proofs.expansion_at.Statement.{statement}
 use Rattle.expansion.proofs.expansion_at.Tie as tie
 

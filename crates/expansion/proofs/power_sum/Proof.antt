@@ -6,8 +6,8 @@ use borrow.Author.Needs.{needs}
 use Rattle.sheet.specs.Values.{half}
 use Rattle.zmod.specs.Residues.{residue-same}
 use Rattle.zmod.specs.Zmod.{mk}
-use Rattle.expansion.proofs.Parts.{part-reduced}
-use Rattle.expansion.proofs.Steps.{sum-first, sum-more}
+use Rattle.expansion.specs.Parts.{part-reduced}
+use Rattle.expansion.proofs.Turns.{sum-first, sum-more}
 use Rattle.expansion.proofs.power_sum.Statement.{statement}
 use Rattle.expansion.proofs.power_sum.Tie as tie
 

@@ -9,7 +9,7 @@ use Rattle.zmod.specs.Zmod.{Zmod}
 use Rattle.zmod.specs.Residues.{poly}
 use Rattle.sheet.specs.Values.{half}
 use Rattle.expansion.specs.Equations.{SumAt, Solved}
-use Rattle.expansion.proofs.Stores.{solved-none, solved-more, solved-all}
+use Rattle.expansion.specs.Stores.{solved-none, solved-more, solved-all}
 use Rattle.expansion.proofs.Causal.{sum-causal}
 use Rattle.series.specs.Reversal.{rev}
 use Rattle.isogeny.specs.Proof.Sums.{sums-step}

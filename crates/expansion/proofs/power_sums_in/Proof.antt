@@ -4,7 +4,7 @@ use Prim.Native.Nat.{_+_}
 use native.Mathlib.Omega.{arith}
 use lib.ListN.{length}
 use borrow.Author.Needs.{needs}
-use Rattle.expansion.proofs.Parts.{reversed-poly, reversed-reduced, rev-twice}
+use Rattle.expansion.specs.Parts.{reversed-poly, reversed-reduced, rev-twice}
 use Rattle.isogeny.specs.Expansion.{power-sums}
 use Rattle.sheet.specs.Values.{half}
 use Rattle.zmod.specs.Zmod.{Zmod}

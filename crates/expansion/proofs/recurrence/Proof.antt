@@ -3,7 +3,7 @@ use Prim.Native.Nat.{_-_, _*_}
 use native.Mathlib.Omega.{arith}
 use borrow.Author.Needs.{needs}
 use Rattle.sheet.specs.Values.{question}
-use Rattle.expansion.proofs.Steps.{small, recurrence-is}
+use Rattle.expansion.proofs.Turns.{small, recurrence-is}
 use Rattle.expansion.proofs.recurrence.Statement.{statement}
 use Rattle.expansion.proofs.recurrence.Tie as tie
 

@@ -12,7 +12,7 @@ use Rattle.sheet.specs.Values.{question}
 use Rattle.zmod.specs.Residues.{poly}
 use Rattle.isogeny.specs.Expansion.{Recurs}
 use Rattle.expansion.specs.Multiple.{Multiple}
-use Rattle.expansion.proofs.Steps.{none, thrice, two-more}
+use Rattle.expansion.proofs.Turns.{none, thrice, two-more}
 use Rattle.expansion.proofs.recurs.Statement.{statement}
 use Rattle.expansion.proofs.recurs.Tie as tie
 

@@ -3,7 +3,7 @@ use Prim.Native.Nat.{_+_, _-_, _*_}
 use native.Mathlib.Omega.{arith}
 use borrow.Author.Needs.{needs}
 use Rattle.sheet.specs.Values.{question}
-use Rattle.expansion.proofs.Steps.{recurs-is}
+use Rattle.expansion.proofs.Turns.{recurs-is}
 use Rattle.expansion.proofs.recurs_at.Statement.{statement}
 use Rattle.expansion.proofs.recurs_at.Tie as tie
 

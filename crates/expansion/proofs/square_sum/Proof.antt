@@ -2,8 +2,8 @@
 use native.Mathlib.Omega.{arith}
 use Prim.Native.Nat.{_-_}
 use borrow.Author.Needs.{needs}
-use Rattle.expansion.proofs.Parts.{part-reduced}
-use Rattle.expansion.proofs.Steps.{squares}
+use Rattle.expansion.specs.Parts.{part-reduced}
+use Rattle.expansion.proofs.Turns.{squares}
 use Rattle.expansion.proofs.square_sum.Statement.{statement}
 use Rattle.expansion.proofs.square_sum.Tie as tie
 

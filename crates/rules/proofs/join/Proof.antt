@@ -4,7 +4,7 @@ use Prim.Native.Nat.{_+_, _-_, _*_, _<_}
 use native.Mathlib.Omega.{arith}
 use borrow.Author.Needs.{needs}
 use Rattle.rules.specs.Words.{mk-less}
-use Rattle.rules.proofs.Steps.{back-is, back-below, join-is}
+use Rattle.rules.proofs.NumeratorSteps.{back-is, back-below, join-is}
 use Rattle.rules.proofs.join.Statement.{statement}
 use Rattle.rules.proofs.join.Tie as tie
 

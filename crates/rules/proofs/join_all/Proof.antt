@@ -5,7 +5,7 @@ use borrow.Author.Needs.{needs}
 use lib.ListN.{length}
 use Rattle.zmod.specs.Zmod.{Zmod}
 use Rattle.zmod.specs.Residues.{poly}
-use Rattle.poly.proofs.Stored.{Stored, Of, stored-none, stored-more, stored-all}
+use Rattle.poly.specs.Stored.{Stored, Of, stored-none, stored-more, stored-all}
 use Rattle.sheet.specs.Values.{question}
 use Rattle.rules.specs.Numerator.{joined}
 use Rattle.rules.proofs.join_all.Statement.{statement}

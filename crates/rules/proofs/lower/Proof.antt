@@ -5,7 +5,7 @@ use native.Mathlib.Omega.{arith}
 use borrow.Author.Needs.{needs}
 use Rattle.zmod.specs.Residues.{residue-same}
 use Rattle.zmod.specs.Zmod.{mk, minus}
-use Rattle.rules.proofs.Steps.{lower-is}
+use Rattle.rules.proofs.NumeratorSteps.{lower-is}
 use Rattle.rules.proofs.lower.Statement.{statement}
 use Rattle.rules.proofs.lower.Tie as tie
 

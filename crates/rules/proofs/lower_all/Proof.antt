@@ -6,7 +6,7 @@ use lib.ListN.{length}
 use Rattle.series.specs.Series.{∂}
 use Rattle.zmod.specs.Zmod.{Zmod}
 use Rattle.zmod.specs.Residues.{poly}
-use Rattle.poly.proofs.Stored.{Stored, Of, stored-none, stored-more, stored-all}
+use Rattle.poly.specs.Stored.{Stored, Of, stored-none, stored-more, stored-all}
 use Rattle.rules.specs.Numerator.{lowered}
 use Rattle.rules.proofs.lower_all.Statement.{statement}
 use Rattle.rules.proofs.lower_all.Tie as tie

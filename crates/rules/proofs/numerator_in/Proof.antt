@@ -2,7 +2,7 @@
 -- Assumes nothing.
 use native.Mathlib.Omega.{arith}
 use borrow.Author.Needs.{needs}
-use Rattle.rules.proofs.Steps.{bend-steps, numerator-steps}
+use Rattle.rules.proofs.NumeratorSteps.{bend-steps, numerator-steps}
 use Rattle.rules.proofs.numerator_in.Statement.{statement}
 use Rattle.rules.proofs.numerator_in.Tie as tie
 

@@ -1,6 +1,6 @@
 -- `rules::rule_one` meets its contract. Assumes nothing.
 use native.Mathlib.Omega.{arith}
-use Rattle.rules.proofs.Answers.{one-no, one-last}
+use Rattle.rules.proofs.FirstRule.{one-no, one-last}
 use borrow.Author.Needs.{needs}
 use Rattle.rules.proofs.rule_one.Statement.{statement}
 use Rattle.rules.proofs.rule_one.Tie as tie

@@ -1,6 +1,6 @@
 -- `equation::sides::add_terms` meets its contract. Assumes nothing.
 use native.Mathlib.Omega.{arith}
-use Rattle.equation.proofs.Steps.{terms-steps}
+use Rattle.equation.proofs.SideSteps.{terms-steps}
 use borrow.Author.Needs.{needs}
 use Rattle.equation.proofs.sides.add_terms.Statement.{statement}
 use Rattle.equation.proofs.sides.add_terms.Tie as tie

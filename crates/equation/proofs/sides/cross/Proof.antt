@@ -2,7 +2,7 @@
 use native.Mathlib.Omega.{arith}
 use Prim.Native.Nat.{_-_}
 use Rattle.rules.specs.Words.{mk-less}
-use Rattle.equation.proofs.Steps.{cross-steps}
+use Rattle.equation.proofs.SideSteps.{cross-steps}
 use borrow.Author.Needs.{needs}
 use Rattle.equation.proofs.sides.cross.Statement.{statement}
 use Rattle.equation.proofs.sides.cross.Tie as tie

@@ -2,7 +2,7 @@
 use native.Mathlib.Omega.{arith}
 use Prim.Native.Nat.{_+_, _*_, _-_}
 use lib.ListN.{length, take, length-take}
-use Rattle.equation.proofs.Steps.{left-steps}
+use Rattle.equation.proofs.SideSteps.{left-steps}
 use borrow.Author.Needs.{needs}
 use Rattle.equation.proofs.sides.left_side.Statement.{statement}
 use Rattle.equation.proofs.sides.left_side.Tie as tie

@@ -3,7 +3,7 @@ use native.Mathlib.Omega.{arith}
 use Prim.Native.Nat.{_+_, _*_, _-_}
 use lib.ListN.{length, take, length-take}
 use borrow.Author.Needs.{needs}
-use Rattle.equation.proofs.Steps.{right-steps}
+use Rattle.equation.proofs.SideSteps.{right-steps}
 use Rattle.equation.proofs.sides.right_side.Statement.{statement}
 use Rattle.equation.proofs.sides.right_side.Tie as tie
 

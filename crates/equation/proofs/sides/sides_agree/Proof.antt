@@ -1,6 +1,6 @@
 -- `equation::sides::sides_agree` meets its contract. Assumes nothing.
 use native.Mathlib.Omega.{arith}
-use Rattle.equation.proofs.Answers.{three}
+use Rattle.equation.proofs.ComparedSides.{three}
 use borrow.Author.Needs.{needs}
 use Rattle.equation.proofs.sides.sides_agree.Statement.{statement}
 use Rattle.equation.proofs.sides.sides_agree.Tie as tie

@@ -2,7 +2,7 @@
 use native.Mathlib.Omega.{arith}
 use mathlib.Core.Path.{_≡_}
 use lib.ListN.{length, take, drop, length-take}
-use Rattle.equation.proofs.Steps.{front-whole, factor-steps}
+use Rattle.equation.proofs.SideSteps.{front-whole, factor-steps}
 use borrow.Author.Needs.{needs}
 use Rattle.equation.proofs.sides.square_and.Statement.{statement}
 use Rattle.equation.proofs.sides.square_and.Tie as tie

@@ -1,0 +1,186 @@
+-- What one turn of each loop computes solves its equation: the residues that the functions of `field` and `poly` give, put into document 01's formulas.
+-- Assumes nothing.
+use mathlib.Core.Path.{_≡_, refl, sym, _∙_, ap, ap₂}
+use mathlib.Core.List.{List}
+use mathlib.Core.Bool.{true}
+use mathlib.Core.Logic.{_↔_}
+use Prim.Native.Nat.{ℕ, _+_, _*_, _-_, _^_, _≤_, _<_}
+use native.Mathlib.Nat as N
+use native.Mathlib.Omega.{arith}
+use lib.Dec.{eqb}
+use borrow.Author.Tests.{eqb-true, eq-eqb}
+use lib.ListN.{length, getD, set, take, drop}
+use Rattle.ring.specs.Ring
+use Rattle.ring.specs.Ring.{cast}
+use Rattle.ring.specs.Identity.{solve2, solve4, solve5, solve8}
+use Rattle.ring.specs.Identity.Ex.{num, :0, _:+_, _:-_, _:*_, :-_}
+use Rattle.series.specs.Series.{Seq, conv}
+use Rattle.series.specs.Reversal.{rev}
+use Rattle.zmod.specs.Zmod.{Elt, Zmod, mk, plus, times, minus, mk-add, mk-mul, cast-mk}
+use Rattle.zmod.specs.Residues.{Residue, poly, poly-at, poly-past, residue-self, residue-same, residue-unique}
+use Rattle.isogeny.specs.Expansion.{sum-to, recurrence, Recurs, expansion, newton-step}
+use Rattle.expansion.specs.Equations.{SumAt, Solves}
+use Rattle.expansion.specs.Multiple.{Multiple}
+use Rattle.expansion.specs.Stores.{stored-before, stored-at}
+use Rattle.expansion.specs.Parts.{part-at, part-past, rev-twice}
+use Rattle.expansion.specs.Products.{newton-part, square-part, newton-step-at, newton-step-zero, expansion-above}
+
+-- ── equality, and a bound
+
+pub same-residue : {p : ℕ} {x y : Elt p} (l r : ℕ) → Residue p x l → Residue p y r → (eqb l r ≡ true) ↔ (x ≡ y)
+same-residue {p} l r hl hr =
+    (λ e. sym (hl .class) ∙ ap (mk p) (eqb-true l r e) ∙ hr .class, λ e. eq-eqb l r (residue-unique (residue-same e hl) hr))
+
+pub small : (m n : ℕ) → m ≤ 2048 → n ≤ 2051 → m * n ≤ 2048 * 2051
+small m n hm hn = N.mul-le-mul {n₁ = m} {m₁ = n} {n₂ = 2048} {m₂ = 2051} hm hn
+
+-- ── the power sums of g
+
+module _ (p d : ℕ) (c s : List ℕ) (k : ℕ) (inside : k < length s) where
+  pub sum-first : (r : ℕ) → k ≡ 0 → Residue p (mk p (2 * d)) r → Solves p (SumAt (Zmod p) d (poly p c)) s k r
+  sum-first r e h = record {
+    below = h .below;
+    equation =
+        stored-at p s k r inside ∙ h .class ∙ sym (cast-mk p (2 * d))
+        ∙ sym (ap (λ m. newton-step (Zmod p) d (rev (Zmod p) d (poly p c)) m (poly p (set s k r))) e ∙ newton-step-zero (Zmod p) d _ _);
+  }
+
+  module _ (len : length c ≡ d + 1) (l : 1 ≤ k) (w t r : ℕ) (hw : Residue p (times p (mk p (2 * k)) (mk p (getD c k 0))) w)
+      (ht : Residue p (plus p (mk p w) (conv (Zmod p) (poly p (take (k - 1) (drop 1 s))) (poly p c) (k - 1))) t)
+      (hr : Residue p (minus p (mk p t)) r) where
+    G : Seq (Zmod p)
+    G = rev (Zmod p) d (rev (Zmod p) d (poly p c))
+
+    G-is : G ≡ poly p c
+    unfolding G
+    G-is = rev-twice (Zmod p) d (poly p c) (λ i m. poly-past p c i (omega arith))
+
+    weight : mk p w ≡ times p (cast (Zmod p) (2 * k)) (G k)
+    weight =
+        hw .class ∙ ap₂ (times p) (sym (cast-mk p (2 * k))) (sym (poly-at p c k) ∙ ap (λ f. f k) (sym G-is))
+
+    products : conv (Zmod p) (poly p (take (k - 1) (drop 1 s))) (poly p c) (k - 1) ≡ sum-to (Zmod p) (λ i. times p (poly p (set s k r) i) (G (k - i))) (k - 1)
+    products =
+        ap (λ f. conv (Zmod p) (poly p (take (k - 1) (drop 1 s))) f (k - 1)) (sym G-is)
+        ∙ newton-part (Zmod p) (poly p (set s k r)) G (poly p (take (k - 1) (drop 1 s))) k l
+        (λ i m. part-at p s 1 (k - 1) i m ∙ sym (stored-before p s k r (1 + i) (omega arith)))
+        (part-past p s 1 (k - 1) (k - 1) (omega arith))
+
+    pub sum-more : Solves p (SumAt (Zmod p) d (poly p c)) s k r
+    unfolding G
+    sum-more = record {
+      below = hr .below;
+      equation =
+          stored-at p s k r inside ∙ hr .class ∙ ap (minus p) (ht .class) ∙ Ring.neg-add (Zmod p) _ _
+          ∙ ap₂ (λ x y. plus p (minus p x) (minus p y)) weight products
+          ∙ sym (newton-step-at (Zmod p) d (rev (Zmod p) d (poly p c)) (poly p (set s k r)) k l);
+    }
+
+-- ── the expansion from the power sums
+
+pub expands : (p : ℕ) (A B : Elt p) (s : List ℕ) (i y z r : ℕ) → 1 ≤ i → Multiple p (2 * i - 1) A y → Multiple p (2 * i - 2) B z
+    → Residue p (plus p (plus p (times p (mk p (2 * i + 1)) (mk p (getD s (i + 1) 0))) (times p (mk p y) (mk p (getD s (i - 1) 0)))) (times p (mk p z) (mk p (getD s (i - 2) 0)))) r
+    → Residue p (expansion (Zmod p) A B (poly p s) i) r
+expands p A B s i y z r l hy hz =
+    residue-same
+    (ap₂ (plus p)
+    (ap₂ (plus p) (ap₂ (times p) (sym (cast-mk p (2 * i + 1))) (sym (poly-at p s (i + 1)))) (ap₂ (times p) (hy .class) (sym (poly-at p s (i - 1)))))
+    (ap₂ (times p) (hz .class) (sym (poly-at p s (i - 2))))
+    ∙ sym (expansion-above (Zmod p) A B (poly p s) i l))
+
+-- ── multiples of A and B, added up
+
+-- the first ones
+pub none : {p : ℕ} (a : Elt p) → 0 < p → Multiple p 0 a 0
+none {p} a pos = record { below = pos; class = sym (ap (λ x. times p x a) (Ring.cast-zero (Zmod p)) ∙ Ring.zero-mul (Zmod p) a) }
+
+pub once : {p : ℕ} (a : ℕ) → a < p → Multiple p 1 (mk p a) a
+once {p} a low = record { below = low; class = sym (ap (λ x. times p x (mk p a)) (Ring.cast-one (Zmod p)) ∙ Ring.one-mul (Zmod p) (mk p a)) }
+
+pub thrice : {p : ℕ} (a r : ℕ) → Residue p (times p (mk p 3) (mk p a)) r → Multiple p 3 (mk p a) r
+thrice {p} a r = residue-same (ap (λ x. times p x (mk p a)) (sym (cast-mk p 3)))
+
+-- two more
+pub two-more : {p : ℕ} (a t m n y r : ℕ) → n ≡ m + 2 → Residue p (plus p (mk p a) (mk p a)) t → Multiple p m (mk p a) y
+    → Residue p (plus p (mk p y) (mk p t)) r → Multiple p n (mk p a) r
+two-more {p} a t m n y r e ht hy =
+    residue-same
+    (ap₂ (plus p) (hy .class) (ht .class)
+    ∙ solve2 (Zmod p) (λ m a. m :* a :+ (a :+ a)) (λ m a. (m :+ num 2) :* a) tt (cast (Zmod p) m) (mk p a)
+    ∙ ap (λ x. times p x (mk p a)) (sym (Ring.cast-add (Zmod p) m 2) ∙ ap (cast (Zmod p)) (sym e)))
+
+-- ── the recurrence
+
+-- the sum, as the coefficient of a square
+pub squares : (p : ℕ) (h : List ℕ) (k x : ℕ) → 3 ≤ k
+    → Residue p (conv (Zmod p) (poly p (take (k - 1 - 1) (drop 1 h))) (poly p (take (k - 1 - 1) (drop 1 h))) (k - 3)) x
+    → Residue p (sum-to (Zmod p) (λ i. times p (poly p h i) (poly p h (k - 1 - i))) (k - 2)) x
+squares p h k x l =
+    residue-same (square-part (Zmod p) (poly p h) (poly p (take (k - 1 - 1) (drop 1 h))) k l (λ i m. part-at p h 1 (k - 1 - 1) i (omega arith)))
+
+module _ (p : ℕ) (A B : Elt p) (h : List ℕ) (k : ℕ) (l : 3 ≤ k) where
+  abbrev S : Elt p
+  S = sum-to (Zmod p) (λ i. times p (poly p h i) (poly p h (k - 1 - i))) (k - 2)
+
+  pub recurrence-is : (x y₀ y z₀ z r : ℕ) → Residue p S x
+      → Residue p (times p A (mk p (getD h (k - 2) 0))) y₀ → Residue p (minus p (mk p y₀)) y
+      → Residue p (times p B (mk p (getD h (k - 3) 0))) z₀ → Residue p (minus p (mk p z₀)) z
+      → Residue p (plus p (plus p (times p (mk p 3) (mk p x)) (times p (mk p ((k - 2) * (2 * k - 3))) (mk p y))) (times p (mk p (2 * (k - 2) * (k - 3))) (mk p z))) r
+      → Residue p (recurrence (Zmod p) A B (poly p h) k) r
+  recurrence-is x y₀ y z₀ z r hx hy₀ hy hz₀ hz =
+      residue-same
+      (ap₂ (plus p)
+      (ap₂ (plus p)
+      (ap₂ (times p) (sym (cast-mk p 3)) (hx .class))
+      (ap₂ (times p) (mk-mul p (k - 2) (2 * k - 3) ∙ ap₂ (times p) (sym (cast-mk p (k - 2))) (sym (cast-mk p (2 * k - 3))))
+      (hy .class ∙ ap (minus p) (hy₀ .class ∙ ap (times p A) (sym (poly-at p h (k - 2)))))
+      ∙ solve4 (Zmod p) (λ x y a u. x :* y :* :- (a :* u)) (λ x y a u. :- (x :* y :* a :* u)) tt _ _ A _))
+      (ap₂ (times p)
+      (mk-mul p (2 * (k - 2)) (k - 3)
+      ∙ ap₂ (times p) (mk-mul p 2 (k - 2) ∙ ap₂ (times p) (sym (cast-mk p 2)) (sym (cast-mk p (k - 2)))) (sym (cast-mk p (k - 3))))
+      (hz .class ∙ ap (minus p) (hz₀ .class ∙ ap (times p B) (sym (poly-at p h (k - 3)))))
+      ∙ solve5 (Zmod p) (λ w x y a u. w :* x :* y :* :- (a :* u)) (λ w x y a u. :- (w :* x :* y :* a :* u)) tt _ _ _ B _))
+
+  abbrev # : ℕ → Elt p
+  # n = cast (Zmod p) n
+
+  -- both sides of the recurrence on one side
+  difference : (e : Elt p)
+      → plus p (plus p (times p (# (k - 2)) (plus p (plus p (times p (# (2 * k + 3)) (poly p h k)) (times p (times p (# (2 * k - 3)) A) (poly p h (k - 2))))
+      (times p (times p (times p (# 2) (# (k - 3))) B) (poly p h (k - 3))))) (times p (# 3) (minus p S))) (times p e (mk p 0))
+      ≡ plus p (times p (times p (# (k - 2)) (# (2 * k + 3))) (poly p h k)) (minus p (recurrence (Zmod p) A B (poly p h) k))
+  difference e =
+      solve8 (Zmod p)
+      (λ a b x t u n s e. a :* (b :* x :+ t :+ u) :+ n :* :- s :+ e :* :0)
+      (λ a b x t u n s e. a :* b :* x :- (n :* s :- a :* t :- a :* u)) tt
+      (# (k - 2)) (# (2 * k + 3)) (poly p h k) (times p (times p (# (2 * k - 3)) A) (poly p h (k - 2)))
+      (times p (times p (times p (# 2) (# (k - 3))) B) (poly p h (k - 3))) (# 3) S e
+      ∙ ap₂ (λ t u. plus p (times p (times p (# (k - 2)) (# (2 * k + 3))) (poly p h k)) (minus p (plus p (plus p (times p (# 3) S) (minus p t)) (minus p u))))
+      (solve4 (Zmod p) (λ a c x y. a :* (c :* x :* y)) (λ a c x y. a :* c :* x :* y) tt (# (k - 2)) (# (2 * k - 3)) A (poly p h (k - 2)))
+      (solve5 (Zmod p) (λ a w c x y. a :* (w :* c :* x :* y)) (λ a w c x y. w :* a :* c :* x :* y) tt (# (k - 2)) (# 2) (# (k - 3)) B (poly p h (k - 3)))
+
+  pub recurs-is : (y z u x₀ x r : ℕ) → 0 < p → Multiple p (2 * k - 3) A y → Multiple p (2 * k - 6) B z
+      → Residue p (plus p (plus p (times p (mk p (2 * k + 3)) (mk p (getD h k 0))) (times p (mk p y) (mk p (getD h (k - 2) 0)))) (times p (mk p z) (mk p (getD h (k - 3) 0)))) u
+      → Residue p S x₀ → Residue p (minus p (mk p x₀)) x
+      → Residue p (plus p (plus p (times p (mk p (k - 2)) (mk p u)) (times p (mk p 3) (mk p x))) (times p (mk p 0) (mk p 0))) r
+      → (eqb r 0 ≡ true) ↔ Recurs (Zmod p) A B (poly p h) k
+  recurs-is y z u x₀ x r pos hy hz hu hx₀ hx hr =
+      (λ e. Ring.sub-zero (Zmod p) _ _ (test .0 e), λ e. test .1 (ap (λ s. plus p s (minus p (recurrence (Zmod p) A B (poly p h) k))) e ∙ Zmod p .add-neg _))
+    where
+      inner : mk p u ≡ plus p (plus p (times p (# (2 * k + 3)) (poly p h k)) (times p (times p (# (2 * k - 3)) A) (poly p h (k - 2)))) (times p (times p (times p (# 2) (# (k - 3))) B) (poly p h (k - 3)))
+      inner =
+          hu .class
+          ∙ ap₂ (plus p)
+          (ap₂ (plus p) (ap₂ (times p) (sym (cast-mk p (2 * k + 3))) (sym (poly-at p h k))) (ap₂ (times p) (hy .class) (sym (poly-at p h (k - 2)))))
+          (ap₂ (times p) (hz .class ∙ ap (λ n. times p n B) (ap # (omega arith) ∙ Ring.cast-mul (Zmod p) 2 (k - 3))) (sym (poly-at p h (k - 3))))
+
+      test : (eqb r 0 ≡ true) ↔ (plus p (times p (times p (# (k - 2)) (# (2 * k + 3))) (poly p h k)) (minus p (recurrence (Zmod p) A B (poly p h) k)) ≡ mk p 0)
+      test =
+          same-residue r 0
+          (residue-same
+          (ap₂ (plus p)
+          (ap₂ (plus p) (ap₂ (times p) (sym (cast-mk p (k - 2))) inner)
+          (ap₂ (times p) (sym (cast-mk p 3)) (hx .class ∙ ap (minus p) (hx₀ .class))))
+          refl
+          ∙ difference (mk p 0)) hr)
+          (residue-self 0 pos)
