@@ -1,4 +1,4 @@
--- The words of a certificate: the values of the header by their kinds, the coefficients of g and of N from the constant term up, and the end.
+-- The words of a certificate: the values of the header by their kinds, the coefficients of g and of N with the constant terms first, and the end.
 -- Assumes nothing.
 use mathlib.Core.Path.{_≡_}
 use mathlib.Core.List.{List, [], _∷_, _++_, map}
@@ -10,7 +10,7 @@ use Rattle.sheet.specs.Form.{certificateWords}
 use Rattle.sheet.specs.Values.{half}
 use Rattle.sheet.specs.Ready.{Ready, HoldsG, HoldsN}
 
--- the words before any coefficients
+-- the header
 abbrev pub headerWords : Values → List ℕ
 headerWords v = word 1 (v .p) ∷ word 2 (v .a) ∷ word 3 (v .b) ∷ word 4 (v .atilde) ∷ word 5 (v .btilde) ∷ word 6 (v .degree) ∷ word 7 (v .sigma) ∷ []
 

@@ -88,7 +88,7 @@ module _ (R : CRing) (q : Question R) where
         (sums-below R _ _ _ (below-conv R (2 * d + 2) (2 * d + 2) n n (omega arith) n-below n-below)
         (scaled-below R _ Ã _ (below-mono R _ _ (g ⊗ g ⊗ (g ⊗ g)) (omega arith) fourth-below)))))
 
-    -- "R3 has 3ℓ + 1 coefficients"
+    -- both sides of R3 have 3ℓ + 1 coefficients at most
     pub R3-bounded : ((i : ℕ) → i < 6 * d + 4 → left R q g n i ≡ right R q g n i) → R3 R q g n
     R3-bounded h i = go (decLt i (6 * d + 4))
       where

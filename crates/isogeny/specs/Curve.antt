@@ -1,4 +1,4 @@
--- Curves y² = x³ + A x + B over a commutative ring, after document 01, "Field and curves".
+-- Curves y² = x³ + A x + B over a commutative ring: what question 7 asks of them, their j-value, and their points.
 -- Assumes nothing.
 use mathlib.Core.Path.{_≡_}
 use mathlib.Core.Logic.{_≢_}
@@ -18,15 +18,15 @@ module _ (R : CRing) where
   abbrev #_ : ℕ → Car
   # n = cast R n
 
-  -- "4A³ + 27B²"
+  -- 4A³ + 27B², the discriminant up to a factor
   unfoldable pub discriminant : Car → Car → Car
   discriminant A B = # 4 ⊗ A ^ 3 ⊕ # 27 ⊗ B ^ 2
 
-  -- "with 4A³ + 27B² not 0"
+  -- question 7
   abbrev pub Nonsingular : Car → Car → Type 0
   Nonsingular A B = discriminant A B ≢ 𝟘
 
-  -- "A curve's j-value is 1728 · 4A³ / (4A³ + 27B²)"
+  -- j = 1728 · 4A³ / (4A³ + 27B²), without the division
   unfoldable pub JValue : Car → Car → Car → Type 0
   JValue A B j = j ⊗ discriminant A B ≡ # 1728 ⊗ (# 4 ⊗ A ^ 3)
 

@@ -111,7 +111,7 @@ module _ (R : CRing) (B : R .Car) where
   pub short : Short R q (expansion R (R .𝟘) B (power-sums R 1 x))
   short = conditions R q (omega arith) x r1 (meets .r3)
 
-  -- ── the power sums of g = x are 2, 0, 0, .., and the codomain that they give is the one above
+  -- ── g = x has the power sums 2, 0, 0, .., and they give the codomain above
 
   abbrev s : Seq R
   s = const R (cast R 2)

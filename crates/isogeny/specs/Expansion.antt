@@ -33,20 +33,20 @@ module _ (R : CRing) where
   -- ── h, for the domain (A, B)
 
   module _ (A B : Car) where
-    -- "3·(sum of h_i h_(k−1−i), i from 1 to k − 2) − (k − 2)(2k − 3)A h_(k−2) − 2(k − 2)(k − 3)B h_(k−3)"
+    -- the right side at k: 3 Σ h_i h_(k−1−i), over 1 ≤ i ≤ k − 2, less (k − 2)(2k − 3)A h_(k−2), less 2(k − 2)(k − 3)B h_(k−3)
     abbrev pub recurrence : Seq R → ℕ → Car
     recurrence h k =
         # 3 ⊗ sum-to (λ i. h i ⊗ h (k - 1 - i)) (k - 2) ⊖ # (k - 2) ⊗ # (2 * k - 3) ⊗ A ⊗ h (k - 2) ⊖ # 2 ⊗ # (k - 2) ⊗ # (k - 3) ⊗ B ⊗ h (k - 3)
 
-    -- "for k ≥ 3 (k − 2)(2k + 3)h_k = .."
+    -- the left side is (k − 2)(2k + 3)h_k; meant for k from 3 on
     abbrev pub Recurs : Seq R → ℕ → Type 0
     Recurs h k = # (k - 2) ⊗ # (2 * k + 3) ⊗ h k ≡ recurrence h k
 
-    -- "h_i = (2i + 1)s_(i+1) + (2i − 1)A s_(i−1) + (2i − 2)B s_(i−2), where for i = 1 the last term is 0"
+    -- h_i = (2i + 1)s_(i+1) + (2i − 1)A s_(i−1) + (2i − 2)B s_(i−2); at i = 1 the factor 2i − 2 takes B's term away
     abbrev pub from-sums : Seq R → ℕ → Car
     from-sums s i = # (2 * i + 1) ⊗ s (i + 1) ⊕ # (2 * i - 1) ⊗ A ⊗ s (i - 1) ⊕ # (2 * i - 2) ⊗ B ⊗ s (i - 2)
 
-    -- h, "with h₀ = 0"
+    -- all of h: h₀ is 0, and the rest come from s
     abbrev pub expansion : Seq R → Seq R
     expansion s zero = 𝟘
     expansion s (suc i) = from-sums s (suc i)
@@ -54,8 +54,8 @@ module _ (R : CRing) where
   -- ── s, for a g of degree d
 
   module _ (d : ℕ) where
-    -- "s_j the sum of the j-th powers of the kernel's abscissas (each root of g counted twice), s₀ = ℓ − 1", for j from 0 to n: by Newton's identities,
-    -- where c_k is g's coefficient of x^(d − k), and 0 past d
+    -- s₀ to s_n: twice the power sums of g's roots, which start with s₀ = ℓ − 1. No root is formed: Newton's identities say it of the coefficients, where
+    -- c_k is g's coefficient of x^(d − k), and 0 past d
     pub record PowerSums (g : Seq R) (n : ℕ) (s : Seq R) : Type 0 where
       pub first : s 0 ≡ # (2 * d)
       pub newton : (k : ℕ) → 1 ≤ k → k ≤ n → Newton (rev R d g) s k

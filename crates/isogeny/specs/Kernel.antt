@@ -19,15 +19,15 @@ module _ (R : CRing) (A B : R .Car) where
   abbrev #_ : ℕ → Car
   # n = cast R n
 
-  -- the question to a codomain (Ã, B̃): "σ is taken from it"
+  -- the question to a codomain (Ã, B̃), with the σ that R1 asks of g (question 8)
   abbrev pub kernel-question : ℕ → Seq R → Car → Car → Question R
   kernel-question d g Ã B̃ = record { A = A; B = B; Ã = Ã; B̃ = B̃; d = d; σ = neg (# 2 ⊗ g (d - 1)) }
 
-  -- "a codomain that passes 7 and meets R3"
+  -- question 11 of a kernel sheet, for one codomain: it is a curve, and R3 holds to it
   abbrev pub Passes : ℕ → Seq R → Car → Car → Type 0
   Passes d g Ã B̃ = Nonsingular R Ã B̃ × R3 R (kernel-question d g Ã B̃) g (N R (kernel-question d g Ã B̃) g)
 
-  -- "So Ã = A − 5h₁ and B̃ = B − 7h₂", h₁ and h₂ from the power sums s of g
+  -- Vélu's codomain: Ã = A − 5h₁ and B̃ = B − 7h₂, with h₁ and h₂ from the power sums s of g
   abbrev pub codomain-A : Seq R → Car
   codomain-A s = A ⊖ # 5 ⊗ from-sums R A B s 1
 

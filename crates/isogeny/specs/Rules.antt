@@ -46,21 +46,21 @@ module _ (R : CRing) (q : Question R) where
   abbrev pub ℓ : ℕ
   ℓ = 2 * d + 1
 
-  -- "f = x³ + Ax + B"
+  -- f = x³ + Ax + B
   unfoldable pub f : Seq R
   f = x ^ 3 ⊕ κ A ⊗ x ⊕ κ B
 
-  -- R1: "g has degree d and leading coefficient 1; σ is −2 times its coefficient of x^(d−1)"
+  -- R1: g is monic of degree d, and σ, which counts each root twice, is −2 g_(d−1)
   pub record R1 (g : Seq R) : Type 0 where
     pub degree : Below R (suc d) g
     pub leading : g d ≡ R .𝟙
     pub sigma : σ ≡ R .neg (R .mul (cast R 2) (g (d - 1)))
 
-  -- R2: "N = (ℓx − σ)g² − 2(3x² + A)gg′ − 4f(gg″ − g′²)"
+  -- R2: N = (ℓx − σ)g² − 2(3x² + A)gg′ − 4f(gg″ − g′²)
   unfoldable pub N : Seq R → Seq R
   N g = (# ℓ ⊗ x ⊖ κ σ) ⊗ g ^ 2 ⊖ # 2 ⊗ (# 3 ⊗ x ^ 2 ⊕ κ A) ⊗ g ⊗ ∂ R g ⊖ # 4 ⊗ f ⊗ (g ⊗ ∂ R (∂ R g) ⊖ ∂ R g ^ 2)
 
-  -- R3: "f(N′g − 2Ng′)² = N³ + ÃNg⁴ + B̃g⁶, coefficient by coefficient"
+  -- R3: f(N′g − 2Ng′)² = N³ + ÃNg⁴ + B̃g⁶, each coefficient on the left equal to the one on the right
   unfoldable pub W : Seq R → Seq R → Seq R
   W g n = ∂ R n ⊗ g ⊖ # 2 ⊗ n ⊗ ∂ R g
 
@@ -73,13 +73,13 @@ module _ (R : CRing) (q : Question R) where
   abbrev pub R3 : Seq R → Seq R → Type 0
   R3 g n = (i : ℕ) → left g n i ≡ right g n i
 
-  -- "g meets the rules when R1 and R3 hold with the question's values and the N that R2 gives"
+  -- what a question asks of g: R1, and R3 for R2's N
   pub record Meets (g : Seq R) : Type 0 where
     pub r1 : R1 g
     pub r3 : R3 g (N g)
 
-  -- "A point (u, v) with g(u) not 0 goes to (N/g², v(N′g − 2Ng′)/g³) taken at u": g(u), N(u) and (N′g − 2Ng′)(u), and the point (u′, v′) by its
-  -- quotients' numerators
+  -- where the point (u, v) goes if g(u) is not 0: u′ = N(u)/g(u)² and v′ = v (N′g − 2Ng′)(u)/g(u)³, both without the division. First the three values
+  -- g(u), N(u) and (N′g − 2Ng′)(u)
   abbrev pub g-at : Seq R → R .Car → R .Car
   g-at g u = value R (suc d) g u
 

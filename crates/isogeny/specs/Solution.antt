@@ -29,7 +29,7 @@ module _ (R : CRing) (q : Question R) where
     pub h-first : 1 < d → # 5 ⊗ h 1 ≡ A ⊖ Ã
     pub h-second : 2 < d → # 7 ⊗ h 2 ≡ B ⊖ B̃
     pub h-more : (k : ℕ) → 3 ≤ k → k < d → Recurs R A B h k
-    -- s₀ to s_d: "s₀ = ℓ − 1 and s₁ = σ"
+    -- s₀ to s_d, beginning with ℓ − 1 and σ
     pub s-zero : s 0 ≡ # (2 * d)
     pub s-one : s 1 ≡ σ
     pub s-more : (i : ℕ) → 1 ≤ i → i < d → from-sums R A B s i ≡ h i

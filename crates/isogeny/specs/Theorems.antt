@@ -199,12 +199,12 @@ module _ {p : ℕ} (P : Prime p) where
     pub W-monic : W R q g (N R q g) (3 * d) ≡ 𝟙
     W-monic = Quotient.W-monic R q d≥1 g r1 .one
 
-    -- "N/g² = x + h₁/x + h₂/x² + ..": N is x g² + h₁ g²/x + h₂ g²/x² + .., coefficient by coefficient (the sum ends where g² does).
+    -- The expansion N/g² = x + h₁/x + h₂/x² + .. times g²: each coefficient of N is that of x g² + h₁ g²/x + h₂ g²/x² + .. (the sum ends where g² does).
     pub expansion-h : (s : Seq R) → PowerSums R d g (ℓ R q) s
         → (m : ℕ) → N R q g m ≡ conv R (ind R) (pow (Series R) g 2) m ⊕ sum-to R (λ i. expansion R A B s i ⊗ pow (Series R) g 2 (m + i)) (2 * d - m)
     expansion-h = Quotient.expanded R q d≥1 g r1
 
-    -- "s₁ = σ".
+    -- The first power sum is σ.
     pub sums-sigma : (s : Seq R) → PowerSums R d g 1 s → s 1 ≡ q .σ
     sums-sigma s sums = power-sums-unique d g (r1 .leading) 1 s sums 1 (omega arith) ∙ Determined.sums-one R q d≥1 g r1
 

@@ -171,7 +171,7 @@ R1-by-computing v g pos t =
           ∙ twice pos (getD g (half v - 1) 0) ∙ ap (λ y. minus q (times q (cast (Zmod q) 2) y)) (sym (poly-at q g (half v - 1)));
     }
 
--- ── all three: "g meets the rules when R1 and R3 hold with the question's values and the N that R2 gives"
+-- ── all three: R1, that N is R2's, and R3
 
 abbrev pub meets-test : Values → List ℕ → List ℕ → Bool
 meets-test v g n = both (R1-test v g) (both (R2-test v g n) (R3-test v g n))
@@ -279,7 +279,7 @@ n-value v n u = horner (v .p) (suc (2 * half v + 1)) n u
 abbrev W-value : Values → List ℕ → List ℕ → ℕ → ℕ
 W-value v g n u = horner (v .p) (suc (3 * half v)) (by-computing v g n :W) u
 
--- "A point (u, w) with g(u) not 0 goes to (N/g², w(N′g − 2Ng′)/g³) taken at u"
+-- the image of (u, w) where g(u) is not 0, both quotients cross-multiplied
 abbrev pub image-test : Values → List ℕ → List ℕ → ℕ → ℕ → ℕ → ℕ → Bool
 image-test v g n u w u′ w′ =
     both (not (eqb (g-value v g u % v .p) 0))

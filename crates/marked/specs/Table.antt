@@ -14,7 +14,7 @@ use Rattle.marked.specs.Row.{Row, Q, Claim}
 use Rattle.marked.specs.Row.Row.{solves, unsolved, pushes, kernel, no-kernel, refused, refused-though}
 use Rattle.marked.specs.Holds.{test, row-holds}
 
--- "Q 1009, 1, 3, 265, 877, 3, 46: g = x − 23, N = x³ + 963x² + 678x + 949"
+-- the first marked question, over 1009: g = x − 23, N = x³ + 963x² + 678x + 949
 abbrev first : Values
 first = Q 1009 1 3 265 877 3 46
 
@@ -24,14 +24,14 @@ first-g = 986 ∷ 1 ∷ []
 abbrev first-n : List ℕ
 first-n = 949 ∷ 678 ∷ 963 ∷ 1 ∷ []
 
--- "Q 1009, 1, 3, 81, 169, 9, 0: g = x⁴ + 2x² + 12x + 336"; N is R2's
+-- the one of degree 9: g = x⁴ + 2x² + 12x + 336, and N is R2's
 abbrev ninth : Values
 ninth = Q 1009 1 3 81 169 9 0
 
 abbrev ninth-g : List ℕ
 ninth-g = 336 ∷ 12 ∷ 2 ∷ 0 ∷ 1 ∷ []
 
--- "Q 11, 0, 1, 0, 6, 3, 0: g = x, N = x³ + 4"
+-- the one over 11: g = x, N = x³ + 4
 abbrev eleven : Values
 eleven = Q 11 0 1 0 6 3 0
 
@@ -44,23 +44,23 @@ x³+4 = 4 ∷ 0 ∷ 0 ∷ 1 ∷ []
 unfoldable pub rows : List Row
 rows =
     solves first first-g first-n
-    -- "The same with σ = 48: 11. With B̃ = 878: 11"
+    -- another σ, then another B̃: 11 each
     ∷ unsolved (Q 1009 1 3 265 877 3 48) 11
     ∷ unsolved (Q 1009 1 3 265 878 3 46) 11
     ∷ solves ninth ninth-g (numerator ninth ninth-g)
-    -- "Through the first, (1008, 1) goes to (617, 44)"
+    -- a point through the first certificate
     ∷ pushes first first-g first-n (point.Affine 1008 1) (image.Affine 617 44)
     ∷ solves eleven x x³+4
-    -- "Through it (2, 3) goes to (3, 0), and (0, 1) to infinity"
+    -- two points through the last certificate, the second where g is 0
     ∷ pushes eleven x x³+4 (point.Affine 2 3) (image.Affine 3 0)
     ∷ pushes eleven x x³+4 (point.Affine 0 1) image.Infinity
-    -- "Kernel sheet 11, 0, 1, ℓ = 3, g = x: codomain (0, 6)"
+    -- the kernel sheet of g = x over 11 gets the codomain (0, 6)
     ∷ kernel eleven x x³+4
     -- beside it, not marked there: the same with g = x − 1 gets 11; Ã, B̃ and σ are not on a kernel sheet
     ∷ no-kernel (Q 11 0 1 0 0 3 0) (10 ∷ 1 ∷ []) 11
-    -- "Certificate 11, 0, 1, 0, 1, 3, 2 with g = x − 1, N = x³ + 9x² + x: 9, though R3 holds"
+    -- g = x − 1 with an N that meets R3 and not R2
     ∷ refused-though (Q 11 0 1 0 1 3 2) (10 ∷ 1 ∷ []) (0 ∷ 1 ∷ 9 ∷ 1 ∷ []) 9
-    -- "Certificate 11, 0, 1, 0, 7, 3, 0 with g = x, N = x³ + 4: 10"
+    -- g = x with R2's N, to a wrong codomain
     ∷ refused (Q 11 0 1 0 7 3 0) x x³+4 10
     ∷ []
 

@@ -78,7 +78,7 @@ KernelRight ws before after r =
     Writes (kernel-asks ws (length before)) (λ count after. KernelIn (valuesOf Kernel ws) (gOf Kernel ws) before after count) before after
     (writtenOutcome r)
 
--- ── push: an affine point with g not 0 goes to the affine point that `Rules.Image` names; infinity, and a point where g is 0, go to infinity
+-- ── push: an affine point with g not 0 goes where `Rules.Image` says; the others go to infinity
 
 pub record ToPoint (v : Values) (g n : List ℕ) (x y u w : ℕ) : Type 0 where
   pub u-below : u < v .p

@@ -33,7 +33,7 @@ rules-ask v g n =
     ∷ (10, R3 (Zmod (v .p)) (question v) (poly (v .p) g) (poly (v .p) n))
     ∷ []
 
--- check asks 2 to 10
+-- check: 2 to 10
 abbrev pub check-asks : List ℕ → Questions
 check-asks ws = asked Certificate ws ++ rules-ask (valuesOf Certificate ws) (gOf Certificate ws) (nOf Certificate ws)
 
@@ -42,7 +42,7 @@ pub record Solvable (v : Values) : Type 0 where
   pub g : Seq (Zmod (v .p))
   pub meets : Meets (Zmod (v .p)) (question v) g
 
--- solve asks 1 to 7, then 11
+-- solve: 1, 2 to 7 of a question, 11
 abbrev pub solve-asks : List ℕ → ℕ → Questions
 solve-asks ws room = (1, Room room) ∷ asked Question ws ++ (11, Solvable (valuesOf Question ws)) ∷ []
 
@@ -50,7 +50,7 @@ solve-asks ws room = (1, Room room) ∷ asked Question ws ++ (11, Solvable (valu
 abbrev pub Leading : Values → List ℕ → Type 0
 Leading v g = poly (v .p) g (half v) ≡ mk (v .p) 1
 
--- 11 of a kernel sheet: some codomain is a curve and meets R3
+-- 11 of a kernel sheet: some codomain is a curve to which R3 holds
 pub record Passing (v : Values) (g : List ℕ) : Type 0 where
   pub Ã : Elt (v .p)
   pub B̃ : Elt (v .p)
@@ -59,11 +59,11 @@ pub record Passing (v : Values) (g : List ℕ) : Type 0 where
 abbrev pub last-ask : Values → List ℕ → Questions
 last-ask v g = (8, Leading v g) ∷ (11, Passing v g) ∷ []
 
--- kernel asks 1 to 8, then 11
+-- kernel: 1, 2 to 7 of a kernel sheet, 8, 11
 abbrev pub kernel-asks : List ℕ → ℕ → Questions
 kernel-asks ws room = (1, Room room) ∷ asked Kernel ws ++ last-ask (valuesOf Kernel ws) (gOf Kernel ws)
 
--- 12: an affine point has its coordinates below p and is on the domain; infinity passes
+-- 12: the coordinates of an affine point are below p, and they meet the domain's equation; of infinity nothing is asked
 pub record OnDomain (v : Values) (x y : ℕ) : Type 0 where
   pub x-below : x < v .p
   pub y-below : y < v .p
@@ -73,11 +73,11 @@ abbrev pub Given : Values → Point → Type 0
 Given v (Affine x y) = OnDomain v x y
 Given v Infinity = Unit {0}
 
--- push asks 2 to 10, then 12
+-- push: what check asks, and 12
 abbrev pub push-asks : List ℕ → Point → Questions
 push-asks ws point = check-asks ws ++ (12, Given (valuesOf Certificate ws) point) ∷ []
 
--- name asks 3, 5 and 7 of one curve
+-- name: 3, 5 and 7 of one curve
 abbrev pub name-asks : ℕ → ℕ → ℕ → Questions
 name-asks p a b = (3, PrimeAllowed p) ∷ (5, ((a < p) × (b < p))) ∷ (7, Nonsingular (Zmod p) (mk p a) (mk p b)) ∷ []
 

@@ -1,5 +1,5 @@
--- What each case of the services' answers stands for: a result, or the number of a refusal; and the numbers by which C programs get them. In a 64-bit number
--- an affine point (u, v) is u + 2^28·v, infinity is 2^56, a count or a j-value is itself, and a refusal is 2^57 plus its number.
+-- What each case of the services' answers stands for: a result, or the number of a refusal; and the numbers by which C programs get them. As 64 bits the
+-- affine point (u, v) is u + 2^28·v and infinity 2^56; counts and j-values stand for themselves; a refusal by question k is 2^57 + k.
 -- Assumes nothing.
 use mathlib.Core.Path.{_≡_, refl, sym}
 use Prim.Native.Nat.{ℕ, _+_, _*_, _^_}

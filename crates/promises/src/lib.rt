@@ -8,7 +8,7 @@ pub enum Verdict {
     Refused(u32),
 }
 
-// What solve and kernel answer: the count of the words written, or the number.
+// What solve and kernel answer: how many words they wrote, or a refusal.
 pub enum Written {
     Count(u32),
     Refused(u32),
@@ -20,14 +20,14 @@ pub enum Point {
     Infinity,
 }
 
-// What push answers: a point of the codomain, or the number.
+// What push answers: a point of the codomain, or a refusal.
 pub enum Image {
     Affine(u32, u32),
     Infinity,
     Refused(u32),
 }
 
-// What name answers: the j-value, or the number.
+// What name answers: a j-value, or a refusal.
 pub enum Named {
     Value(u32),
     Refused(u32),

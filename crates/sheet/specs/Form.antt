@@ -1,5 +1,5 @@
--- The three forms of a sheet: the kinds of their words in order. Kinds: 1 p, 2 A, 3 B, 4 Ã, 5 B̃, 6 ℓ, 7 σ, 8 coefficient of g, 9 coefficient of N,
--- 15 end. A form is a header, sections of words of one kind each, and the end.
+-- The three forms of a sheet, each by the kinds of its words in order: a header, sections of words of one kind each, and the end. The kinds 1 to 7 are
+-- those of p, A, B, Ã, B̃, ℓ and σ, 8 and 9 those of g's and N's coefficients, 15 is the end's.
 -- Assumes nothing.
 use mathlib.Core.List.{List, [], _∷_, _++_}
 use Prim.Native.Nat.{ℕ, suc, _+_, _*_}
@@ -10,7 +10,7 @@ use Rattle.sheet.specs.declared.Form.{Form}
 use Rattle.sheet.specs.declared.Form.the-variants.{Question, Certificate, Kernel}
 use Rattle.sheet.specs.Word.{valueOf}
 
--- the words before any coefficients
+-- the words that carry the values
 abbrev pub header : Form → List ℕ
 header Question = 1 ∷ 2 ∷ 3 ∷ 4 ∷ 5 ∷ 6 ∷ 7 ∷ []
 header Certificate = 1 ∷ 2 ∷ 3 ∷ 4 ∷ 5 ∷ 6 ∷ 7 ∷ []

@@ -1,4 +1,4 @@
--- What the programs print, as lists of character codes: after document 01, the last lines of "The marked sheets and their neighbours".
+-- What the programs print, as lists of character codes: what document 01 says of the answer program, and the like for the others.
 -- A digit's code is 48 + d for 0 to 9 and 87 + d for a to f (10 to 15); 10 is the line feed, 32 the space.
 -- Assumes nothing.
 use mathlib.Core.Bool.{cond}
@@ -23,7 +23,7 @@ decimalIn (suc steps) n = cond (ltb n 10) (code n ∷ []) (decimalIn steps (n / 
 unfoldable pub decimal : ℕ → List ℕ
 decimal n = decimalIn n n
 
--- a number as k hexadecimal digits and a line feed; a line of eight for each word
+-- a line of k hexadecimal digits; for each word, one of eight
 unfoldable pub hexLine : ℕ → ℕ → List ℕ
 hexLine k n = digits 16 k n ++ 10 ∷ []
 

@@ -97,8 +97,7 @@ fn kernel_accepted(v: Values, ws: &[u32], answer: &mut [u32]) -> Written
     kernel_in(v, ws, &mut g[..count], answer)
 }
 
-// The certificate of a domain and a kernel polynomial, in the answer; or the number of the first of questions 1 to 8 and 11 with a no, and then the
-// answer is as it was.
+// The certificate for a kernel sheet, in the answer; or the number of the first of questions 1 to 8 and 11 with a no, and then the answer is as it was.
 pub fn kernel(ws: &[u32], answer: &mut [u32]) -> Written
     ensures { λ r. ⌜ KernelRight (now (ws .entry)) (now (answer .entry)) (now (answer .exit)) r ⌝ }
 {
