@@ -173,7 +173,8 @@ module _ (p : ℕ) (s c : List ℕ) (k : ℕ) (inside : k < length c) where
           ap (times p (cast (Zmod p) (2 * k))) (stored-at p c k r inside) ∙ quotient-cast p hr ∙ hy .class
           ∙ ap (minus p)
           (ht .class ∙ Ring.zero-add (Zmod p) _
-          ∙ newton-whole (Zmod p) (poly p s) (poly p c) (poly p (take n (drop 1 s))) (poly p (take k c)) k l (λ i m. part-at p s 1 n i (omega arith)) (take-at p c k)
+          ∙ newton-whole (Zmod p) (poly p s) (poly p c) (poly p (take n (drop 1 s))) (poly p (take k c)) k l (λ i m. part-at p s 1 n i (omega arith))
+          (take-at p c k)
           ∙ sym (newton-same (Zmod p) (poly p s) k (poly p (set c k r)) (poly p c) (stored-before p c k r)));
     };
   }

@@ -37,7 +37,8 @@ front-paste before X ys {out} {after} at n all e h put =
 pub front-length : (before X : List ℕ) {after : List ℕ} → Front before X after → length X ≤ length before → length after ≡ length before
 front-length before X h l = ap length h ∙ length-append X (drop (length X) before) ∙ omega (arith, length-drop (length X) before)
 
-pub front-one : (before X : List ℕ) {out : List ℕ} (at w : ℕ) → at ≡ length X → at < length before → Front before X out → Front before (X ++ w ∷ []) (set out at w)
+pub front-one : (before X : List ℕ) {out : List ℕ} (at w : ℕ) → at ≡ length X → at < length before → Front before X out → Front before (X ++ w ∷ [])
+    (set out at w)
 front-one before X {out} at w e l h =
     ap (λ (o : List ℕ). set o at w) (h ∙ ap (λ (r : List ℕ). X ++ r) (drop-cons before (length X) 0 (omega arith)))
     ∙ set-at X (getD before (length X) 0) (drop (suc (length X)) before) w at (sym e)

@@ -153,5 +153,6 @@ module _ (v : Values) (ready : Ready v) (g n : List ℕ) where
         (asked2-back, (back .prime, (back .degree, (back .below, (asked6-back, (subst (Curves Certificate) (sym values-back) curves, tt))))))
 
 -- what the writer left, cut off at its count
-pub stored-front : (v : Values) (g n before after : List ℕ) (r : ℕ) → length (certificate v g n) ≡ r → Stored v g n before after r → take r after ≡ certificate v g n
+pub stored-front : (v : Values) (g n before after : List ℕ) (r : ℕ) → length (certificate v g n) ≡ r → Stored v g n before after r → take r after
+    ≡ certificate v g n
 stored-front v g n before after r e h = ap (take r) (h .words) ∙ take-at (certificate v g n) (drop r before) r e

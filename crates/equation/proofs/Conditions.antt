@@ -34,11 +34,13 @@ module _ (v : Values) (h : List ℕ) where
       is : Residue p (times p (cast (Zmod p) m) (poly p h i)) x
       is = residue-same (ap (λ z. times p z (mk p (getD h i 0))) (sym (cast-mk p m)) ∙ ap (times p (cast (Zmod p) m)) (sym (poly-at p h i))) hx
 
-  module _ (x₁ y₁ : ℕ) (hx₁ : Residue p (times p (mk p 5) (mk p (getD h 1 0))) x₁) (hy₁ : Residue p (plus p (mk p (v .a)) (minus p (mk p (v .atilde)))) y₁) where
+  module _ (x₁ y₁ : ℕ) (hx₁ : Residue p (times p (mk p 5) (mk p (getD h 1 0))) x₁)
+      (hy₁ : Residue p (plus p (mk p (v .a)) (minus p (mk p (v .atilde)))) y₁) where
     pub first-no : (x₁ ≡ y₁ → ⊥) → (false ≡ true) ↔ Short (Zmod p) (question v) (poly p h)
     first-no other = (λ e. absurd (false≢true e), λ short. absurd (other (same 5 1 (v .a) (v .atilde) x₁ y₁ hx₁ hy₁ .1 (short .first))))
 
-    module _ (x₂ y₂ : ℕ) (hx₂ : Residue p (times p (mk p 7) (mk p (getD h 2 0))) x₂) (hy₂ : Residue p (plus p (mk p (v .b)) (minus p (mk p (v .btilde)))) y₂) where
+    module _ (x₂ y₂ : ℕ) (hx₂ : Residue p (times p (mk p 7) (mk p (getD h 2 0))) x₂)
+        (hy₂ : Residue p (plus p (mk p (v .b)) (minus p (mk p (v .btilde)))) y₂) where
       pub second-no : (x₂ ≡ y₂ → ⊥) → (false ≡ true) ↔ Short (Zmod p) (question v) (poly p h)
       second-no other = (λ e. absurd (false≢true e), λ short. absurd (other (same 7 2 (v .b) (v .btilde) x₂ y₂ hx₂ hy₂ .1 (short .second))))
 
@@ -69,7 +71,8 @@ module _ (v : Values) (ready : Ready v) (large : 3 * v .degree - 3 < v .p) (g s 
   whole : Before (Elt (v .p)) (suc (ℓ R q)) (poly (v .p) h) (expansion R (q .A) (q .B) (power-sums R (half v) (poly (v .p) g)))
   whole i l =
       expanded .coefficients i (omega (arith, degree-half v ready))
-      ∙ expansion-same R (q .A) (q .B) (suc (ℓ R q)) (poly (v .p) s) (power-sums R (half v) (poly (v .p) g)) (λ j m. sums .coefficients j (omega (arith, degree-half v ready))) i l
+      ∙ expansion-same R (q .A) (q .B) (suc (ℓ R q)) (poly (v .p) s) (power-sums R (half v) (poly (v .p) g))
+      (λ j m. sums .coefficients j (omega (arith, degree-half v ready))) i l
 
   pub decided : (r : Bool) → (r ≡ true) ↔ Short R q (poly (v .p) h) → (r ≡ true) ↔ R3 R q (poly (v .p) g) (N R q (poly (v .p) g))
   decided r test = (

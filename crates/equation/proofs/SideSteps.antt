@@ -88,4 +88,5 @@ module _ (v : Values) where
       slopes : poly p w ≡ W (Zmod p) (question v) (poly p g) (poly p n)
       slopes =
           residues-poly (residues-same derived r₃)
-          (λ i m. W-below (Zmod p) (question v) (poly p g) (poly p n) (λ j o. poly-past p g j (omega arith)) (λ j o. poly-past p n j (omega arith)) i (omega arith))
+          (λ i m. W-below (Zmod p) (question v) (poly p g) (poly p n) (λ j o. poly-past p g j (omega arith)) (λ j o. poly-past p n j (omega arith)) i
+          (omega arith))

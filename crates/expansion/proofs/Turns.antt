@@ -79,7 +79,8 @@ module _ (p d : ℕ) (c s : List ℕ) (k : ℕ) (inside : k < length s) where
 -- ── the expansion from the power sums
 
 pub expands : (p : ℕ) (A B : Elt p) (s : List ℕ) (i y z r : ℕ) → 1 ≤ i → Multiple p (2 * i - 1) A y → Multiple p (2 * i - 2) B z
-    → Residue p (plus p (plus p (times p (mk p (2 * i + 1)) (mk p (getD s (i + 1) 0))) (times p (mk p y) (mk p (getD s (i - 1) 0)))) (times p (mk p z) (mk p (getD s (i - 2) 0)))) r
+    → Residue p (plus p (plus p (times p (mk p (2 * i + 1)) (mk p (getD s (i + 1) 0))) (times p (mk p y) (mk p (getD s (i - 1) 0))))
+    (times p (mk p z) (mk p (getD s (i - 2) 0)))) r
     → Residue p (expansion (Zmod p) A B (poly p s) i) r
 expands p A B s i y z r l hy hz =
     residue-same
@@ -125,7 +126,8 @@ module _ (p : ℕ) (A B : Elt p) (h : List ℕ) (k : ℕ) (l : 3 ≤ k) where
   pub recurrence-is : (x y₀ y z₀ z r : ℕ) → Residue p S x
       → Residue p (times p A (mk p (getD h (k - 2) 0))) y₀ → Residue p (minus p (mk p y₀)) y
       → Residue p (times p B (mk p (getD h (k - 3) 0))) z₀ → Residue p (minus p (mk p z₀)) z
-      → Residue p (plus p (plus p (times p (mk p 3) (mk p x)) (times p (mk p ((k - 2) * (2 * k - 3))) (mk p y))) (times p (mk p (2 * (k - 2) * (k - 3))) (mk p z))) r
+      → Residue p (plus p (plus p (times p (mk p 3) (mk p x)) (times p (mk p ((k - 2) * (2 * k - 3))) (mk p y)))
+      (times p (mk p (2 * (k - 2) * (k - 3))) (mk p z))) r
       → Residue p (recurrence (Zmod p) A B (poly p h) k) r
   recurrence-is x y₀ y z₀ z r hx hy₀ hy hz₀ hz =
       residue-same
@@ -160,14 +162,16 @@ module _ (p : ℕ) (A B : Elt p) (h : List ℕ) (k : ℕ) (l : 3 ≤ k) where
       (solve5 (Zmod p) (λ a w c x y. a :* (w :* c :* x :* y)) (λ a w c x y. w :* a :* c :* x :* y) tt (# (k - 2)) (# 2) (# (k - 3)) B (poly p h (k - 3)))
 
   pub recurs-is : (y z u x₀ x r : ℕ) → 0 < p → Multiple p (2 * k - 3) A y → Multiple p (2 * k - 6) B z
-      → Residue p (plus p (plus p (times p (mk p (2 * k + 3)) (mk p (getD h k 0))) (times p (mk p y) (mk p (getD h (k - 2) 0)))) (times p (mk p z) (mk p (getD h (k - 3) 0)))) u
+      → Residue p (plus p (plus p (times p (mk p (2 * k + 3)) (mk p (getD h k 0))) (times p (mk p y) (mk p (getD h (k - 2) 0))))
+      (times p (mk p z) (mk p (getD h (k - 3) 0)))) u
       → Residue p S x₀ → Residue p (minus p (mk p x₀)) x
       → Residue p (plus p (plus p (times p (mk p (k - 2)) (mk p u)) (times p (mk p 3) (mk p x))) (times p (mk p 0) (mk p 0))) r
       → (eqb r 0 ≡ true) ↔ Recurs (Zmod p) A B (poly p h) k
   recurs-is y z u x₀ x r pos hy hz hu hx₀ hx hr =
       (λ e. Ring.sub-zero (Zmod p) _ _ (test .0 e), λ e. test .1 (ap (λ s. plus p s (minus p (recurrence (Zmod p) A B (poly p h) k))) e ∙ Zmod p .add-neg _))
     where
-      inner : mk p u ≡ plus p (plus p (times p (# (2 * k + 3)) (poly p h k)) (times p (times p (# (2 * k - 3)) A) (poly p h (k - 2)))) (times p (times p (times p (# 2) (# (k - 3))) B) (poly p h (k - 3)))
+      inner : mk p u ≡ plus p (plus p (times p (# (2 * k + 3)) (poly p h k)) (times p (times p (# (2 * k - 3)) A) (poly p h (k - 2))))
+          (times p (times p (times p (# 2) (# (k - 3))) B) (poly p h (k - 3)))
       inner =
           hu .class
           ∙ ap₂ (plus p)

@@ -92,7 +92,8 @@ module _ (R : CRing) (B : R .Car) where
       ∙ solve2 (Series R)
       (λ x b. (x :^ 3 :+ :0 :* x :+ b) :* (x :^ 3 :- num 8 :* b) :^ 2)
       (λ x b. (x :^ 3 :+ num 4 :* b) :^ 3 :+ :0 :* (x :^ 3 :+ num 4 :* b) :* x :^ 4 :+ :- (num 27 :* b) :* x :^ 6) tt x b
-      ∙ sym (ap₂ (λ n z. n ^ 3 ⊕ z ⊗ n ⊗ x ^ 4 ⊕ const R B̃ ⊗ x ^ 6) N-is no-A ∙ ap (λ c. (x ^ 3 ⊕ # 4 ⊗ b) ^ 3 ⊕ 𝟘 ⊗ (x ^ 3 ⊕ # 4 ⊗ b) ⊗ x ^ 4 ⊕ c ⊗ x ^ 6) B̃-is)
+      ∙ sym (ap₂ (λ n z. n ^ 3 ⊕ z ⊗ n ⊗ x ^ 4 ⊕ const R B̃ ⊗ x ^ 6) N-is no-A ∙ ap
+      (λ c. (x ^ 3 ⊕ # 4 ⊗ b) ^ 3 ⊕ 𝟘 ⊗ (x ^ 3 ⊕ # 4 ⊗ b) ⊗ x ^ 4 ⊕ c ⊗ x ^ 6) B̃-is)
 
   r1 : R1 R q x
   unfolding ind

@@ -104,7 +104,8 @@ module _ {p : ℕ} (P : Prime p) where
           let has : Coefficients R q (rev R (q .d) c) c = Determined.coefficients-of R q d≥1 c in
           let both : ((g : Seq R) × Meets R q g) ↔ R3 R q (rev R (q .d) c) (N R q (rev R (q .d) c)) = exists q d≥1 small computed has in
           map-dec (both .1) (both .0)
-          (R3-decided q (rev R (q .d) c) (N R q (rev R (q .d) c)) (has .degree) (Quotient.N-monic R q d≥1 (rev R (q .d) c) (solution-R1 q d≥1 small computed has) .below))
+          (R3-decided q (rev R (q .d) c) (N R q (rev R (q .d) c)) (has .degree)
+          (Quotient.N-monic R q d≥1 (rev R (q .d) c) (solution-R1 q d≥1 small computed has) .below))
 
   -- ── 3. the codomain: nothing is asked of p
 
@@ -172,7 +173,8 @@ module _ {p : ℕ} (P : Prime p) where
         → R3 R q g (N R q g) ↔ ((k : ℕ) → 3 ≤ k → k ≤ ℓ R q → Recurs R A B (expansion R A B s) k)
     fast-kernel large s sums a b =
         let one : R3 R q g (N R q g) ↔ Short R q (expansion R A B s) = fast-from large s sums in
-        let two : Short R q (expansion R A B s) ↔ ((k : ℕ) → 3 ≤ k → k ≤ ℓ R q → Recurs R A B (expansion R A B s) k) = Fast.short-kernel R q (expansion R A B s) a b in
+        let two : Short R q (expansion R A B s) ↔ ((k : ℕ) → 3 ≤ k → k ≤ ℓ R q → Recurs R A B (expansion R A B s) k) = Fast.short-kernel R q
+        (expansion R A B s) a b in
         (λ r3. two .0 (one .0 r3), λ rec. one .1 (two .1 rec))
 
     -- with the one coefficient more where p ≤ 3ℓ − 3.
@@ -180,7 +182,8 @@ module _ {p : ℕ} (P : Prime p) where
         → R3 R q g (N R q g) ↔ (((k : ℕ) → 3 ≤ k → k ≤ ℓ R q → Recurs R A B (expansion R A B s) k) × Extra R q g p)
     fast-kernel-always small s sums a b =
         let one : R3 R q g (N R q g) ↔ (Short R q (expansion R A B s) × Extra R q g p) = fast-always small s sums in
-        let two : Short R q (expansion R A B s) ↔ ((k : ℕ) → 3 ≤ k → k ≤ ℓ R q → Recurs R A B (expansion R A B s) k) = Fast.short-kernel R q (expansion R A B s) a b in
+        let two : Short R q (expansion R A B s) ↔ ((k : ℕ) → 3 ≤ k → k ≤ ℓ R q → Recurs R A B (expansion R A B s) k) = Fast.short-kernel R q
+        (expansion R A B s) a b in
         (λ r3. (two .0 (one .0 r3 .0), one .0 r3 .1), λ rec. one .1 (two .1 (rec .0), rec .1))
 
     -- ── 6. what document 01 says besides, for a g with R1

@@ -31,7 +31,29 @@ use Rattle.promises.specs.declared.Image.the-variants as image
 use Rattle.promises.specs.Asked.{prime, put, g, n, Room, check-asks, push-asks, Solvable, last-ask, Passing, Leading, Given}
 use Rattle.promises.specs.Answer.{SolveRight, KernelRight, PushRight, CertificateIn, with}
 use Rattle.marked.specs.Tests.{every, Every, every-yes, same-list, same-list-yes, below, below-yes}
-use Rattle.marked.specs.Rules.{numerator, R1-test, R1-by-computing, R2-test, R2-by-computing, R2-refuted, R3-test, R3-by-computing, R3-refuted, meets-test, meets-by-computing, none-test, none-by-computing, nonsingular-test, nonsingular-by-computing, on-curve-test, on-curve-by-computing, image-test, image-by-computing, vanishes-test, vanishes-by-computing}
+use Rattle.marked.specs.Rules.{
+  numerator,
+  R1-test,
+  R1-by-computing,
+  R2-test,
+  R2-by-computing,
+  R2-refuted,
+  R3-test,
+  R3-by-computing,
+  R3-refuted,
+  meets-test,
+  meets-by-computing,
+  none-test,
+  none-by-computing,
+  nonsingular-test,
+  nonsingular-by-computing,
+  on-curve-test,
+  on-curve-by-computing,
+  image-test,
+  image-by-computing,
+  vanishes-test,
+  vanishes-by-computing,
+}
 use Rattle.marked.specs.Sheets.{asked-test, asked-by-computing, prime-by-computing, least-by-computing}
 use Rattle.marked.specs.NoCodomain.{candidate, no-codomain}
 use Rattle.marked.specs.Row.{Row, Claim, question-words, kernel-words, count, filled}
@@ -75,8 +97,15 @@ module _ (v : Values) where
       let a : Bool = asked-test Question ws in
       let ta : T (asked-test Question ws) = both-left a _ t in
       let pos : 0 < read .p = prime-pos (prime-by-computing Question ws ta) in
-      let fill : CertificateIn read before (filled v g n before) (count v) = fill-by-computing read g n v g pos (every-yes (fill-tests read g n v g) (both-right a _ t)) before in
-      ((room, all-all (asked Question ws) ((11, Solvable read) ∷ []) (asked-by-computing Question ws ta) (record { g = poly (read .p) (fill .g); meets = fill .meets }, tt)), fill)
+      let fill : CertificateIn read before (filled v g n before) (count v) = fill-by-computing read g n v g pos
+      (every-yes (fill-tests read g n v g) (both-right a _ t)) before in (
+        (
+          room,
+          all-all (asked Question ws) ((11, Solvable read) ∷ []) (asked-by-computing Question ws ta)
+              (record { g = poly (read .p) (fill .g); meets = fill .meets }, tt),
+        ),
+        fill,
+      )
 
   abbrev unsolved-test : ℕ → Bool
   unsolved-test k = both (asked-test Question ws) (both (none-test read) (eqb k 11))

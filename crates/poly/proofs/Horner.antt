@@ -29,7 +29,8 @@ module _ (p : ℕ) (f : Seq (Zmod p)) (n : ℕ) (u : Elt p) where
   upper-more i r s pos le h turn =
       let e : suc (i - 1) ≡ i = omega arith in
       residue-same
-      (ap (λ x. plus p (f (i - 1)) (times p u x)) (h .class ∙ ap (λ m. value (Zmod p) (n - m) (λ j. f (m + j)) u) (sym e)) ∙ sym (value-step (i - 1) (omega arith)))
+      (ap (λ x. plus p (f (i - 1)) (times p u x)) (h .class ∙ ap (λ m. value (Zmod p) (n - m) (λ j. f (m + j)) u) (sym e)) ∙ sym
+      (value-step (i - 1) (omega arith)))
       turn
 
   pub upper-all : (r : ℕ) → Upper 0 r → Residue p (value (Zmod p) n f u) r

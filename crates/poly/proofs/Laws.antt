@@ -50,7 +50,8 @@ same-word p a b i ha hb e =
 
 -- where a has ended, c a adds nothing
 pub add-nothing : (p c : ℕ) (out a : List ℕ) (i : ℕ) → length a ≤ i → poly p out i ≡ sums (Zmod p) (poly p out) (scaled (Zmod p) (mk p c) (poly p a)) i
-add-nothing p c out a i h = sym (ap (λ x. plus p (poly p out i) (times p (mk p c) x)) (poly-past p a i h) ∙ ap (plus p (poly p out i)) (Ring.mul-zero (Zmod p) _) ∙ plus-zero p _)
+add-nothing p c out a i h = sym (ap (λ x. plus p (poly p out i) (times p (mk p c) x)) (poly-past p a i h) ∙ ap (plus p (poly p out i))
+    (Ring.mul-zero (Zmod p) _) ∙ plus-zero p _)
 
 -- one turn of add_scaled
 pub add-scaled-turn : (p c x v : ℕ) (out a : List ℕ) (k : ℕ) → x ≡ getD out k 0 → Residue p (plus p (mk p x) (times p (mk p c) (mk p (getD a k 0)))) v
@@ -59,11 +60,13 @@ add-scaled-turn p c x v out a k e h =
     residue-same (ap₂ (λ y z. plus p y (times p (mk p c) z)) (ap (mk p) e ∙ sym (poly-at p out k)) (sym (poly-at p a k))) h
 
 -- one turn of scale
-pub scale-turn : (p c x v : ℕ) (out : List ℕ) (k : ℕ) → x ≡ getD out k 0 → Residue p (times p (mk p c) (mk p x)) v → Residue p (scaled (Zmod p) (mk p c) (poly p out) k) v
+pub scale-turn : (p c x v : ℕ) (out : List ℕ) (k : ℕ) → x ≡ getD out k 0 → Residue p (times p (mk p c) (mk p x)) v → Residue p
+    (scaled (Zmod p) (mk p c) (poly p out) k) v
 scale-turn p c x v out k e h = residue-same (ap (times p (mk p c)) (ap (mk p) e ∙ sym (poly-at p out k))) h
 
 -- one turn of product, and of add_product
-pub product-turn : (p v : ℕ) (a b : List ℕ) (k : ℕ) → Residue p (plus p (mk p 0) (conv (Zmod p) (poly p a) (poly p b) k)) v → Residue p (conv (Zmod p) (poly p a) (poly p b) k) v
+pub product-turn : (p v : ℕ) (a b : List ℕ) (k : ℕ) → Residue p (plus p (mk p 0) (conv (Zmod p) (poly p a) (poly p b) k)) v → Residue p
+    (conv (Zmod p) (poly p a) (poly p b) k) v
 product-turn p v a b k h = residue-same (Ring.zero-add (Zmod p) _) h
 
 pub add-product-turn : (p x v : ℕ) (out a b : List ℕ) (k : ℕ) → x ≡ getD out k 0 → Residue p (plus p (mk p x) (conv (Zmod p) (poly p a) (poly p b) k)) v

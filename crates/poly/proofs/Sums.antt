@@ -73,6 +73,7 @@ module _ (p : ℕ) (a b : List ℕ) (k : ℕ) where
       sym (Ring.zero-add (Zmod p) (mk p r)) ∙ ap (λ x. plus p x (mk p r)) (sym (partial-before from le)) ∙ e
 
   pub coefficient-class : (c : Elt p) (from to r x : ℕ) → from ≡ k + 1 - length b → to ≡ max from (min (k + 1) (length a))
-      → plus p (partial p a b k from) (mk p x) ≡ plus p c (partial p a b k to) → Residue p (mk p x) r → Residue p (plus p c (conv (Zmod p) (poly p a) (poly p b) k)) r
+      → plus p (partial p a b k from) (mk p x) ≡ plus p c (partial p a b k to) → Residue p (mk p x) r → Residue p
+      (plus p c (conv (Zmod p) (poly p a) (poly p b) k)) r
   coefficient-class c from to r x ef et e h =
       residue-same (span-whole c from to x (omega arith) e ∙ ap (plus p c) (partial-all to (omega arith) (omega arith))) h

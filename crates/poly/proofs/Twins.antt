@@ -42,7 +42,8 @@ module _ (R : CRing) where
   ends (suc m) n a =
       let e : suc m + suc m + n ≡ suc (suc (m + m + n)) = omega arith in
       ap (conv R a a) e ∙ conv-suc R a a (suc (m + m + n))
-      ∙ ap (λ x. a 0 ⊗ a (suc (suc (m + m + n))) ⊕ x) (conv-last R (tail R a) a (m + m + n) ∙ ap (λ x. a (suc (suc (m + m + n))) ⊗ a 0 ⊕ x) (ends m n (tail R a)))
+      ∙ ap (λ x. a 0 ⊗ a (suc (suc (m + m + n))) ⊕ x) (conv-last R (tail R a) a (m + m + n) ∙ ap (λ x. a (suc (suc (m + m + n))) ⊗ a 0 ⊕ x)
+      (ends m n (tail R a)))
       ∙ solve4 R (λ x y h z. x :* y :+ (y :* x :+ (h :+ h :+ z))) (λ x y h z. x :* y :+ h :+ (x :* y :+ h) :+ z) tt (a 0) (a (suc (suc (m + m + n)))) _ _
       ∙ sym (ap₂ (λ x f. x ⊕ x ⊕ conv R f f n)
       (ap (λ k. half a k (suc m)) e ∙ half-first a (m + m + n) m (omega arith))
@@ -57,7 +58,8 @@ module _ (R : CRing) where
   odd m a =
       let e : m + 1 ≡ m + m + 1 - m = omega arith in
       ends m 1 a
-      ∙ ap (λ x. half a (m + m + 1) m ⊕ half a (m + m + 1) m ⊕ x) (conv-suc R _ _ 0 ∙ ap₂ (λ x y. x ⊕ y) (ap₂ (λ i j. a i ⊗ a j) (N.add-zero m) e) (conv-zero R _ _ ∙ ap₂ (λ i j. a i ⊗ a j) e (N.add-zero m)))
+      ∙ ap (λ x. half a (m + m + 1) m ⊕ half a (m + m + 1) m ⊕ x)
+      (conv-suc R _ _ 0 ∙ ap₂ (λ x y. x ⊕ y) (ap₂ (λ i j. a i ⊗ a j) (N.add-zero m) e) (conv-zero R _ _ ∙ ap₂ (λ i j. a i ⊗ a j) e (N.add-zero m)))
       ∙ solve3 R (λ h x y. h :+ h :+ (x :* y :+ y :* x)) (λ h x y. h :+ x :* y :+ (h :+ x :* y)) tt _ (a m) (a (m + m + 1 - m))
       ∙ ap (λ x. x ⊕ x) (sym (sum-suc R (λ i. a i ⊗ a (m + m + 1 - i)) m))
 

@@ -101,7 +101,8 @@ module _ (v : Values) (ready : Ready v) (g n : List ℕ) (g-length : length g �
       hw .class
       ∙ ap₂ (λ a b. plus p a (minus p b)) (ap₂ (times p) (ap (λ k. at k (∂ (Zmod p) (poly p n))) n-long) G)
       (ap₂ (times p) (ap (times p (cast (Zmod p) 2)) M) (ap (λ k. at k (∂ (Zmod p) (poly p g))) g-long))
-      ∙ sym (W-at-is (ready .prime .prime) (question v) (poly p g) (poly p n) (subst (λ k. Below (Zmod p) k (poly p g)) g-long (poly-past p g)) (subst (λ k. Below (Zmod p) k (poly p n)) n-long (poly-past p n)) (mk p x)) in
+      ∙ sym (W-at-is (ready .prime .prime) (question v) (poly p g) (poly p n) (subst (λ k. Below (Zmod p) k (poly p g)) g-long (poly-past p g))
+      (subst (λ k. Below (Zmod p) k (poly p n)) n-long (poly-past p n)) (mk p x)) in
       record {
         u-below = hu .below;
         w-below = hr .below;

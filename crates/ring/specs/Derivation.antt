@@ -49,4 +49,5 @@ module _ (R : CRing) (δ : Derivation R) where
       (ring5 (d h) g (d f) f (d g) h)
     where
       ring5 : (h′ g f′ f g′ h : Car) → h′ ⊗ (g ⊗ g) ⊕ neg (f′ ⊗ g ⊕ neg (f ⊗ g′)) ≡ g ⊗ (h′ ⊗ g ⊕ h ⊗ g′ ⊕ neg f′) ⊕ neg g′ ⊗ (h ⊗ g ⊕ neg f)
-      ring5 = solve6 R (λ h′ g f′ f g′ h. h′ :* (g :* g) :- (f′ :* g :- f :* g′)) (λ h′ g f′ f g′ h. g :* (h′ :* g :+ h :* g′ :- f′) :+ :- g′ :* (h :* g :- f)) tt
+      ring5 = solve6 R (λ h′ g f′ f g′ h. h′ :* (g :* g) :- (f′ :* g :- f :* g′))
+          (λ h′ g f′ f g′ h. g :* (h′ :* g :+ h :* g′ :- f′) :+ :- g′ :* (h :* g :- f)) tt

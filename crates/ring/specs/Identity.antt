@@ -273,24 +273,35 @@ module _ (R : CRing) where
   solve3 φ ψ t a b c = ring (at (a ∷ b ∷ c ∷ [])) (φ (var 0) (var 1) (var 2)) (ψ (var 0) (var 1) (var 2)) t
 
   pub solve4 : (φ ψ : Ex → Ex → Ex → Ex → Ex) → T (same (φ (var 0) (var 1) (var 2) (var 3)) (ψ (var 0) (var 1) (var 2) (var 3)))
-      → (a b c d : Car) → eval (at (a ∷ b ∷ c ∷ d ∷ [])) (φ (var 0) (var 1) (var 2) (var 3)) ≡ eval (at (a ∷ b ∷ c ∷ d ∷ [])) (ψ (var 0) (var 1) (var 2) (var 3))
+      → (a b c d : Car) → eval (at (a ∷ b ∷ c ∷ d ∷ [])) (φ (var 0) (var 1) (var 2) (var 3)) ≡ eval (at (a ∷ b ∷ c ∷ d ∷ []))
+      (ψ (var 0) (var 1) (var 2) (var 3))
   solve4 φ ψ t a b c d = ring (at (a ∷ b ∷ c ∷ d ∷ [])) (φ (var 0) (var 1) (var 2) (var 3)) (ψ (var 0) (var 1) (var 2) (var 3)) t
 
   pub solve5 : (φ ψ : Ex → Ex → Ex → Ex → Ex → Ex) → T (same (φ (var 0) (var 1) (var 2) (var 3) (var 4)) (ψ (var 0) (var 1) (var 2) (var 3) (var 4)))
-      → (a b c d e : Car) → eval (at (a ∷ b ∷ c ∷ d ∷ e ∷ [])) (φ (var 0) (var 1) (var 2) (var 3) (var 4)) ≡ eval (at (a ∷ b ∷ c ∷ d ∷ e ∷ [])) (ψ (var 0) (var 1) (var 2) (var 3) (var 4))
+      → (a b c d e : Car) → eval (at (a ∷ b ∷ c ∷ d ∷ e ∷ [])) (φ (var 0) (var 1) (var 2) (var 3) (var 4)) ≡ eval (at (a ∷ b ∷ c ∷ d ∷ e ∷ []))
+      (ψ (var 0) (var 1) (var 2) (var 3) (var 4))
   solve5 φ ψ t a b c d e = ring (at (a ∷ b ∷ c ∷ d ∷ e ∷ [])) (φ (var 0) (var 1) (var 2) (var 3) (var 4)) (ψ (var 0) (var 1) (var 2) (var 3) (var 4)) t
 
-  pub solve6 : (φ ψ : Ex → Ex → Ex → Ex → Ex → Ex → Ex) → T (same (φ (var 0) (var 1) (var 2) (var 3) (var 4) (var 5)) (ψ (var 0) (var 1) (var 2) (var 3) (var 4) (var 5)))
-      → (a b c d e f : Car) → eval (at (a ∷ b ∷ c ∷ d ∷ e ∷ f ∷ [])) (φ (var 0) (var 1) (var 2) (var 3) (var 4) (var 5)) ≡ eval (at (a ∷ b ∷ c ∷ d ∷ e ∷ f ∷ [])) (ψ (var 0) (var 1) (var 2) (var 3) (var 4) (var 5))
-  solve6 φ ψ t a b c d e f = ring (at (a ∷ b ∷ c ∷ d ∷ e ∷ f ∷ [])) (φ (var 0) (var 1) (var 2) (var 3) (var 4) (var 5)) (ψ (var 0) (var 1) (var 2) (var 3) (var 4) (var 5)) t
+  pub solve6 : (φ ψ : Ex → Ex → Ex → Ex → Ex → Ex → Ex) → T (same (φ (var 0) (var 1) (var 2) (var 3) (var 4) (var 5))
+      (ψ (var 0) (var 1) (var 2) (var 3) (var 4) (var 5)))
+      → (a b c d e f : Car) → eval (at (a ∷ b ∷ c ∷ d ∷ e ∷ f ∷ [])) (φ (var 0) (var 1) (var 2) (var 3) (var 4) (var 5)) ≡ eval
+      (at (a ∷ b ∷ c ∷ d ∷ e ∷ f ∷ [])) (ψ (var 0) (var 1) (var 2) (var 3) (var 4) (var 5))
+  solve6 φ ψ t a b c d e f = ring (at (a ∷ b ∷ c ∷ d ∷ e ∷ f ∷ [])) (φ (var 0) (var 1) (var 2) (var 3) (var 4) (var 5))
+      (ψ (var 0) (var 1) (var 2) (var 3) (var 4) (var 5)) t
 
-  pub solve7 : (φ ψ : Ex → Ex → Ex → Ex → Ex → Ex → Ex → Ex) → T (same (φ (var 0) (var 1) (var 2) (var 3) (var 4) (var 5) (var 6)) (ψ (var 0) (var 1) (var 2) (var 3) (var 4) (var 5) (var 6)))
-      → (a b c d e f g : Car) → eval (at (a ∷ b ∷ c ∷ d ∷ e ∷ f ∷ g ∷ [])) (φ (var 0) (var 1) (var 2) (var 3) (var 4) (var 5) (var 6)) ≡ eval (at (a ∷ b ∷ c ∷ d ∷ e ∷ f ∷ g ∷ [])) (ψ (var 0) (var 1) (var 2) (var 3) (var 4) (var 5) (var 6))
-  solve7 φ ψ t a b c d e f g = ring (at (a ∷ b ∷ c ∷ d ∷ e ∷ f ∷ g ∷ [])) (φ (var 0) (var 1) (var 2) (var 3) (var 4) (var 5) (var 6)) (ψ (var 0) (var 1) (var 2) (var 3) (var 4) (var 5) (var 6)) t
+  pub solve7 : (φ ψ : Ex → Ex → Ex → Ex → Ex → Ex → Ex → Ex) → T
+      (same (φ (var 0) (var 1) (var 2) (var 3) (var 4) (var 5) (var 6)) (ψ (var 0) (var 1) (var 2) (var 3) (var 4) (var 5) (var 6)))
+      → (a b c d e f g : Car) → eval (at (a ∷ b ∷ c ∷ d ∷ e ∷ f ∷ g ∷ [])) (φ (var 0) (var 1) (var 2) (var 3) (var 4) (var 5) (var 6)) ≡ eval
+      (at (a ∷ b ∷ c ∷ d ∷ e ∷ f ∷ g ∷ [])) (ψ (var 0) (var 1) (var 2) (var 3) (var 4) (var 5) (var 6))
+  solve7 φ ψ t a b c d e f g = ring (at (a ∷ b ∷ c ∷ d ∷ e ∷ f ∷ g ∷ [])) (φ (var 0) (var 1) (var 2) (var 3) (var 4) (var 5) (var 6))
+      (ψ (var 0) (var 1) (var 2) (var 3) (var 4) (var 5) (var 6)) t
 
-  pub solve8 : (φ ψ : Ex → Ex → Ex → Ex → Ex → Ex → Ex → Ex → Ex) → T (same (φ (var 0) (var 1) (var 2) (var 3) (var 4) (var 5) (var 6) (var 7)) (ψ (var 0) (var 1) (var 2) (var 3) (var 4) (var 5) (var 6) (var 7)))
-      → (a b c d e f g h : Car) → eval (at (a ∷ b ∷ c ∷ d ∷ e ∷ f ∷ g ∷ h ∷ [])) (φ (var 0) (var 1) (var 2) (var 3) (var 4) (var 5) (var 6) (var 7)) ≡ eval (at (a ∷ b ∷ c ∷ d ∷ e ∷ f ∷ g ∷ h ∷ [])) (ψ (var 0) (var 1) (var 2) (var 3) (var 4) (var 5) (var 6) (var 7))
-  solve8 φ ψ t a b c d e f g h = ring (at (a ∷ b ∷ c ∷ d ∷ e ∷ f ∷ g ∷ h ∷ [])) (φ (var 0) (var 1) (var 2) (var 3) (var 4) (var 5) (var 6) (var 7)) (ψ (var 0) (var 1) (var 2) (var 3) (var 4) (var 5) (var 6) (var 7)) t
+  pub solve8 : (φ ψ : Ex → Ex → Ex → Ex → Ex → Ex → Ex → Ex → Ex) → T
+      (same (φ (var 0) (var 1) (var 2) (var 3) (var 4) (var 5) (var 6) (var 7)) (ψ (var 0) (var 1) (var 2) (var 3) (var 4) (var 5) (var 6) (var 7)))
+      → (a b c d e f g h : Car) → eval (at (a ∷ b ∷ c ∷ d ∷ e ∷ f ∷ g ∷ h ∷ [])) (φ (var 0) (var 1) (var 2) (var 3) (var 4) (var 5) (var 6) (var 7)) ≡ eval
+      (at (a ∷ b ∷ c ∷ d ∷ e ∷ f ∷ g ∷ h ∷ [])) (ψ (var 0) (var 1) (var 2) (var 3) (var 4) (var 5) (var 6) (var 7))
+  solve8 φ ψ t a b c d e f g h = ring (at (a ∷ b ∷ c ∷ d ∷ e ∷ f ∷ g ∷ h ∷ [])) (φ (var 0) (var 1) (var 2) (var 3) (var 4) (var 5) (var 6) (var 7))
+      (ψ (var 0) (var 1) (var 2) (var 3) (var 4) (var 5) (var 6) (var 7)) t
 
   -- From hypotheses a = b, and the identity l − r = c (a − b): as Lean's `linear_combination`. The identity is a `solve`'s.
   pub combine1 : (l r c a b : Car) → a ≡ b → l ⊕ neg r ≡ c ⊗ (a ⊕ neg b) → l ≡ r

@@ -36,7 +36,8 @@ module _ (v : Values) (ready : Ready v) (g : List ℕ) (size : length g ≡ half
 
   module _ (m : ℕ) (is : Residue p (minus p (times p (mk p 2) (mk p (getD g (half v - 1) 0)))) m) where
     twice : minus p (times p (mk p 2) (mk p (getD g (half v - 1) 0))) ≡ minus p (times p (cast (Zmod p) 2) (poly p g (half v - 1)))
-    twice = ap (λ z. minus p (times p z (mk p (getD g (half v - 1) 0)))) (sym (cast-mk p 2)) ∙ ap (λ z. minus p (times p (cast (Zmod p) 2) z)) (sym (poly-at p g (half v - 1)))
+    twice = ap (λ z. minus p (times p z (mk p (getD g (half v - 1) 0)))) (sym (cast-mk p 2)) ∙ ap (λ z. minus p (times p (cast (Zmod p) 2) z))
+        (sym (poly-at p g (half v - 1)))
 
     to : getD g (half v) 0 ≡ 1 → m ≡ v .sigma → R1 (Zmod p) (question v) (poly p g)
     to e h = record {

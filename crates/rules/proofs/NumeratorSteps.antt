@@ -30,10 +30,12 @@ module _ (p : ℕ) where
       (ap (mk p) e ∙ mk-combination p (2 * (i + 1)) a 8 (getD t i 0) 0 0
       ∙ ap₂ (plus p)
       (ap₂ (plus p)
-      (ap₂ (times p) (mk-mul p 2 (i + 1) ∙ ap₂ (times p) (sym (cast-mk p 2)) (ap (mk p) (omega arith) ∙ sym (cast-mk p (suc i)))) (ha .class ∙ ap (minus p) (sym (poly-at p s (i + 1)) ∙ ap (poly p s) (omega arith))))
+      (ap₂ (times p) (mk-mul p 2 (i + 1) ∙ ap₂ (times p) (sym (cast-mk p 2)) (ap (mk p) (omega arith) ∙ sym (cast-mk p (suc i))))
+      (ha .class ∙ ap (minus p) (sym (poly-at p s (i + 1)) ∙ ap (poly p s) (omega arith))))
       (ap₂ (times p) (sym (cast-mk p 8)) (sym (poly-at p t i))))
       refl
-      ∙ solve3 (Zmod p) (λ c a t. num 2 :* c :* :- a :+ num 8 :* t :+ :0 :* :0) (λ c a t. :- num 2 :* (c :* a :+ :- num 4 :* t)) tt (cast (Zmod p) (suc i)) (poly p s (suc i)) (poly p t i)
+      ∙ solve3 (Zmod p) (λ c a t. num 2 :* c :* :- a :+ num 8 :* t :+ :0 :* :0) (λ c a t. :- num 2 :* (c :* a :+ :- num 4 :* t)) tt (cast (Zmod p) (suc i))
+      (poly p s (suc i)) (poly p t i)
       ∙ ap (λ y. times p (minus p (cast (Zmod p) 2)) (plus p y (times p (minus p (cast (Zmod p) 4)) (poly p t i)))) (sym (∂-at (Zmod p) (poly p s) i))
       ∙ sym (lowered-at (Zmod p) (∂ (Zmod p) (poly p s)) (poly p t) i))
 
@@ -59,8 +61,10 @@ module _ (p : ℕ) where
   unfolding bent
   bend-steps g s h hh o l₁ l₂ l₃ l₄ r₁ r₂ r₃ =
       whole-same
-      (ap (lowered (Zmod p) (∂ (Zmod p) (poly p s))) (from-product p h h hh (omega arith) r₂ .same ∙ ap (λ a. conv (Zmod p) a a) (from-derivative p g h (omega arith) r₁ .same)))
-      (whole r₃ (lowered-below (Zmod p) (length o) (∂ (Zmod p) (poly p s)) (poly p hh) (below-∂ (Zmod p) (poly p s) (omega arith) (poly-past p s)) (λ i k. poly-past p hh i (omega arith))))
+      (ap (lowered (Zmod p) (∂ (Zmod p) (poly p s))) (from-product p h h hh (omega arith) r₂ .same ∙ ap (λ a. conv (Zmod p) a a)
+      (from-derivative p g h (omega arith) r₁ .same)))
+      (whole r₃ (lowered-below (Zmod p) (length o) (∂ (Zmod p) (poly p s)) (poly p hh) (below-∂ (Zmod p) (poly p s) (omega arith) (poly-past p s))
+      (λ i k. poly-past p hh i (omega arith))))
 
 module _ (v : Values) where
   abbrev p : ℕ

@@ -140,7 +140,8 @@ module _ (R : CRing) (q : Question R) where
   N-is g =
       ap₂ (λ s t. line ⊗ (g ⊗ g) ⊕ slope ⊗ s ⊕ f R q ⊗ (neg (# 2) ⊗ (t ⊕ neg (# 4) ⊗ (∂ R g ⊗ ∂ R g)))) (∂-leibniz R g g) (twice R g)
       ∙ solve6 (Series R)
-      (λ l s f g g′ g″. l :* (g :* g) :+ :- s :* (g′ :* g :+ g :* g′) :+ f :* (:- num 2 :* (g″ :* g :+ g′ :* g′ :+ (g′ :* g′ :+ g :* g″) :+ :- num 4 :* (g′ :* g′))))
+      (λ l s f g g′ g″. l :* (g :* g) :+ :- s :* (g′ :* g :+ g :* g′) :+ f :*
+      (:- num 2 :* (g″ :* g :+ g′ :* g′ :+ (g′ :* g′ :+ g :* g″) :+ :- num 4 :* (g′ :* g′))))
       (λ l s f g g′ g″. l :* g :^ 2 :- num 2 :* s :* g :* g′ :- num 4 :* f :* (g :* g″ :- g′ :^ 2)) tt
       (# (ℓ R q) ⊗ x ⊖ κ σ) (# 3 ⊗ x ^ 2 ⊕ κ A) (f R q) g (∂ R g) (∂ R (∂ R g))
 

@@ -35,15 +35,18 @@ module _ (bytes : List ℕ) where
     twelve = (12, ((k ≤ 2 ^ 56) × Given (valuesOf Certificate ws) (pointOf k))) ∷ []
 
     -- a number that stands for a point
-    push-all : WholeWords bytes → k ≤ 2 ^ 56 → AllYes (check-asks ws ++ (12, Given (valuesOf Certificate ws) (pointOf k)) ∷ []) → AllYes (push-number-asks bytes k)
+    push-all : WholeWords bytes → k ≤ 2 ^ 56 → AllYes (check-asks ws ++ (12, Given (valuesOf Certificate ws) (pointOf k)) ∷ []) → AllYes
+        (push-number-asks bytes k)
     push-all even small all =
         let last : Questions = (12, Given (valuesOf Certificate ws) (pointOf k)) ∷ [] in
         (even, all-all (check-asks ws) twelve (all-front (check-asks ws) last all) ((small, all-back (check-asks ws) last all .0), tt))
 
-    push-no : (n : ℕ) → WholeWords bytes → k ≤ 2 ^ 56 → FirstNo (check-asks ws ++ (12, Given (valuesOf Certificate ws) (pointOf k)) ∷ []) n → FirstNo (push-number-asks bytes k) n
+    push-no : (n : ℕ) → WholeWords bytes → k ≤ 2 ^ 56 → FirstNo (check-asks ws ++ (12, Given (valuesOf Certificate ws) (pointOf k)) ∷ []) n → FirstNo
+        (push-number-asks bytes k) n
     push-no n even small h = inr (even, go (no-split (check-asks ws) ((12, Given (valuesOf Certificate ws) (pointOf k)) ∷ []) n h))
       where
-        go : FirstNo (check-asks ws) n ⊎ (AllYes (check-asks ws) × FirstNo ((12, Given (valuesOf Certificate ws) (pointOf k)) ∷ []) n) → FirstNo (check-asks ws ++ twelve) n
+        go : FirstNo (check-asks ws) n ⊎ (AllYes (check-asks ws) × FirstNo ((12, Given (valuesOf Certificate ws) (pointOf k)) ∷ []) n) → FirstNo
+            (check-asks ws ++ twelve) n
         go (inl h₁) = no-before (check-asks ws) twelve n h₁
         go (inr (all, inl h₁)) = no-after (check-asks ws) twelve n all (inl (h₁ .0, λ both. h₁ .1 (both .1)))
         go (inr (all, inr h₁)) = absurd (h₁ .1)

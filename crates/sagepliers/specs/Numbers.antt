@@ -29,7 +29,18 @@ use Rattle.promises.specs.declared.Named.the-variants as named
 use Rattle.promises.specs.Outcome.{verdictNumber, imageNumber, writtenNumber, nameNumber}
 use Rattle.promises.specs.Asked.{solve-asks, kernel-asks, name-asks}
 use Rattle.promises.specs.Answer.{Goes, SolveRight, KernelRight, NameRight}
-use Rattle.sagepliers.specs.Entry.{bytes-ask, CheckAnswer, CheckNumber, pointOf, push-number-asks, PushAnswer, PushNumber, SolveNumber, KernelNumber, NameNumber}
+use Rattle.sagepliers.specs.Entry.{
+  bytes-ask,
+  CheckAnswer,
+  CheckNumber,
+  pointOf,
+  push-number-asks,
+  PushAnswer,
+  PushNumber,
+  SolveNumber,
+  KernelNumber,
+  NameNumber,
+}
 
 abbrev pub writtenOf : ℕ → Written
 writtenOf r = cond (ltb r (2 ^ 57)) (written.Count r) (written.Refused (r - 2 ^ 57))
@@ -57,7 +68,19 @@ verdictOf r = cond (eqb r 0) verdict.Passes (verdict.Refused r)
 
 module _ (bytes : List ℕ) where
   numbered : Positive (bytes-ask bytes)
-  numbered = (omega arith, (omega arith, (omega arith, (omega arith, (omega arith, (omega arith, (omega arith, (omega arith, (omega arith, (omega arith, tt))))))))))
+  numbered = (
+    omega arith,
+    (
+      omega arith,
+      (
+        omega arith,
+        (
+          omega arith,
+          (omega arith, (omega arith, (omega arith, (omega arith, (omega arith, (omega arith, tt)))))),
+        ),
+      ),
+    ),
+  )
 
   verdict-back : (v : Verdict) → CheckAnswer bytes v → verdictOf (verdictNumber v) ≡ v
   verdict-back verdict.Passes h = refl
@@ -118,14 +141,16 @@ affine-back u v hu hv =
     let k = u + 2 ^ 28 * v in
     let low : (u + 2 ^ 28 * v) % 2 ^ 28 ≡ u = omega arith in
     let high : (u + 2 ^ 28 * v) / 2 ^ 28 ≡ v = omega arith in
-    ap (λ t. cond t (image.Affine (k % 2 ^ 28) (k / 2 ^ 28)) (cond (eqb k (2 ^ 56)) image.Infinity (image.Refused (k - 2 ^ 57)))) (lt-ltb k (2 ^ 56) (omega arith))
+    ap (λ t. cond t (image.Affine (k % 2 ^ 28) (k / 2 ^ 28)) (cond (eqb k (2 ^ 56)) image.Infinity (image.Refused (k - 2 ^ 57))))
+    (lt-ltb k (2 ^ 56) (omega arith))
     ∙ ap (λ x. image.Affine x (k / 2 ^ 28)) low ∙ ap (image.Affine u) high
 
 refused-back : (n : ℕ) → imageOf (2 ^ 57 + n) ≡ image.Refused n
 refused-back n =
     let k = 2 ^ 57 + n in
     let back : 2 ^ 57 + n - 2 ^ 57 ≡ n = omega arith in
-    ap (λ t. cond t (image.Affine (k % 2 ^ 28) (k / 2 ^ 28)) (cond (eqb k (2 ^ 56)) image.Infinity (image.Refused (k - 2 ^ 57)))) (le-ltb k (2 ^ 56) (omega arith))
+    ap (λ t. cond t (image.Affine (k % 2 ^ 28) (k / 2 ^ 28)) (cond (eqb k (2 ^ 56)) image.Infinity (image.Refused (k - 2 ^ 57))))
+    (le-ltb k (2 ^ 56) (omega arith))
     ∙ ap (λ t. cond t image.Infinity (image.Refused (k - 2 ^ 57))) (ne-eqb k (2 ^ 56) (λ e. omega (arith, e))) ∙ ap image.Refused back
 
 module _ (bytes : List ℕ) (k : ℕ) where

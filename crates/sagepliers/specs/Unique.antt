@@ -17,7 +17,18 @@ use Rattle.sheet.specs.Ready.{ready}
 use Rattle.promises.specs.declared.Verdict.{Verdict}
 use Rattle.promises.specs.declared.Written.{Written}
 use Rattle.promises.specs.declared.Image.{Image}
-use Rattle.promises.specs.Outcome.{verdictOutcome, writtenOutcome, imageOutcome, verdictNumber, writtenNumber, imageNumber, nameNumber, same-verdict, same-written, same-image}
+use Rattle.promises.specs.Outcome.{
+  verdictOutcome,
+  writtenOutcome,
+  imageOutcome,
+  verdictNumber,
+  writtenNumber,
+  imageNumber,
+  nameNumber,
+  same-verdict,
+  same-written,
+  same-image,
+}
 use Rattle.promises.specs.Asked.{Given, Solvable, last-ask}
 use Rattle.promises.specs.Answer.{Goes, CertificateIn, KernelIn}
 use Rattle.services.specs.Certified.{one-certificate}

@@ -26,7 +26,8 @@ module _ (R : CRing) where
   pub monic-power : (a : Seq R) → Monic R 1 a → (n : ℕ) → Monic R n (pow (Series R) a n)
   monic-power a m zero = rw (pow-zero (Series R) a) (record { below = const-below R 𝟙; one = refl })
   monic-power a m (suc n) =
-      rw (pow-suc (Series R) a n) (subst (λ k. Monic R k (a *ₛ pow (Series R) a n)) (omega arith) (monic-mul R 1 n a (pow (Series R) a n) m (monic-power a m n)))
+      rw (pow-suc (Series R) a n) (subst (λ k. Monic R k (a *ₛ pow (Series R) a n)) (omega arith)
+      (monic-mul R 1 n a (pow (Series R) a n) m (monic-power a m n)))
 
   pub value-power : (a : Seq R) → Monic R 1 a → (n : ℕ) (u : Car) → value R (suc n) (pow (Series R) a n) u ≡ pow R (value R 2 a u) n
   unfolding value

@@ -129,7 +129,8 @@ module _ (R : CRing) where
   rev-mul : (m n : ℕ) (P Q : Seq R) → Below R (suc m) P → Below R (suc n) Q → rev (m + n) (conv R P Q) ≡ conv R (rev m P) (rev n Q)
   unfolding rev
   rev-mul zero n P Q hP hQ =
-      ap₂ rev (N.zero-add n) (ap (λ f. conv R f Q) (S.split R P ∙ ap (head-then R (P 0)) (fun-ext λ i. hP (suc i) (omega arith))) ∙ sym (S.conv-scalar R (P 0) Q))
+      ap₂ rev (N.zero-add n) (ap (λ f. conv R f Q) (S.split R P ∙ ap (head-then R (P 0)) (fun-ext λ i. hP (suc i) (omega arith))) ∙ sym
+      (S.conv-scalar R (P 0) Q))
       ∙ fun-ext (rev-scaled n (P 0) Q) ∙ S.conv-scalar R (P 0) (rev n Q)
   rev-mul (suc m) n P Q hP hQ =
       ap₂ rev (N.suc-add m n) (ap (λ f. conv R f Q) (S.split R P) ∙ S.conv-cons R (P 0) (tail R P) Q)
@@ -191,7 +192,8 @@ module _ (R : CRing) where
   r-pow {n} {P} {Q} h zero =
       r-degree (sym (N.zero-mul n)) (r-left (sym (pow-zero (Series R) P)) (r-right (sym (pow-zero (Series R) Q)) (r-const 𝟙)))
   r-pow {n} {P} {Q} h (suc k) =
-      r-degree (N.add-comm n (k * n) ∙ sym (N.suc-mul k n)) (r-left (sym (pow-suc (Series R) P k)) (r-right (sym (pow-suc (Series R) Q k)) (r-mul h (r-pow h k))))
+      r-degree (N.add-comm n (k * n) ∙ sym (N.suc-mul k n)) (r-left (sym (pow-suc (Series R) P k))
+      (r-right (sym (pow-suc (Series R) Q k)) (r-mul h (r-pow h k))))
 
   -- read as of one degree more
   pub r-up : {n : ℕ} {P Q : Seq R} → Reversed n P Q → Reversed (suc n) P (conv R (ind R) Q)

@@ -178,7 +178,8 @@ module _ (ws : List ℕ) (passes : AllYes (check-asks ws)) where
   kernel-headed : Asked2 Kernel us
   unfolding Asked2
   kernel-headed =
-      at-words (λ ws. Asked2 Certificate ws → Asked2 Kernel (kernelOf ws)) (λ h. ap (λ (ks : List ℕ). take 3 ks ++ take 1 (drop 5 ks)) h) (yes-to (asked Certificate ws) 2 accepted)
+      at-words (λ ws. Asked2 Certificate ws → Asked2 Kernel (kernelOf ws)) (λ h. ap (λ (ks : List ℕ). take 3 ks ++ take 1 (drop 5 ks)) h)
+      (yes-to (asked Certificate ws) 2 accepted)
 
   completed-ready : Ready completed
   completed-ready = subst Ready same-values known

@@ -67,10 +67,12 @@ module _ (v : Values) (n n′ : List ℕ) where
   same-n-words h k e =
       residues-unique (h .count ∙ sym (k .count)) (residues-same e (residues-self (h .reduced))) (residues-self (k .reduced))
 
-module _ (v : Values) (ready : Ready v) (before after after′ : List ℕ) (c c′ : ℕ) (h : CertificateIn v before after c) (k : CertificateIn v before after′ c′) where
+module _ (v : Values) (ready : Ready v) (before after after′ : List ℕ) (c c′ : ℕ) (h : CertificateIn v before after c)
+    (k : CertificateIn v before after′ c′) where
   same-poly : poly (v .p) (h .g) ≡ poly (v .p) (k .g)
   same-poly =
-      unique (ready .prime .prime) (question v) (half-least v ready) (omega (arith, ready .degree, degree-half v ready)) (poly (v .p) (h .g)) (poly (v .p) (k .g))
+      unique (ready .prime .prime) (question v) (half-least v ready) (omega (arith, ready .degree, degree-half v ready)) (poly (v .p) (h .g))
+      (poly (v .p) (k .g))
       (h .meets) (k .meets)
 
   pub one-g : h .g ≡ k .g

@@ -54,7 +54,8 @@ module _ (ws : List ℕ) (all : AllYes (check-asks ws)) where
       let same =
       T.image-unique is-prime (put Certificate ws) (g Certificate ws) (n Certificate ws) g-below n-below (mk p x) (mk p y) (mk p u) (mk p w) (mk p u′) (mk p w′)
       (h .image) (k .image) in
-      ap₂ point.Affine (mk-apart (prime-pos is-prime) u u′ (h .u-below) (k .u-below) (same .0)) (mk-apart (prime-pos is-prime) w w′ (h .w-below) (k .w-below) (same .1))
+      ap₂ point.Affine (mk-apart (prime-pos is-prime) u u′ (h .u-below) (k .u-below) (same .0))
+      (mk-apart (prime-pos is-prime) w w′ (h .w-below) (k .w-below) (same .1))
 
   -- each point goes to one
   pub goes-once : (at a b : Point) → Goes (valuesOf Certificate ws) (gOf Certificate ws) (nOf Certificate ws) at a
@@ -87,6 +88,7 @@ module _ (ws : List ℕ) (at : Point) where
           → OnCurve (Zmod (prime Certificate ws)) (put Certificate ws .Ã) (put Certificate ws .B̃) (mk (prime Certificate ws) u) (mk (prime Certificate ws) w)
       go (point.Affine x y) on goes =
           T.push (is-prime ws passes) (put Certificate ws) (g Certificate ws) (n Certificate ws) (g-below ws passes) (n-below ws passes)
-          (yes-to (check-asks ws) 10 passes) (mk (prime Certificate ws) x) (mk (prime Certificate ws) y) (mk (prime Certificate ws) u) (mk (prime Certificate ws) w)
+          (yes-to (check-asks ws) 10 passes) (mk (prime Certificate ws) x) (mk (prime Certificate ws) y) (mk (prime Certificate ws) u)
+          (mk (prime Certificate ws) w)
           (on .on) (goes .image)
       go point.Infinity on goes = absurd goes

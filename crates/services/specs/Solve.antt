@@ -30,7 +30,8 @@ pub solve-asked : (ws : List ℕ) (room : ℕ) → AllYes (solve-asks ws room) �
 solve-asked ws room all = all-front (asked Question ws) ((11, Solvable (valuesOf Question ws)) ∷ []) (all .1)
 
 -- One answer is right at most, with one content of the lent buffer.
-pub solve-unique : (ws before after after′ : List ℕ) (r r′ : Written) → SolveRight ws before after r → SolveRight ws before after′ r′ → (r ≡ r′) × (after ≡ after′)
+pub solve-unique : (ws before after after′ : List ℕ) (r r′ : Written) → SolveRight ws before after r → SolveRight ws before after′ r′ → (r ≡ r′) ×
+    (after ≡ after′)
 solve-unique ws before after after′ r r′ h k =
     let v : Values = valuesOf Question ws in
     let same =

@@ -15,7 +15,8 @@ pub values-filled : (ws xs : List ℕ) (from n : ℕ) → length xs ≡ n → fr
 values-filled ws xs from n len room all =
     let count : length (take n (drop from ws)) ≡ n = length-take-le n (drop from ws) (omega (arith, length-drop from ws)) in
     ext-getD 0 xs (map valueOf (take n (drop from ws))) (len ∙ sym (length-map (take n (drop from ws)) valueOf ∙ count)) (λ i l.
-    all i (omega arith) ∙ sym (List·getD-map valueOf (take n (drop from ws)) i 0 ∙ ap valueOf (getD-take n (drop from ws) i 0 (omega arith) ∙ getD-drop from ws i 0)))
+    all i (omega arith) ∙ sym (List·getD-map valueOf (take n (drop from ws)) i 0 ∙ ap valueOf
+    (getD-take n (drop from ws) i 0 (omega arith) ∙ getD-drop from ws i 0)))
 
 pub words-filled : (bytes xs : List ℕ) (n : ℕ) → length xs ≡ n → 4 * n ≤ length bytes → Filled (λ j v. v ≡ wordAt bytes j) xs n → xs ≡ take n (wordsOf bytes)
 words-filled bytes xs n len room all =

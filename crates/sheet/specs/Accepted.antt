@@ -37,7 +37,8 @@ module _ (ws : List ℕ) (from count : ℕ) (room : from + count ≤ length ws) 
           omega (arith, e, small (from + i) (omega arith) (omega arith))
       go (no l) =
           let z : getD (map valueOf (take count (drop from ws))) i 0 ≡ 0 =
-          List·getD-eq-default (map valueOf (take count (drop from ws))) 0 (omega (arith, length-map (take count (drop from ws)) valueOf, length-take count (drop from ws))) in
+          List·getD-eq-default (map valueOf (take count (drop from ws))) 0
+          (omega (arith, length-map (take count (drop from ws)) valueOf, length-take count (drop from ws))) in
           omega arith
 
 -- ── an accepted sheet

@@ -27,7 +27,8 @@ module _ (k : ℕ) (ys : List ℕ) where
   holds-no [] e = refl
   holds-no (x ∷ xs) e = go (eqb k x) e (holds-no xs)
     where
-      go : (t : Bool) → cond t true (holds k xs) ≡ false → (holds k xs ≡ false → holds k (xs ++ ys) ≡ holds k ys) → cond t true (holds k (xs ++ ys)) ≡ holds k ys
+      go : (t : Bool) → cond t true (holds k xs) ≡ false → (holds k xs ≡ false → holds k (xs ++ ys) ≡ holds k ys) → cond t true (holds k (xs ++ ys))
+          ≡ holds k ys
       go true e h = absurd (false≢true (sym e))
       go false e h = h e
 
@@ -183,5 +184,6 @@ module _ (form : Form) (ws : List ℕ) where
       let t1 = both-right (eqb (position k hs) i) _ t in
       let t2 = both-right (holds k hs) _ t1 in
       let e : position k hs ≡ i = eqb→eq (position k hs) i (both-left (eqb (position k hs) i) _ t) in
-      let r = h k (ltb→lt 0 k (both-left (ltb 0 k) (ltb k 8) t2)) (ltb→lt k 8 (both-right (ltb 0 k) (ltb k 8) t2)) (T-true (holds k hs) (both-left (holds k hs) _ t1)) in
+      let r = h k (ltb→lt 0 k (both-left (ltb 0 k) (ltb k 8) t2)) (ltb→lt k 8 (both-right (ltb 0 k) (ltb k 8) t2))
+      (T-true (holds k hs) (both-left (holds k hs) _ t1)) in
       (omega (arith, r .0), ap (λ n. kindOf (getD ws n 0)) (sym e) ∙ r .1)

@@ -18,7 +18,8 @@ use Rattle.sheet.specs.Linear.{Section, section, expand, has, base, slop
 abbrev sections : Form → List Section
 sections Question = section 1 0 0 ∷ section 2 0 0 ∷ section 3 0 0 ∷ section 4 0 0 ∷ section 5 0 0 ∷ section 6 0 0 ∷ section 7 0 0 ∷ section 15 0 0 ∷ []
 sections Certificate =
-    section 1 0 0 ∷ section 2 0 0 ∷ section 3 0 0 ∷ section 4 0 0 ∷ section 5 0 0 ∷ section 6 0 0 ∷ section 7 0 0 ∷ section 8 0 1 ∷ section 9 1 2 ∷ section 15 0 0 ∷ []
+    section 1 0 0 ∷ section 2 0 0 ∷ section 3 0 0 ∷ section 4 0 0 ∷ section 5 0 0 ∷ section 6 0 0 ∷ section 7 0 0 ∷ section 8 0 1 ∷ section 9 1 2 ∷ section 15 0
+    0 ∷ []
 sections Kernel = section 1 0 0 ∷ section 2 0 0 ∷ section 3 0 0 ∷ section 6 0 0 ∷ section 8 0 1 ∷ section 15 0 0 ∷ []
 
 -- how many words follow the first one of a section

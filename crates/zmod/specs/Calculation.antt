@@ -234,7 +234,8 @@ module _ {p : ℕ} (pos : 0 < p) where
   unfolding value poly
   horner-is zero a u = refl
   horner-is (suc n) [] u =
-      sym (ap (λ y. plus p (mk p 0) (mul-mod p (mk p u) y)) (sym (horner-is n [] u) ∙ ap (mk p) (none n)) ∙ ap (plus p (mk p 0)) (Ring.mul-zero (Zmod p) (mk p u)) ∙ plus-zero p (mk p 0))
+      sym (ap (λ y. plus p (mk p 0) (mul-mod p (mk p u) y)) (sym (horner-is n [] u) ∙ ap (mk p) (none n)) ∙ ap (plus p (mk p 0))
+      (Ring.mul-zero (Zmod p) (mk p u)) ∙ plus-zero p (mk p 0))
     where
       none : (n : ℕ) → horner p n [] u ≡ 0
       none zero = refl

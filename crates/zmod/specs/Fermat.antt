@@ -54,7 +54,8 @@ module _ (R : CRing) (m : ℕ) (char : cast R (suc m) ≡ R .𝟘) (inv : (i : �
       ∙ value-same R (suc (suc m)) (suc (suc m)) (binomial R (suc m)) (sums R (const R 𝟙) tᵖ) x (binomial-monic R (suc m) .below)
       (λ i l. sym (same i) ∙ binomial-monic R (suc m) .below i l) same
       ∙ value-sums R (suc (suc m)) (const R 𝟙) tᵖ x
-      ∙ ap (λ y. y ⊕ value R (suc (suc m)) tᵖ x) (value-same R (suc (suc m)) 1 (const R 𝟙) (const R 𝟙) x (λ i l. const-below R 𝟙 i (omega arith)) (const-below R 𝟙) (λ i. refl))
+      ∙ ap (λ y. y ⊕ value R (suc (suc m)) tᵖ x) (value-same R (suc (suc m)) 1 (const R 𝟙) (const R 𝟙) x (λ i l. const-below R 𝟙 i (omega arith))
+      (const-below R 𝟙) (λ i. refl))
       ∙ ap (λ y. y ⊕ value R (suc (suc m)) tᵖ x) (solve1 R (λ x. :1 :+ x :* :0) (λ x. :1) tt x)
       ∙ ap (λ y. 𝟙 ⊕ y) (value-power R (ind R) (ind-monic R) (suc m) x ∙ ap (λ y. pow R y (suc m)) (ind-value R x))
 

@@ -67,21 +67,29 @@ pub solveN2 : (φ ψ : Ex → Ex → Ex) → T (plain (φ (var 0) (var 1))) → 
     → (a b : ℕ) → evalN (at (a ∷ b ∷ [])) (φ (var 0) (var 1)) ≡ evalN (at (a ∷ b ∷ [])) (ψ (var 0) (var 1))
 solveN2 φ ψ r s t a b = ringN (at (a ∷ b ∷ [])) (φ (var 0) (var 1)) (ψ (var 0) (var 1)) r s t
 
-pub solveN3 : (φ ψ : Ex → Ex → Ex → Ex) → T (plain (φ (var 0) (var 1) (var 2))) → T (plain (ψ (var 0) (var 1) (var 2))) → T (same (φ (var 0) (var 1) (var 2)) (ψ (var 0) (var 1) (var 2)))
+pub solveN3 : (φ ψ : Ex → Ex → Ex → Ex) → T (plain (φ (var 0) (var 1) (var 2))) → T (plain (ψ (var 0) (var 1) (var 2))) → T
+    (same (φ (var 0) (var 1) (var 2)) (ψ (var 0) (var 1) (var 2)))
     → (a b c : ℕ) → evalN (at (a ∷ b ∷ c ∷ [])) (φ (var 0) (var 1) (var 2)) ≡ evalN (at (a ∷ b ∷ c ∷ [])) (ψ (var 0) (var 1) (var 2))
 solveN3 φ ψ r s t a b c = ringN (at (a ∷ b ∷ c ∷ [])) (φ (var 0) (var 1) (var 2)) (ψ (var 0) (var 1) (var 2)) r s t
 
-pub solveN4 : (φ ψ : Ex → Ex → Ex → Ex → Ex) → T (plain (φ (var 0) (var 1) (var 2) (var 3))) → T (plain (ψ (var 0) (var 1) (var 2) (var 3))) → T (same (φ (var 0) (var 1) (var 2) (var 3)) (ψ (var 0) (var 1) (var 2) (var 3)))
+pub solveN4 : (φ ψ : Ex → Ex → Ex → Ex → Ex) → T (plain (φ (var 0) (var 1) (var 2) (var 3))) → T (plain (ψ (var 0) (var 1) (var 2) (var 3))) → T
+    (same (φ (var 0) (var 1) (var 2) (var 3)) (ψ (var 0) (var 1) (var 2) (var 3)))
     → (a b c d : ℕ) → evalN (at (a ∷ b ∷ c ∷ d ∷ [])) (φ (var 0) (var 1) (var 2) (var 3)) ≡ evalN (at (a ∷ b ∷ c ∷ d ∷ [])) (ψ (var 0) (var 1) (var 2) (var 3))
 solveN4 φ ψ r s t a b c d = ringN (at (a ∷ b ∷ c ∷ d ∷ [])) (φ (var 0) (var 1) (var 2) (var 3)) (ψ (var 0) (var 1) (var 2) (var 3)) r s t
 
-pub solveN5 : (φ ψ : Ex → Ex → Ex → Ex → Ex → Ex) → T (plain (φ (var 0) (var 1) (var 2) (var 3) (var 4))) → T (plain (ψ (var 0) (var 1) (var 2) (var 3) (var 4))) → T (same (φ (var 0) (var 1) (var 2) (var 3) (var 4)) (ψ (var 0) (var 1) (var 2) (var 3) (var 4)))
-    → (a b c d e : ℕ) → evalN (at (a ∷ b ∷ c ∷ d ∷ e ∷ [])) (φ (var 0) (var 1) (var 2) (var 3) (var 4)) ≡ evalN (at (a ∷ b ∷ c ∷ d ∷ e ∷ [])) (ψ (var 0) (var 1) (var 2) (var 3) (var 4))
+pub solveN5 : (φ ψ : Ex → Ex → Ex → Ex → Ex → Ex) → T (plain (φ (var 0) (var 1) (var 2) (var 3) (var 4))) → T
+    (plain (ψ (var 0) (var 1) (var 2) (var 3) (var 4))) → T (same (φ (var 0) (var 1) (var 2) (var 3) (var 4)) (ψ (var 0) (var 1) (var 2) (var 3) (var 4)))
+    → (a b c d e : ℕ) → evalN (at (a ∷ b ∷ c ∷ d ∷ e ∷ [])) (φ (var 0) (var 1) (var 2) (var 3) (var 4)) ≡ evalN (at (a ∷ b ∷ c ∷ d ∷ e ∷ []))
+    (ψ (var 0) (var 1) (var 2) (var 3) (var 4))
 solveN5 φ ψ r s t a b c d e = ringN (at (a ∷ b ∷ c ∷ d ∷ e ∷ [])) (φ (var 0) (var 1) (var 2) (var 3) (var 4)) (ψ (var 0) (var 1) (var 2) (var 3) (var 4)) r s t
 
-pub solveN6 : (φ ψ : Ex → Ex → Ex → Ex → Ex → Ex → Ex) → T (plain (φ (var 0) (var 1) (var 2) (var 3) (var 4) (var 5))) → T (plain (ψ (var 0) (var 1) (var 2) (var 3) (var 4) (var 5))) → T (same (φ (var 0) (var 1) (var 2) (var 3) (var 4) (var 5)) (ψ (var 0) (var 1) (var 2) (var 3) (var 4) (var 5)))
-    → (a b c d e f : ℕ) → evalN (at (a ∷ b ∷ c ∷ d ∷ e ∷ f ∷ [])) (φ (var 0) (var 1) (var 2) (var 3) (var 4) (var 5)) ≡ evalN (at (a ∷ b ∷ c ∷ d ∷ e ∷ f ∷ [])) (ψ (var 0) (var 1) (var 2) (var 3) (var 4) (var 5))
-solveN6 φ ψ r s t a b c d e f = ringN (at (a ∷ b ∷ c ∷ d ∷ e ∷ f ∷ [])) (φ (var 0) (var 1) (var 2) (var 3) (var 4) (var 5)) (ψ (var 0) (var 1) (var 2) (var 3) (var 4) (var 5)) r s t
+pub solveN6 : (φ ψ : Ex → Ex → Ex → Ex → Ex → Ex → Ex) → T (plain (φ (var 0) (var 1) (var 2) (var 3) (var 4) (var 5))) → T
+    (plain (ψ (var 0) (var 1) (var 2) (var 3) (var 4) (var 5))) → T
+    (same (φ (var 0) (var 1) (var 2) (var 3) (var 4) (var 5)) (ψ (var 0) (var 1) (var 2) (var 3) (var 4) (var 5)))
+    → (a b c d e f : ℕ) → evalN (at (a ∷ b ∷ c ∷ d ∷ e ∷ f ∷ [])) (φ (var 0) (var 1) (var 2) (var 3) (var 4) (var 5)) ≡ evalN (at (a ∷ b ∷ c ∷ d ∷ e ∷ f ∷ []))
+    (ψ (var 0) (var 1) (var 2) (var 3) (var 4) (var 5))
+solveN6 φ ψ r s t a b c d e f = ringN (at (a ∷ b ∷ c ∷ d ∷ e ∷ f ∷ [])) (φ (var 0) (var 1) (var 2) (var 3) (var 4) (var 5))
+    (ψ (var 0) (var 1) (var 2) (var 3) (var 4) (var 5)) r s t
 
 -- an example
 square : (a b c : ℕ) → (a + b) * (a + b) * c ≡ a * a * c + 2 * a * b * c + c * b ^ 2

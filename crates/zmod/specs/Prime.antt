@@ -12,7 +12,26 @@ use Rattle.ring.specs.Ring.{CRing, cast}
 use Rattle.ring.specs.Identity.{solve2, solve4}
 use Rattle.ring.specs.Identity.Ex.{:0, :1, _:+_, _:-_, _:*_, :-_}
 use Rattle.ring.specs.Field.{Inverse, Field, unit-cancel}
-use Rattle.zmod.specs.Zmod.{Elt, Zmod, val, mk, mk-add, mk-mul, mk-val, mk-eq, eq-mk, mk-self, mk-nonzero, cast-mk, plus, times, minus, val-lt, same?, times-one}
+use Rattle.zmod.specs.Zmod.{
+  Elt,
+  Zmod,
+  val,
+  mk,
+  mk-add,
+  mk-mul,
+  mk-val,
+  mk-eq,
+  eq-mk,
+  mk-self,
+  mk-nonzero,
+  cast-mk,
+  plus,
+  times,
+  minus,
+  val-lt,
+  same?,
+  times-one,
+}
 
 -- a number above 1 with no divisor between 1 and itself
 pub record Prime (p : ℕ) : Type 0 where

@@ -135,5 +135,6 @@ residues-zeros {p} pos n = residues-filled {a = zeros (Zmod p)} pos (λ j l.
     record { below = omega arith; class = ap (mk p) e })
 
 -- a part that was lent, filled and came back: the front of the whole is what the part was filled with
-pub residues-part : {p : ℕ} {a : Seq (Zmod p)} {part : List ℕ} (rest : List ℕ) (n : ℕ) → length part ≡ n → Residues p a part → Residues p a (take n (part ++ rest))
+pub residues-part : {p : ℕ} {a : Seq (Zmod p)} {part : List ℕ} (rest : List ℕ) (n : ℕ) → length part ≡ n → Residues p a part → Residues p a
+    (take n (part ++ rest))
 residues-part {p} {a} {part} rest n e h = subst (Residues p a) (sym (take-at part rest n e)) h

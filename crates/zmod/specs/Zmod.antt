@@ -180,4 +180,5 @@ module _ {p : ℕ} (pos : 0 < p) where
   -- m − n, for n at most p
   pub mk-sub : (m n : ℕ) → n ≤ p → mk p (m + (p - n)) ≡ plus p (mk p m) (minus p (mk p n))
   mk-sub m n le =
-      mk-add p m (p - n) ∙ ap (plus p (mk p m)) (Ring.neg-unique (Zmod p) (mk p n) (mk p (p - n)) (sym (mk-add p n (p - n)) ∙ ap (mk p) (N.add-sub-of-le le) ∙ mk-self))
+      mk-add p m (p - n) ∙ ap (plus p (mk p m)) (Ring.neg-unique (Zmod p) (mk p n) (mk p (p - n))
+      (sym (mk-add p n (p - n)) ∙ ap (mk p) (N.add-sub-of-le le) ∙ mk-self))

@@ -58,7 +58,11 @@ solution-requires c κs =
     let d = c .before .before .before .before .before .before .before .before .before .half-degree .result in (
       start .pre .0,
       (
-        (length-take-le (d + 1 + (d + 1)) (c .before .before .before .before .before .before .before .before .blank .result) (search needs) ∙ omega arith, length-take-le d (c .before .before .before .before .before .before .before .blank2 .result) (search needs) ∙ omega arith),
+        (
+          length-take-le (d + 1 + (d + 1)) (c .before .before .before .before .before .before .before .before .blank .result) (search needs)
+              ∙ omega arith,
+          length-take-le d (c .before .before .before .before .before .before .before .blank2 .result) (search needs) ∙ omega arith,
+        ),
         (
           length-take-le (d + 1) (c .before .before .before .before .before .before .blank3 .result) (search needs) ∙ omega arith,
           length-take-le (d + 1) (c .before .before .before .before .before .blank4 .result) (search needs) ∙ omega arith,

@@ -50,7 +50,8 @@ loop-again c =
     let inside : loop .k < length (loop .c) = omega arith in (
       simp length-set (loop .inv .0),
       omega (arith, length-set (loop .c) (loop .k) (c .next-c .result)),
-      solved-more (at .v .p) (CAt (Zmod (at .v .p)) (poly (at .v .p) (at .s .now))) (c-causal (Zmod (at .v .p)) (poly (at .v .p) (at .s .now))) (loop .c) (loop .k) (c .next-c .result) inside (loop .inv .2) (c .next-c .ensures),
+      solved-more (at .v .p) (CAt (Zmod (at .v .p)) (poly (at .v .p) (at .s .now))) (c-causal (Zmod (at .v .p)) (poly (at .v .p) (at .s .now))) (loop .c)
+          (loop .k) (c .next-c .result) inside (loop .inv .2) (c .next-c .ensures),
     )
 
 same-length : tie.Need-same-length Inv-loop μ-loop

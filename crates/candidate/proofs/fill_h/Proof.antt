@@ -50,7 +50,8 @@ loop-again c =
     let inside : loop .k < length (loop .h) = omega arith in (
       simp length-set (loop .inv .0),
       omega (arith, length-set (loop .h) (loop .k) (c .next-h .result)),
-      solved-more (at .v .p) (HAt (Zmod (at .v .p)) (question (at .v))) (h-causal (Zmod (at .v .p)) (question (at .v))) (loop .h) (loop .k) (c .next-h .result) inside (loop .inv .2) (c .next-h .ensures),
+      solved-more (at .v .p) (HAt (Zmod (at .v .p)) (question (at .v))) (h-causal (Zmod (at .v .p)) (question (at .v))) (loop .h) (loop .k)
+          (c .next-h .result) inside (loop .inv .2) (c .next-h .ensures),
     )
 
 same-length : tie.Need-same-length Inv-loop μ-loop

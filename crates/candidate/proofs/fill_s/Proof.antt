@@ -51,7 +51,9 @@ loop-again c =
     let inside : loop .k < length (loop .s) = omega arith in (
       simp length-set (loop .inv .0),
       omega (arith, length-set (loop .s) (loop .k) (c .next-s .result)),
-      solved-more (at .v .p) (SAt (Zmod (at .v .p)) (question (at .v)) (poly (at .v .p) (at .h .now))) (s-causal (Zmod (at .v .p)) (question (at .v)) (poly (at .v .p) (at .h .now))) (loop .s) (loop .k) (c .next-s .result) inside (loop .inv .2) (c .next-s .ensures),
+      solved-more (at .v .p) (SAt (Zmod (at .v .p)) (question (at .v)) (poly (at .v .p) (at .h .now)))
+          (s-causal (Zmod (at .v .p)) (question (at .v)) (poly (at .v .p) (at .h .now))) (loop .s) (loop .k) (c .next-s .result) inside (loop .inv .2)
+          (c .next-s .ensures),
     )
 
 same-length : tie.Need-same-length Inv-loop μ-loop

@@ -38,7 +38,11 @@ coefficient-requires c κs =
     let start = c .before .before .before .before .before .before in
     let a = start .args in (
       (omega arith, omega arith, omega arith),
-      (part-reduced (a .v .p) (a .s .now) 1 (length (a .s .now) - 1) (omega arith) (λ i l. start .pre .1 .1 .0 .1 i), reduced-front (a .v .p) (a .c .now) (omega arith) (a .k) (start .pre .1 .1 .1 .2)),
+      (
+        part-reduced (a .v .p) (a .s .now) 1 (length (a .s .now) - 1) (omega arith) (λ i l. start .pre .1 .1 .0 .1 i),
+        reduced-front (a .v .p) (a .c .now)
+            (omega arith) (a .k) (start .pre .1 .1 .1 .2),
+      ),
     )
 
 negate-requires : tie.Need-negate-requires
@@ -55,7 +59,8 @@ returns-2 : tie.Need-returns-2
 returns-2 c =
     let start = c .before .before .before .before .before .before .before .before .before in
     let a = start .args in
-    c-more (a .v .p) (a .s .now) (a .c .now) (a .k) (start .pre .1 .1 .1 .1) (length (a .s .now) - 1) (c .before .before .coefficient .result) (c .before .negate .result) (c .divide .result) (omega arith) (omega arith)
+    c-more (a .v .p) (a .s .now) (a .c .now) (a .k) (start .pre .1 .1 .1 .1) (length (a .s .now) - 1) (c .before .before .coefficient .result)
+    (c .before .negate .result) (c .divide .result) (omega arith) (omega arith)
     (c .before .before .coefficient .ensures) (c .before .negate .ensures) (c .divide .ensures)
 
 pub next-c-spec : {M : Type 1} → statement M

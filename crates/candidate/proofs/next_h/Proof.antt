@@ -23,7 +23,8 @@ returns-2 : tie.Need-returns-2
 returns-2 c =
     let start = c .before .before .before .before .before .before in
     let a = start .args in
-    h-first (a .v .p) (question (a .v)) (a .h .now) (a .k) (start .pre .1 .1 .1) (c .before .subtract .result) (c .divide .result) (c .before .before .if2 .taken)
+    h-first (a .v .p) (question (a .v)) (a .h .now) (a .k) (start .pre .1 .1 .1) (c .before .subtract .result) (c .divide .result)
+    (c .before .before .if2 .taken)
     (c .before .subtract .ensures) (c .divide .ensures)
 
 subtract-requires-2 : tie.Need-subtract-requires-2
@@ -37,7 +38,8 @@ returns-3 : tie.Need-returns-3
 returns-3 c =
     let start = c .before .before .before .before .before .before .before in
     let a = start .args in
-    h-second (a .v .p) (question (a .v)) (a .h .now) (a .k) (start .pre .1 .1 .1) (c .before .subtract2 .result) (c .divide2 .result) (c .before .before .if3 .taken)
+    h-second (a .v .p) (question (a .v)) (a .h .now) (a .k) (start .pre .1 .1 .1) (c .before .subtract2 .result) (c .divide2 .result)
+    (c .before .before .if3 .taken)
     (c .before .subtract2 .ensures) (c .divide2 .ensures)
 
 recurrence-requires : tie.Need-recurrence-requires
@@ -66,7 +68,8 @@ returns-4 : tie.Need-returns-4
 returns-4 c =
     let start = c .before .before .before .before .before .before .before .before in
     let a = start .args in
-    h-more (a .v .p) (question (a .v)) (a .h .now) (a .k) (start .pre .1 .1 .1) (c .before .before .recurrence .result) (c .before .divide3 .result) (c .divide4 .result) (omega arith)
+    h-more (a .v .p) (question (a .v)) (a .h .now) (a .k) (start .pre .1 .1 .1) (c .before .before .recurrence .result) (c .before .divide3 .result)
+    (c .divide4 .result) (omega arith)
     (c .before .before .recurrence .ensures) (c .before .divide3 .ensures) (c .divide4 .ensures)
 
 pub next-h-spec : {M : Type 1} → statement M

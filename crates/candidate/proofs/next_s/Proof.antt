@@ -33,7 +33,8 @@ returns-2 : tie.Need-returns-2
 returns-2 c =
     let start = c .before .before .before .before .before in
     let a = start .args in
-    s-one (a .v .p) (question (a .v)) (a .h .now) (a .s .now) (a .k) (start .pre .1 .1 .1 .1) (a .v .sigma) (c .if2 .taken) (residue-self (a .v .sigma) (omega arith))
+    s-one (a .v .p) (question (a .v)) (a .h .now) (a .s .now) (a .k) (start .pre .1 .1 .1 .1) (a .v .sigma) (c .if2 .taken)
+    (residue-self (a .v .sigma) (omega arith))
 
 sub-i : tie.Need-sub-i
 sub-i c = search needs
@@ -92,7 +93,13 @@ sub-weighted-2 c = search needs
 weighted-requires : tie.Need-weighted-requires
 weighted-requires c κs =
     let start = c .before .before .before .before .before .before .before .before .before .before .before .before .before in
-    omega (arith, start .pre .1 .1 .0 .1 (start .args .k - 1), c .before .before .before .before .before .negate .ensures .below, c .before .negate2 .ensures .below)
+    omega (
+      arith,
+      start .pre .1 .1 .0 .1
+          (start .args .k - 1),
+      c .before .before .before .before .before .negate .ensures .below,
+      c .before .negate2 .ensures .below,
+    )
 
 mul-divide : tie.Need-mul-divide
 mul-divide c = search needs
@@ -101,18 +108,31 @@ add-divide : tie.Need-add-divide
 add-divide c = search needs
 
 divide-requires : tie.Need-divide-requires
-divide-requires c κs =
-    (omega arith, omega arith, omega arith, c .before .before .before .before .before .before .before .before .before .before .before .before .before .before .pre .1 .0 .0)
+divide-requires c κs = (
+  omega arith,
+  omega arith,
+  omega arith,
+  c .before .before .before .before .before .before .before .before .before .before .before .before .before .before .pre .1 .0 .0,
+)
 
 returns-3 : tie.Need-returns-3
 returns-3 c =
     let start = c .before .before .before .before .before .before .before .before .before .before .before .before .before .before .before in
     let a = start .args in
     let p = a .v .p in
-    s-more p (question (a .v)) (a .h .now) (a .s .now) (a .k) (start .pre .1 .1 .1 .1) (a .k - 1) (omega (arith, c .before .before .before .before .before .before .before .before .before .before .before .if1 .left, c .before .before .before .before .before .before .before .before .before .before .if2 .left)) refl
-    (c .before .before .before .before .before .before .before .before .multiply .result) (c .before .before .before .before .before .before .before .negate .result) (c .before .before .before .before .multiply2 .result) (c .before .before .before .negate2 .result) (c .before .weighted .result) (c .divide .result)
-    (c .before .before .before .before .before .before .before .before .multiply .ensures) (c .before .before .before .before .before .before .before .negate .ensures)
-    (residue-same (ap (λ n. times p (question (a .v) .B) (mk p (getD (a .s .now) n 0))) (c .before .before .before .before .before .before .over .ensures)) (c .before .before .before .before .multiply2 .ensures)) (c .before .before .before .negate2 .ensures)
+    s-more p (question (a .v)) (a .h .now) (a .s .now) (a .k) (start .pre .1 .1 .1 .1) (a .k - 1)
+    (omega (
+      arith,
+      c .before .before .before .before .before .before .before .before .before .before .before .if1 .left,
+      c .before .before .before .before .before .before .before .before .before .before .if2 .left,
+    )) refl
+    (c .before .before .before .before .before .before .before .before .multiply .result)
+    (c .before .before .before .before .before .before .before .negate .result) (c .before .before .before .before .multiply2 .result)
+    (c .before .before .before .negate2 .result) (c .before .weighted .result) (c .divide .result)
+    (c .before .before .before .before .before .before .before .before .multiply .ensures)
+    (c .before .before .before .before .before .before .before .negate .ensures)
+    (residue-same (ap (λ n. times p (question (a .v) .B) (mk p (getD (a .s .now) n 0))) (c .before .before .before .before .before .before .over .ensures))
+    (c .before .before .before .before .multiply2 .ensures)) (c .before .before .before .negate2 .ensures)
     (c .before .weighted .ensures) (c .divide .ensures)
 
 pub next-s-spec : {M : Type 1} → statement M

@@ -28,7 +28,8 @@ returns-6 c = sym (ap (valueAt (c .before .args .v)) (c .match .keys6))
 
 returns-7 : tie.Need-returns-7
 returns-7 c =
-    let seven = the-last (c .before .args .k) (search needs) (search needs) (c .match .rest .0 .0 .0 .0 .0 .1) (c .match .rest .0 .0 .0 .0 .1) (c .match .rest .0 .0 .0 .1) (c .match .rest .0 .0 .1) (c .match .rest .0 .1) (c .match .rest .1) in
+    let seven = the-last (c .before .args .k) (search needs) (search needs) (c .match .rest .0 .0 .0 .0 .0 .1) (c .match .rest .0 .0 .0 .0 .1)
+    (c .match .rest .0 .0 .0 .1) (c .match .rest .0 .0 .1) (c .match .rest .0 .1) (c .match .rest .1) in
     sym (ap (valueAt (c .before .args .v)) seven)
 
 pub header-value-spec : {M : Type 1} → statement M

@@ -30,17 +30,20 @@ header-value-requires c κs = search needs
 
 word-of-requires : tie.Need-word-of-requires Inv-loop μ-loop
 word-of-requires c κs =
-    let fits = value-fits (c .before .before .before .before .before .args .v) (c .before .before .before .before .before .pre .1) (c .before .before .before .loop .k) in
+    let fits = value-fits (c .before .before .before .before .before .args .v) (c .before .before .before .before .before .pre .1)
+    (c .before .before .before .loop .k) in
     (search needs, omega (arith, c .header-value .ensures))
 
 mul-out : tie.Need-mul-out Inv-loop μ-loop
 mul-out c =
-    let e = c .before .before .place .ensures ∙ kind-place (c .before .before .before .before .loop .k) (c .before .before .before .before .loop .inv .1) (omega arith) in
+    let e = c .before .before .place .ensures ∙ kind-place (c .before .before .before .before .loop .k) (c .before .before .before .before .loop .inv .1)
+    (omega arith) in
     omega (arith, e)
 
 slice-write-out : tie.Need-slice-write-out Inv-loop μ-loop
 slice-write-out c =
-    let e = c .before .before .place .ensures ∙ kind-place (c .before .before .before .before .loop .k) (c .before .before .before .before .loop .inv .1) (omega arith) in
+    let e = c .before .before .place .ensures ∙ kind-place (c .before .before .before .before .loop .k) (c .before .before .before .before .loop .inv .1)
+    (omega arith) in
     omega (arith, e, c .before .before .before .before .loop .inv .0, c .before .before .before .before .before .before .pre .0)
 
 add-k : tie.Need-add-k Inv-loop μ-loop
@@ -55,12 +58,14 @@ loop-again c =
     let k = c .before .before .before .before .loop .k in
     let small : k < 8 = omega arith in
     let next : k - 1 + 1 ≡ k + 1 - 1 = omega arith in
-    let w = c .word-of .ensures ∙ ap (word k) (c .before .header-value .ensures) ∙ sym (header-word (at .v) k (c .before .before .before .before .loop .inv .1) small) in (
+    let w = c .word-of .ensures ∙ ap (word k) (c .before .header-value .ensures) ∙ sym
+    (header-word (at .v) k (c .before .before .before .before .loop .inv .1) small) in (
       simp length-set (c .before .before .before .before .loop .inv .0),
       omega arith,
       omega arith,
       ap (λ (o : List ℕ). set o (c .before .before .place .result) (c .word-of .result)) (c .before .before .before .before .loop .inv .3)
-          ∙ ap₂ (λ n x. set (take (k - 1) (headerWords (at .v)) ++ drop (k - 1) (at .out .now)) n x) (c .before .before .place .ensures ∙ kind-place k (c .before .before .before .before .loop .inv .1) small) w
+          ∙ ap₂ (λ n x. set (take (k - 1) (headerWords (at .v)) ++ drop (k - 1) (at .out .now)) n x)
+          (c .before .before .place .ensures ∙ kind-place k (c .before .before .before .before .loop .inv .1) small) w
           ∙ front-more (headerWords (at .v)) (at .out .now) (k - 1) (omega arith) (omega (arith, c .before .before .before .before .before .before .pre .0))
           ∙ ap (λ n. take n (headerWords (at .v)) ++ drop n (at .out .now)) next,
     )

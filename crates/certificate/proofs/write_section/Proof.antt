@@ -20,7 +20,12 @@ abbrev μ-loop : tie.MeasureT-loop
 μ-loop k xs from out₀ i₀ i-end out i = i-end - i
 
 loop-holds : tie.Need-loop-holds Inv-loop μ-loop
-loop-holds c = (search needs, search needs, paste-zero (c .before .before .args .out .now) (c .before .before .args .from) (map (word (c .before .before .args .k)) (c .before .before .args .xs .now)))
+loop-holds c = (
+  search needs,
+  search needs,
+  paste-zero (c .before .before .args .out .now) (c .before .before .args .from)
+      (map (word (c .before .before .args .k)) (c .before .before .args .xs .now)),
+)
 
 mul-word-of : tie.Need-mul-word-of Inv-loop μ-loop
 mul-word-of c = search needs

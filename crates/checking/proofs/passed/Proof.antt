@@ -133,7 +133,8 @@ returns-3 c =
     let known = half-known judge in
     let ws = start known .args .ws .now in
     let asks = rules-ask (valuesOf Certificate ws) (gOf Certificate ws) (nOf Certificate ws) in
-    no-after (asked Certificate ws) asks (judge .judge .result) (accepted known .0) (judged-no asks (judge .judge .result) (judge .judge .ensures .judged) (c .if1 .left))
+    no-after (asked Certificate ws) asks (judge .judge .result) (accepted known .0)
+    (judged-no asks (judge .judge .result) (judge .judge .ensures .judged) (c .if1 .left))
 
 pub passed-spec : {M : Type 1} → statement M
 passed-spec =

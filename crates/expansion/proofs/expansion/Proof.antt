@@ -94,8 +94,10 @@ loop-again c =
       omega arith,
       omega (arith, length-set (loop .h) (loop .i) (r .result)),
       filled-more (F v (a .s .now)) (loop .h) (loop .i) (r .result) inside (loop .inv .3) (r .ensures),
-      two-more (v .a) (c .before .before .before .before .before .before .add .result) (2 * loop .i - 1) (2 * (loop .i + 1) - 1) (loop .y) (c .before .add3 .result) (omega arith) (c .before .before .before .before .before .before .add .ensures) (loop .inv .4) (c .before .add3 .ensures),
-      two-more (v .b) (c .before .before .before .before .before .add2 .result) (2 * loop .i - 2) (2 * (loop .i + 1) - 2) (loop .z) (c .add4 .result) (omega arith) (c .before .before .before .before .before .add2 .ensures) (loop .inv .5) (c .add4 .ensures),
+      two-more (v .a) (c .before .before .before .before .before .before .add .result) (2 * loop .i - 1) (2 * (loop .i + 1) - 1) (loop .y)
+          (c .before .add3 .result) (omega arith) (c .before .before .before .before .before .before .add .ensures) (loop .inv .4) (c .before .add3 .ensures),
+      two-more (v .b) (c .before .before .before .before .before .add2 .result) (2 * loop .i - 2) (2 * (loop .i + 1) - 2) (loop .z) (c .add4 .result)
+          (omega arith) (c .before .before .before .before .before .add2 .ensures) (loop .inv .5) (c .add4 .ensures),
     )
 
 same-length : tie.Need-same-length Inv-loop μ-loop
@@ -107,7 +109,26 @@ returns : tie.Need-returns Inv-loop μ-loop
 returns c =
     let loop = c .before .loop in
     let a = c .before .before .before .before .before .before .args in
-    residues-filled {a = expansion (Zmod (a .v .p)) (question (a .v) .A) (question (a .v) .B) (poly (a .v .p) (a .s .now))} (omega arith) (λ j l. loop .inv .3 j (omega arith))
+    residues-filled {a = expansion (Zmod (a .v .p)) (question (a .v) .A) (question (a .v) .B) (poly (a .v .p) (a .s .now))} (omega arith)
+    (λ j l. loop .inv .3 j (omega arith))
 
 pub expansion-spec : {M : Type 1} → statement M
-expansion-spec = tie.close (tie.spec Inv-loop μ-loop add-requires add-requires-2 slice-write-h loop-holds expansion-at-requires mul-h slice-write-h-2 add-requires-3 add-requires-4 add-i loop-less loop-again same-length returns)
+expansion-spec =
+    tie.close
+    (tie.spec
+    Inv-loop
+    μ-loop
+    add-requires
+    add-requires-2
+    slice-write-h
+    loop-holds
+    expansion-at-requires
+    mul-h
+    slice-write-h-2
+    add-requires-3
+    add-requires-4
+    add-i
+    loop-less
+    loop-again
+    same-length
+    returns)

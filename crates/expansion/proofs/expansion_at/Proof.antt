@@ -58,8 +58,27 @@ returns c =
     let start = c .before .before .before .before .before .before in
     let a = start .args in
     let p = a .v .p in
-    expands p (question (a .v) .A) (question (a .v) .B) (a .s .now) (a .i) (a .y) (a .z) (c .weighted .result) (omega arith) (start .pre .1 .1 .0) (start .pre .1 .1 .1)
-    (residue-same (ap (λ n. plus p (plus p (times p (mk p (2 * a .i + 1)) (mk p (getD (a .s .now) (a .i + 1) 0))) (times p (mk p (a .y)) (mk p (getD (a .s .now) (a .i - 1) 0)))) (times p (mk p (a .z)) (mk p (getD (a .s .now) n 0)))) (c .before .before .over .ensures)) (c .weighted .ensures))
+    expands p (question (a .v) .A) (question (a .v) .B) (a .s .now) (a .i) (a .y) (a .z) (c .weighted .result) (omega arith) (start .pre .1 .1 .0)
+    (start .pre .1 .1 .1)
+    (residue-same (ap (λ n. plus p (plus p (times p (mk p (2 * a .i + 1)) (mk p (getD (a .s .now) (a .i + 1) 0)))
+    (times p (mk p (a .y)) (mk p (getD (a .s .now) (a .i - 1) 0)))) (times p (mk p (a .z)) (mk p (getD (a .s .now) n 0))))
+    (c .before .before .over .ensures)) (c .weighted .ensures))
 
 pub expansion-at-spec : {M : Type 1} → statement M
-expansion-at-spec = tie.close (tie.spec cast-n mul-weighted add-weighted add-weighted-2 mul-weighted-2 shared-slice-read-weighted sub-weighted mul-weighted-3 shared-slice-read-weighted-2 over-requires mul-weighted-4 shared-slice-read-weighted-3 weighted-requires returns)
+expansion-at-spec =
+    tie.close
+    (tie.spec
+    cast-n
+    mul-weighted
+    add-weighted
+    add-weighted-2
+    mul-weighted-2
+    shared-slice-read-weighted
+    sub-weighted
+    mul-weighted-3
+    shared-slice-read-weighted-2
+    over-requires
+    mul-weighted-4
+    shared-slice-read-weighted-3
+    weighted-requires
+    returns)

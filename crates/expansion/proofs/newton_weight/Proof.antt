@@ -31,7 +31,8 @@ returns c = c .multiply .ensures
 returns-2 : tie.Need-returns-2
 returns-2 c =
     let a = c .before .before .args in
-    residue-same {x = mk (a .p) 0} (sym (ap (λ w. times (a .p) (mk (a .p) (2 * a .k)) (mk (a .p) w)) (List·getD-eq-default (a .c .now) 0 (omega arith)) ∙ Ring.mul-zero (Zmod (a .p)) _)) (residue-self 0 (omega arith))
+    residue-same {x = mk (a .p) 0} (sym (ap (λ w. times (a .p) (mk (a .p) (2 * a .k)) (mk (a .p) w)) (List·getD-eq-default (a .c .now) 0 (omega arith))
+    ∙ Ring.mul-zero (Zmod (a .p)) _)) (residue-self 0 (omega arith))
 
 pub newton-weight-spec : {M : Type 1} → statement M
 newton-weight-spec = tie.close (tie.spec cast-multiply mul-multiply mul-multiply-2 shared-slice-read-multiply multiply-requires returns returns-2)

@@ -60,8 +60,23 @@ returns-2 c =
     let start = c .before .before .before .before .before .before .before in
     let a = start .args in
     let p = a .v .p in
-    sum-more p (half (a .v)) (a .c .now) (a .s .now) (a .k) (start .pre .1 .1 .0) (start .pre .1 .0 .0) (omega arith) (c .before .before .before .newton-weight .result) (c .before .coefficient .result) (c .negate .result)
+    sum-more p (half (a .v)) (a .c .now) (a .s .now) (a .k) (start .pre .1 .1 .0) (start .pre .1 .0 .0) (omega arith)
+    (c .before .before .before .newton-weight .result) (c .before .coefficient .result) (c .negate .result)
     (c .before .before .before .newton-weight .ensures) (c .before .coefficient .ensures) (c .negate .ensures)
 
 pub power-sum-spec : {M : Type 1} → statement M
-power-sum-spec = tie.close (tie.spec sub-wide wide-requires reduce-requires returns newton-weight-requires sub-before part-before-start part-before-end sub-coefficient coefficient-requires negate-requires returns-2)
+power-sum-spec =
+    tie.close
+    (tie.spec
+    sub-wide
+    wide-requires
+    reduce-requires
+    returns
+    newton-weight-requires
+    sub-before
+    part-before-start
+    part-before-end
+    sub-coefficient
+    coefficient-requires
+    negate-requires
+    returns-2)

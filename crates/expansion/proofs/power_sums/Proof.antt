@@ -18,8 +18,15 @@ slice-aggregate-power-sums-in c = sym (length-take-le _ _ (search needs))
 power-sums-in-requires : tie.Need-power-sums-in-requires
 power-sums-in-requires c κs =
     let start = c .before .before .before .before .before in
-    let a = start .args in
-    (start .pre .0, (start .pre .1 .0, length-take-le (length (a .g .now)) (c .before .before .blank .result) (search needs) ∙ start .pre .1 .0 .count, start .pre .1 .1))
+    let a = start .args in (
+      start .pre .0,
+      (
+        start .pre .1 .0,
+        length-take-le (length (a .g .now)) (c .before .before .blank .result) (search needs)
+            ∙ start .pre .1 .0 .count,
+        start .pre .1 .1,
+      ),
+    )
 
 same-length : tie.Need-same-length
 same-length c = search needs

@@ -52,7 +52,9 @@ loop-again c =
     let inside : loop .k < length (loop .s) = omega arith in (
       simp length-set (loop .inv .0),
       omega (arith, length-set (loop .s) (loop .k) (c .power-sum .result)),
-      solved-more (at .v .p) (SumAt (Zmod (at .v .p)) (half (at .v)) (poly (at .v .p) (at .c .now))) (sum-causal (Zmod (at .v .p)) (half (at .v)) (poly (at .v .p) (at .c .now))) (loop .s) (loop .k) (c .power-sum .result) inside (loop .inv .2) (c .power-sum .ensures),
+      solved-more (at .v .p) (SumAt (Zmod (at .v .p)) (half (at .v)) (poly (at .v .p) (at .c .now)))
+          (sum-causal (Zmod (at .v .p)) (half (at .v)) (poly (at .v .p) (at .c .now))) (loop .s) (loop .k) (c .power-sum .result) inside (loop .inv .2)
+          (c .power-sum .ensures),
     )
 
 same-length : tie.Need-same-length Inv-loop μ-loop
@@ -63,8 +65,10 @@ returns c =
     let loop = c .before .loop in
     let at = c .before .before .before .before .args in
     record {
-      reduced = solved-all (at .v .p) (SumAt (Zmod (at .v .p)) (half (at .v)) (poly (at .v .p) (at .c .now))) (omega arith) (loop .s) (loop .k) (omega arith) (loop .inv .2);
-      coefficients = λ i l. sums-step (Zmod (at .v .p)) (half (at .v)) (rev (Zmod (at .v .p)) (half (at .v)) (poly (at .v .p) (at .c .now))) (poly (at .v .p) (loop .s)) (loop .k) (loop .inv .2 .equations) i (omega arith);
+      reduced = solved-all (at .v .p) (SumAt (Zmod (at .v .p)) (half (at .v)) (poly (at .v .p) (at .c .now))) (omega arith) (loop .s) (loop .k) (omega arith)
+          (loop .inv .2);
+      coefficients = λ i l. sums-step (Zmod (at .v .p)) (half (at .v)) (rev (Zmod (at .v .p)) (half (at .v)) (poly (at .v .p) (at .c .now)))
+          (poly (at .v .p) (loop .s)) (loop .k) (loop .inv .2 .equations) i (omega arith);
     }
 
 pub power-sums-from-spec : {M : Type 1} → statement M

@@ -21,8 +21,15 @@ power-sums-from-requires c κs =
     let start = c .before .before .before .before .before .before .before .before .before in
     let a = start .args in
     let back = c .before .before .before .before .reverse in
-    let len : length (back .last .1 .0) ≡ half (a .v) + 1 = back .kept .1 .0 ∙ start .pre .1 .1 in
-    (start .pre .0, (len, reversed-reduced (a .g .now) (back .last .1 .0) (half (a .v)) (start .pre .1 .0 .count) len (back .ensures) (a .v .p) (start .pre .1 .0 .reduced), omega arith))
+    let len : length (back .last .1 .0) ≡ half (a .v) + 1 = back .kept .1 .0 ∙ start .pre .1 .1 in (
+      start .pre .0,
+      (
+        len,
+        reversed-reduced (a .g .now) (back .last .1 .0) (half (a .v)) (start .pre .1 .0 .count) len (back .ensures) (a .v .p)
+            (start .pre .1 .0 .reduced),
+        omega arith,
+      ),
+    )
 
 same-length : tie.Need-same-length
 same-length c = search needs

@@ -75,14 +75,45 @@ mul-weighted-4 c =
 
 weighted-requires : tie.Need-weighted-requires
 weighted-requires c κs =
-    omega (arith, c .before .before .before .before .before .before .square-sum .ensures .below, c .before .before .before .negate .ensures .below, c .negate2 .ensures .below)
+    omega (
+      arith,
+      c .before .before .before .before .before .before .square-sum .ensures .below,
+      c .before .before .before .negate .ensures .below,
+      c .negate2 .ensures .below,
+    )
 
 returns : tie.Need-returns
 returns c =
     let a = c .before .before .before .before .before .before .before .before .before .args in
     recurrence-is (a .v .p) (question (a .v) .A) (question (a .v) .B) (a .h .now) (a .k) (omega arith)
-    (c .before .before .before .before .before .before .before .square-sum .result) (c .before .before .before .before .before .multiply .result) (c .before .before .before .before .negate .result) (c .before .before .multiply2 .result) (c .before .negate2 .result) (c .weighted .result)
-    (c .before .before .before .before .before .before .before .square-sum .ensures) (c .before .before .before .before .before .multiply .ensures) (c .before .before .before .before .negate .ensures) (c .before .before .multiply2 .ensures) (c .before .negate2 .ensures) (c .weighted .ensures)
+    (c .before .before .before .before .before .before .before .square-sum .result) (c .before .before .before .before .before .multiply .result)
+    (c .before .before .before .before .negate .result) (c .before .before .multiply2 .result) (c .before .negate2 .result) (c .weighted .result)
+    (c .before .before .before .before .before .before .before .square-sum .ensures) (c .before .before .before .before .before .multiply .ensures)
+    (c .before .before .before .before .negate .ensures) (c .before .before .multiply2 .ensures) (c .before .negate2 .ensures) (c .weighted .ensures)
 
 pub recurrence-spec : {M : Type 1} → statement M
-recurrence-spec = tie.close (tie.spec cast-n square-sum-requires sub-multiply mul-multiply shared-slice-read-multiply multiply-requires negate-requires sub-multiply-2 mul-multiply-2 shared-slice-read-multiply-2 multiply-requires-2 negate-requires-2 sub-weighted mul-weighted sub-weighted-2 mul-weighted-2 sub-weighted-3 mul-weighted-3 sub-weighted-4 mul-weighted-4 weighted-requires returns)
+recurrence-spec =
+    tie.close
+    (tie.spec
+    cast-n
+    square-sum-requires
+    sub-multiply
+    mul-multiply
+    shared-slice-read-multiply
+    multiply-requires
+    negate-requires
+    sub-multiply-2
+    mul-multiply-2
+    shared-slice-read-multiply-2
+    multiply-requires-2
+    negate-requires-2
+    sub-weighted
+    mul-weighted
+    sub-weighted-2
+    mul-weighted-2
+    sub-weighted-3
+    mul-weighted-3
+    sub-weighted-4
+    mul-weighted-4
+    weighted-requires
+    returns)

@@ -54,12 +54,20 @@ returns c =
     )
 
 add-requires-3 : tie.Need-add-requires-3 Inv-loop μ-loop
-add-requires-3 c κs =
-    (omega (arith, c .before .before .before .loop .inv .2 .below), omega (arith, c .before .before .before .before .before .before .add .ensures .below), omega arith)
+add-requires-3 c κs = (
+  omega (arith, c .before .before .before .loop .inv .2 .below),
+  omega
+      (arith, c .before .before .before .before .before .before .add .ensures .below),
+  omega arith,
+)
 
 add-requires-4 : tie.Need-add-requires-4 Inv-loop μ-loop
-add-requires-4 c κs =
-    (omega (arith, c .before .before .before .before .loop .inv .3 .below), omega (arith, c .before .before .before .before .before .before .add2 .ensures .below), omega arith)
+add-requires-4 c κs = (
+  omega (arith, c .before .before .before .before .loop .inv .3 .below),
+  omega
+      (arith, c .before .before .before .before .before .before .add2 .ensures .below),
+  omega arith,
+)
 
 add-k : tie.Need-add-k Inv-loop μ-loop
 add-k c = search needs
@@ -74,8 +82,11 @@ loop-again c =
     let found = c .before .before .before .recurs-at in (
       omega arith,
       below-more _ _ (at .inv .1) (λ l. found .ensures .0 (not-false (found .result) (c .before .before .if1 .left))),
-      two-more (v .a) (c .before .before .before .before .before .before .before .before .add .result) (2 * at .k - 3) (2 * (at .k + 1) - 3) (at .y) (c .before .add3 .result) (omega arith) (c .before .before .before .before .before .before .before .before .add .ensures) (at .inv .2) (c .before .add3 .ensures),
-      two-more (v .b) (c .before .before .before .before .before .before .before .add2 .result) (2 * at .k - 6) (2 * (at .k + 1) - 6) (at .z) (c .add4 .result) (omega arith) (c .before .before .before .before .before .before .before .add2 .ensures) (at .inv .3) (c .add4 .ensures),
+      two-more (v .a) (c .before .before .before .before .before .before .before .before .add .result) (2 * at .k - 3) (2 * (at .k + 1) - 3) (at .y)
+          (c .before .add3 .result) (omega arith) (c .before .before .before .before .before .before .before .before .add .ensures) (at .inv .2)
+          (c .before .add3 .ensures),
+      two-more (v .b) (c .before .before .before .before .before .before .before .add2 .result) (2 * at .k - 6) (2 * (at .k + 1) - 6) (at .z) (c .add4 .result)
+          (omega arith) (c .before .before .before .before .before .before .before .add2 .ensures) (at .inv .3) (c .add4 .ensures),
     )
 
 returns-2 : tie.Need-returns-2 Inv-loop μ-loop
@@ -84,4 +95,20 @@ returns-2 c =
     (λ e k l m. loop .inv .1 k (omega arith) l, λ h. refl)
 
 pub recurs-spec : {M : Type 1} → statement M
-recurs-spec = tie.close (tie.spec Inv-loop μ-loop add-requires add-requires-2 multiply-requires loop-holds recurs-at-requires returns add-requires-3 add-requires-4 add-k loop-less loop-again returns-2)
+recurs-spec =
+    tie.close
+    (tie.spec
+    Inv-loop
+    μ-loop
+    add-requires
+    add-requires-2
+    multiply-requires
+    loop-holds
+    recurs-at-requires
+    returns
+    add-requires-3
+    add-requires-4
+    add-k
+    loop-less
+    loop-again
+    returns-2)

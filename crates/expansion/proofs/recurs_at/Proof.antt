@@ -66,8 +66,28 @@ returns c =
     let start = c .before .before .before .before .before .before .before .before in
     let a = start .args in
     recurs-is (a .v .p) (question (a .v) .A) (question (a .v) .B) (a .h .now) (a .k) (omega arith) (a .y) (a .z)
-    (c .before .before .before .weighted .result) (c .before .before .square-sum .result) (c .before .negate .result) (c .weighted2 .result) (omega arith) (start .pre .1 .1 .0) (start .pre .1 .1 .1)
+    (c .before .before .before .weighted .result) (c .before .before .square-sum .result) (c .before .negate .result) (c .weighted2 .result) (omega arith)
+    (start .pre .1 .1 .0) (start .pre .1 .1 .1)
     (c .before .before .before .weighted .ensures) (c .before .before .square-sum .ensures) (c .before .negate .ensures) (c .weighted2 .ensures)
 
 pub recurs-at-spec : {M : Type 1} → statement M
-recurs-at-spec = tie.close (tie.spec cast-n mul-weighted add-weighted mul-weighted-2 shared-slice-read-weighted sub-weighted mul-weighted-3 shared-slice-read-weighted-2 sub-weighted-2 mul-weighted-4 shared-slice-read-weighted-3 weighted-requires square-sum-requires negate-requires sub-weighted-3 weighted-requires-2 returns)
+recurs-at-spec =
+    tie.close
+    (tie.spec
+    cast-n
+    mul-weighted
+    add-weighted
+    mul-weighted-2
+    shared-slice-read-weighted
+    sub-weighted
+    mul-weighted-3
+    shared-slice-read-weighted-2
+    sub-weighted-2
+    mul-weighted-4
+    shared-slice-read-weighted-3
+    weighted-requires
+    square-sum-requires
+    negate-requires
+    sub-weighted-3
+    weighted-requires-2
+    returns)

@@ -46,8 +46,11 @@ loop-less c = search needs
 loop-again : tie.Need-loop-again Inv-loop μ-loop
 loop-again c =
     let turn = c .before .before .before in
-    let at = turn .before .before .before .args in
-    (search needs, digit-1 (at .a) (at .e) (at .p) (turn .before .loop .i) (search needs) (turn .before .loop .inv .1) (c .before .before .multiply .ensures) (c .before .if2 .taken) (c .multiply2 .ensures))
+    let at = turn .before .before .before .args in (
+      search needs,
+      digit-1 (at .a) (at .e) (at .p) (turn .before .loop .i) (search needs) (turn .before .loop .inv .1) (c .before .before .multiply .ensures)
+          (c .before .if2 .taken) (c .multiply2 .ensures),
+    )
 
 loop-less-2 : tie.Need-loop-less-2 Inv-loop μ-loop
 loop-less-2 c = search needs
@@ -55,8 +58,11 @@ loop-less-2 c = search needs
 loop-again-2 : tie.Need-loop-again-2 Inv-loop μ-loop
 loop-again-2 c =
     let turn = c .before .before in
-    let at = turn .before .before .before .args in
-    (search needs, digit-0 (at .a) (at .e) (at .p) (turn .before .loop .i) (search needs) (turn .before .loop .inv .1) (c .before .multiply .ensures) (c .if2 .left))
+    let at = turn .before .before .before .args in (
+      search needs,
+      digit-0 (at .a) (at .e) (at .p) (turn .before .loop .i) (search needs) (turn .before .loop .inv .1) (c .before .multiply .ensures)
+          (c .if2 .left),
+    )
 
 returns-2 : tie.Need-returns-2 Inv-loop μ-loop
 returns-2 c =

@@ -41,5 +41,6 @@ kernel R A B d d≥1 g below leading s sums = (there, λ passes. (codomain-A R A
   where
     there : (Ã : R .Car) × (B̃ : R .Car) × Passes R A B d g Ã B̃ → Passes R A B d g (codomain-A R A B s) (codomain-B R A B s)
     there (Ã, B̃, passes) =
-        let forced : (Ã ≡ codomain-A R A B s) × (B̃ ≡ codomain-B R A B s) = codomain R (kernel-question R A B d g Ã B̃) d≥1 g (kernel-R1 R A B d g below leading Ã B̃) (passes .1) s sums in
+        let forced : (Ã ≡ codomain-A R A B s) × (B̃ ≡ codomain-B R A B s) = codomain R (kernel-question R A B d g Ã B̃) d≥1 g
+        (kernel-R1 R A B d g below leading Ã B̃) (passes .1) s sums in
         subst (λ b. Passes R A B d g (codomain-A R A B s) b) (forced .1) (subst (λ a. Passes R A B d g a B̃) (forced .0) passes)

@@ -29,6 +29,8 @@ all-before P decide (suc n) = go (all-before P decide n) (decide n)
     go (yes h) (no e) = no λ all. e (all n (omega arith))
     go (no h) d = no λ all. h λ i l. all i (omega arith)
 
-pub R3-decided : (R : CRing) → ((x y : R .Car) → Dec (x ≡ y)) → (q : Question R) (g n : Seq R) → Below R (suc (q .d)) g → Below R (suc (ℓ R q)) n → Dec (R3 R q g n)
+pub R3-decided : (R : CRing) → ((x y : R .Car) → Dec (x ≡ y)) → (q : Question R) (g n : Seq R) → Below R (suc (q .d)) g → Below R (suc (ℓ R q)) n → Dec
+    (R3 R q g n)
 R3-decided R same? q g n g-below n-below =
-    map-dec (λ h. R3-bounded R q g n g-below n-below λ i l. h i (omega arith)) (λ r3 i l. r3 i) (all-before _ (λ i. same? (left R q g n i) (right R q g n i)) (suc (3 * ℓ R q)))
+    map-dec (λ h. R3-bounded R q g n g-below n-below λ i l. h i (omega arith)) (λ r3 i l. r3 i)
+    (all-before _ (λ i. same? (left R q g n i) (right R q g n i)) (suc (3 * ℓ R q)))

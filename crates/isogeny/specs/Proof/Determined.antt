@@ -74,7 +74,8 @@ module _ (R : CRing) (q : Question R) (d≥1 : 1 ≤ q .d) where
     h-next (suc (suc (suc j))) l e =
         divide (2 * k + 3) _ _ (omega arith) (omega arith)
         (divide (k - 2) _ _ (omega arith) (omega arith)
-        (sym (mul-assoc _ _ _) ∙ a .h-more k (omega arith) l ∙ recurrence-same R A B k (omega arith) h h′ e ∙ sym (b .h-more k (omega arith) l) ∙ mul-assoc _ _ _))
+        (sym (mul-assoc _ _ _) ∙ a .h-more k (omega arith) l ∙ recurrence-same R A B k (omega arith) h h′ e ∙ sym (b .h-more k (omega arith) l)
+        ∙ mul-assoc _ _ _))
       where
         k : ℕ
         k = suc (suc (suc j))
@@ -97,7 +98,8 @@ module _ (R : CRing) (q : Question R) (d≥1 : 1 ≤ q .d) where
         i = suc j
 
         alone : (s : Seq R) → # (2 * i + 1) ⊗ s (i + 1) ≡ from-sums R A B s i ⊖ (# (2 * i - 1) ⊗ A ⊗ s (i - 1) ⊕ # (2 * i - 2) ⊗ B ⊗ s (i - 2))
-        alone s = solve3 R (λ x y z. x) (λ x y z. x :+ y :+ z :- (y :+ z)) tt (# (2 * i + 1) ⊗ s (i + 1)) (# (2 * i - 1) ⊗ A ⊗ s (i - 1)) (# (2 * i - 2) ⊗ B ⊗ s (i - 2))
+        alone s = solve3 R (λ x y z. x) (λ x y z. x :+ y :+ z :- (y :+ z)) tt (# (2 * i + 1) ⊗ s (i + 1)) (# (2 * i - 1) ⊗ A ⊗ s (i - 1))
+            (# (2 * i - 2) ⊗ B ⊗ s (i - 2))
 
     same-s : Before Car (suc d) s s′
     same-s = before-all Car (suc d) s s′ s-next

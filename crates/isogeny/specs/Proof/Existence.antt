@@ -78,7 +78,8 @@ module _ (R : CRing) (q : Question R) where
     unfolding c-step
     c-local zero a b e = refl
     c-local (suc j) a b e =
-        cc (sum-same R (λ i. s (suc i) ⊗ a (suc j - suc i)) (λ i. s (suc i) ⊗ b (suc j - suc i)) (suc j) (λ i l. ap (λ x. s (suc i) ⊗ x) (e (suc j - suc i) (omega arith))))
+        cc (sum-same R (λ i. s (suc i) ⊗ a (suc j - suc i)) (λ i. s (suc i) ⊗ b (suc j - suc i)) (suc j)
+        (λ i l. ap (λ x. s (suc i) ⊗ x) (e (suc j - suc i) (omega arith))))
 
     h-obeys : (n : ℕ) → h n ≡ h-step n h
     unfolding h
@@ -117,9 +118,11 @@ module _ (R : CRing) (q : Question R) where
       unfolding s-step
       s-expands zero l m = absurd (omega arith)
       s-expands (suc j) l m =
-          ap (λ x. # (2 * suc j + 1) ⊗ x ⊕ # (2 * suc j - 1) ⊗ A ⊗ s (suc j - 1) ⊕ # (2 * suc j - 2) ⊗ B ⊗ s (suc j - 2)) (ap s (omega arith) ∙ s-obeys (suc (suc j)))
+          ap (λ x. # (2 * suc j + 1) ⊗ x ⊕ # (2 * suc j - 1) ⊗ A ⊗ s (suc j - 1) ⊕ # (2 * suc j - 2) ⊗ B ⊗ s (suc j - 2))
+          (ap s (omega arith) ∙ s-obeys (suc (suc j)))
           ∙ ap (λ x. x ⊕ # (2 * suc j - 1) ⊗ A ⊗ s (suc j - 1) ⊕ # (2 * suc j - 2) ⊗ B ⊗ s (suc j - 2)) (undo (2 * suc j + 1) _ (omega arith) (omega arith))
-          ∙ solve3 R (λ x y z. x :- y :- z :+ y :+ z) (λ x y z. x) tt (h (suc j)) (# (2 * suc j - 1) ⊗ A ⊗ s (suc j - 1)) (# (2 * suc j - 2) ⊗ B ⊗ s (suc j - 2))
+          ∙ solve3 R (λ x y z. x :- y :- z :+ y :+ z) (λ x y z. x) tt (h (suc j)) (# (2 * suc j - 1) ⊗ A ⊗ s (suc j - 1))
+          (# (2 * suc j - 2) ⊗ B ⊗ s (suc j - 2))
 
       c-newton : (k : ℕ) → 1 ≤ k → k ≤ d → Newton R c s k
       unfolding c-step

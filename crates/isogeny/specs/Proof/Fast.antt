@@ -96,12 +96,14 @@ module _ (R : CRing) (q : Question R) (d≥1 : 1 ≤ q .d) (g : Seq R) (r1 : R1 
   Ψ-3 =
       Rec.Ψ-at R q u 3
       ∙ solve7 R
-      (λ a b ã x y w c. num 2 :* (num 3 :* (num 3 :* w) :- num 3 :* w :+ a :* (num 1 :* (num 1 :* y) :- num 1 :* y) :+ b :* (num 0 :* (num 0 :* x) :- num 0 :* x))
+      (λ a b ã x y w c. num 2 :* (num 3 :* (num 3 :* w) :- num 3 :* w :+ a :* (num 1 :* (num 1 :* y) :- num 1 :* y) :+ b :*
+      (num 0 :* (num 0 :* x) :- num 0 :* x))
       :+ (num 3 :* (w :- num 3 :* w) :+ a :* (y :- num 1 :* y)) :- num 3 :* c :- ã :* :0)
       (λ a b ã x y w c. num 6 :* w :- num 3 :* c) tt A B Ã (u 0) (u 1) (u 3) (conv R u u 3)
       ∙ ap (λ c. # 6 ⊗ u 3 ⊖ # 3 ⊗ c)
       (Rec.square-at R q u e₀ 1
-      ∙ ap (λ y. # 2 ⊗ u 3 ⊕ y) (S.conv-suc R (tail R u) (tail R u) 0 ∙ ap₂ (λ y z. y ⊗ u 2 ⊕ z) e₁ (S.conv-zero R (tail R (tail R u)) (tail R u) ∙ ap (λ y. u 2 ⊗ y) e₁)))
+      ∙ ap (λ y. # 2 ⊗ u 3 ⊕ y) (S.conv-suc R (tail R u) (tail R u) 0 ∙ ap₂ (λ y z. y ⊗ u 2 ⊕ z) e₁
+      (S.conv-zero R (tail R (tail R u)) (tail R u) ∙ ap (λ y. u 2 ⊗ y) e₁)))
       ∙ solve2 R (λ z w. num 6 :* w :- num 3 :* (num 2 :* w :+ (:0 :* z :+ z :* :0))) (λ z w. :0) tt (u 2) (u 3)
 
   -- ── from the conditions, Ψ is zero
@@ -110,7 +112,8 @@ module _ (R : CRing) (q : Question R) (d≥1 : 1 ≤ q .d) (g : Seq R) (r1 : R1 
     Ψ-more : (j : ℕ) → suc (suc (suc (suc j))) ≤ suc (ℓ R q) → Ψ R q u (suc (suc (suc (suc j)))) ≡ 𝟘
     Ψ-more j l =
         Ring.add-right-cancel R _ _ (Rec.right R q u j)
-        (R .add-comm _ _ ∙ sym (Rec.recurrence-at R q u e₀ j) ∙ sym (C.left-is R q d≥1 g r1 j) ∙ short .recurs (suc (suc (suc j))) (omega arith) (omega arith) ∙ C.right-is R q d≥1 g r1 j
+        (R .add-comm _ _ ∙ sym (Rec.recurrence-at R q u e₀ j) ∙ sym (C.left-is R q d≥1 g r1 j) ∙ short .recurs (suc (suc (suc j))) (omega arith) (omega arith)
+        ∙ C.right-is R q d≥1 g r1 j
         ∙ sym (Ring.zero-add R _))
 
     Ψ-upto : (i : ℕ) → i ≤ suc (ℓ R q) → Ψ R q u i ≡ 𝟘

@@ -100,7 +100,8 @@ module _ (R : CRing) (q : Question R) (g n : Seq R) (g-below : Below R (suc (q .
   pub R3-at : R3 R q g n → (u ^ 3 ⊕ A ⊗ u ⊕ B) ⊗ w ^ 2 ≡ N ^ 3 ⊕ Ã ⊗ N ⊗ G ^ 4 ⊕ B̃ ⊗ G ^ 6
   R3-at r3 =
       sym (left-at (left-below R q g n g-below n-below))
-      ∙ at-same R (left R q g n) (right R q g n) (suc (3 * ℓ R q), left-below R q g n g-below n-below) (suc (3 * ℓ R q), right-below R q g n g-below n-below) u (fun-ext r3)
+      ∙ at-same R (left R q g n) (right R q g n) (suc (3 * ℓ R q), left-below R q g n g-below n-below) (suc (3 * ℓ R q), right-below R q g n g-below n-below) u
+      (fun-ext r3)
       ∙ right-at (right-below R q g n g-below n-below)
 
   -- ── where g(u) is invertible
@@ -108,7 +109,8 @@ module _ (R : CRing) (q : Question R) (g n : Seq R) (g-below : Below R (suc (q .
   module _ (inverse : Inverse R G) where
     cancel-power : (k : ℕ) (y : Car) → G ^ k ⊗ y ≡ 𝟘 → y ≡ 𝟘
     cancel-power zero y e = sym (Ring.one-mul R y) ∙ ap (λ z. z ⊗ y) (sym (pow-zero R G)) ∙ e
-    cancel-power (suc k) y e = cancel-power k y (unit-cancel R G (G ^ k ⊗ y) inverse (sym (R .mul-assoc G (G ^ k) y) ∙ ap (λ z. z ⊗ y) (sym (pow-suc R G k)) ∙ e))
+    cancel-power (suc k) y e = cancel-power k y (unit-cancel R G (G ^ k ⊗ y) inverse
+        (sym (R .mul-assoc G (G ^ k) y) ∙ ap (λ z. z ⊗ y) (sym (pow-suc R G k)) ∙ e))
 
     same-quotient : (k : ℕ) (y z : Car) → y ⊗ G ^ k ≡ z ⊗ G ^ k → y ≡ z
     same-quotient k y z e =
@@ -121,10 +123,12 @@ module _ (R : CRing) (q : Question R) (g n : Seq R) (g-below : Below R (suc (q .
     push r3 v u′ v′ on image =
         Ring.sub-zero R (v′ ^ 2) (u′ ^ 3 ⊕ Ã ⊗ u′ ⊕ B̃)
         (cancel-power 6 _
-        (solve5 R (λ g x y a b. g :^ 6 :* (y :^ 2 :- (x :^ 3 :+ a :* x :+ b))) (λ g x y a b. (y :* g :^ 3) :^ 2 :- ((x :* g :^ 2) :^ 3 :+ a :* (x :* g :^ 2) :* g :^ 4 :+ b :* g :^ 6)) tt
+        (solve5 R (λ g x y a b. g :^ 6 :* (y :^ 2 :- (x :^ 3 :+ a :* x :+ b)))
+        (λ g x y a b. (y :* g :^ 3) :^ 2 :- ((x :* g :^ 2) :^ 3 :+ a :* (x :* g :^ 2) :* g :^ 4 :+ b :* g :^ 6)) tt
         G u′ v′ Ã B̃
         ∙ ap₂ (λ x y. y ^ 2 ⊖ (x ^ 3 ⊕ Ã ⊗ x ⊗ G ^ 4 ⊕ B̃ ⊗ G ^ 6)) (image .abscissa) (image .ordinate)
-        ∙ ap (λ x. x ⊖ (N ^ 3 ⊕ Ã ⊗ N ⊗ G ^ 4 ⊕ B̃ ⊗ G ^ 6)) (solve2 R (λ v w. (v :* w) :^ 2) (λ v w. v :^ 2 :* w :^ 2) tt v w ∙ ap (λ x. x ⊗ w ^ 2) on ∙ R3-at r3)
+        ∙ ap (λ x. x ⊖ (N ^ 3 ⊕ Ã ⊗ N ⊗ G ^ 4 ⊕ B̃ ⊗ G ^ 6)) (solve2 R (λ v w. (v :* w) :^ 2) (λ v w. v :^ 2 :* w :^ 2) tt v w ∙ ap (λ x. x ⊗ w ^ 2) on
+        ∙ R3-at r3)
         ∙ add-neg _))
 
     pub image-unique : (v u′ v′ u″ v″ : Car) → Image R q g n u v u′ v′ → Image R q g n u v u″ v″ → (u′ ≡ u″) × (v′ ≡ v″)

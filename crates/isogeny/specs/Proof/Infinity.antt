@@ -13,7 +13,25 @@ use Rattle.series.specs.Series.{Series, Seq, Euler, const, D, ∂}
 use Rattle.series.specs.Degree.{Below}
 use Rattle.series.specs.ConstantTerm.{cancel-first, pow-first}
 use Rattle.series.specs.Indeterminate.{ind, D-is, D-twice}
-use Rattle.series.specs.Reversal.{rev, rev-first, Reversed, r-degree, r-left, r-right, r-add, r-neg, r-mul, r-pow, r-up, r-const, r-cast, r-ind, r-down, r-D, r-same}
+use Rattle.series.specs.Reversal.{
+  rev,
+  rev-first,
+  Reversed,
+  r-degree,
+  r-left,
+  r-right,
+  r-add,
+  r-neg,
+  r-mul,
+  r-pow,
+  r-up,
+  r-const,
+  r-cast,
+  r-ind,
+  r-down,
+  r-D,
+  r-same,
+}
 use Rattle.isogeny.specs.Rules.{Question, R1, R3, ℓ, f, N, W, left, right}
 use Rattle.isogeny.specs.Proof.Degrees.{F, r-f, xW}
 use Rattle.isogeny.specs.Proof.Numerator as M
@@ -125,7 +143,8 @@ module _ (R : CRing) (q : Question R) where
         (λ x l q f g g′ g″. x :* (x :* (l :* g :^ 2 :- num 2 :* q :* g :* g′ :- num 4 :* f :* (g :* g″ :- g′ :^ 2))))
         (λ x l q f g g′ g″. x :* (x :* l) :* g :^ 2 :- num 2 :* (x :* q) :* g :* (x :* g′) :- num 4 :* f :* (g :* (x :* (x :* g″)) :- (x :* g′) :^ 2))
         tt x (# (ℓ R q) ⊗ x ⊖ κ σ) (# 3 ⊗ x ^ 2 ⊕ κ A) (f R q) g (∂ R g) (∂ R (∂ R g))
-        ∙ ap₂ (λ y z. x ⊗ (x ⊗ (# (ℓ R q) ⊗ x ⊖ κ σ)) ⊗ g ^ 2 ⊖ # 2 ⊗ (x ⊗ (# 3 ⊗ x ^ 2 ⊕ κ A)) ⊗ g ⊗ y ⊖ # 4 ⊗ f R q ⊗ (g ⊗ z ⊖ y ^ 2)) (D-is R g) (D-twice R g)
+        ∙ ap₂ (λ y z. x ⊗ (x ⊗ (# (ℓ R q) ⊗ x ⊖ κ σ)) ⊗ g ^ 2 ⊖ # 2 ⊗ (x ⊗ (# 3 ⊗ x ^ 2 ⊕ κ A)) ⊗ g ⊗ y ⊖ # 4 ⊗ f R q ⊗ (g ⊗ z ⊖ y ^ 2)) (D-is R g)
+        (D-twice R g)
 
     pub r-N : Reversed R (ℓ R q) n (u ⊗ G ^ 2)
     unfolding quot power-sums

@@ -86,7 +86,8 @@ module _ (K : CRing) (δ : Derivation K) where
     numerator lin quad F =
         ap₂ (λ s b. lin ⊗ G ^ 2 ⊖ # 2 ⊗ quad ⊗ G ⊗ s ⊖ # 4 ⊗ F ⊗ (G ⊗ b ⊖ s ^ 2)) slope-is bend-is
         ∙ solve7 K
-        (λ n G P e l q f. l :* G :^ 2 :- num 2 :* q :* G :* ((n :+ P) :* G) :- num 4 :* f :* (G :* (((n :+ P) :^ 2 :- (n :+ P) :- e) :* G) :- ((n :+ P) :* G) :^ 2))
+        (λ n G P e l q f. l :* G :^ 2 :- num 2 :* q :* G :* ((n :+ P) :* G) :- num 4 :* f :*
+        (G :* (((n :+ P) :^ 2 :- (n :+ P) :- e) :* G) :- ((n :+ P) :* G) :^ 2))
         (λ n G P e l q f. (l :- q :* (num 2 :* (n :+ P)) :+ num 2 :* f :* (num 2 :* (n :+ P) :+ num 2 :* e)) :* G :^ 2) tt
         n G P (d P) lin quad F
         ∙ ap (λ y. (lin ⊖ quad ⊗ (# 2 ⊗ (n ⊕ P)) ⊕ # 2 ⊗ F ⊗ (# 2 ⊗ (n ⊕ P) ⊕ y)) ⊗ G ^ 2) (sym (d-power 𝟘))

@@ -96,7 +96,8 @@ module _ (R : CRing) (q : Question R) (d≥1 : 1 ≤ q .d) (g : Seq R) (r1 : R1 
     terms m =
         sum-same R _ (λ j. h (suc j) ⊗ g² (m + suc j)) (2 * d - m)
         (λ j l. ap₂ _⊗_ (h-at j (omega arith))
-        (ap (λ f. f (suc (2 * d - m) - suc (suc j))) (sym (r-g² .same)) ∙ rev-sub R (2 * d) (suc (2 * d - m) - suc (suc j)) g² (omega arith) ∙ ap g² (omega arith)))
+        (ap (λ f. f (suc (2 * d - m) - suc (suc j))) (sym (r-g² .same)) ∙ rev-sub R (2 * d) (suc (2 * d - m) - suc (suc j)) g² (omega arith) ∙ ap g²
+        (omega arith)))
 
     -- the coefficient of x^m, for m up to 2 d, from ℓ - m = 2 d - m + 1 of the reversals
     inside : (m : ℕ) → m ≤ 2 * d → N R q g m ≡ conv R (ind R) g² m ⊕ sum-to R (λ i. h i ⊗ g² (m + i)) (2 * d - m)

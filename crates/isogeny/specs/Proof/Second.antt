@@ -119,13 +119,15 @@ module _ (R : CRing) (q : Question R) where
             ∙ ring (Series R) (at (Series R) (t ∷ κ A ∷ κ B ∷ κ Ã ∷ κ B̃ ∷ u ∷ D R u ∷ D R (D R u) ∷ G ∷ D R G ∷ # d ∷ []))
             ((num 3 :+ :a :* :t :^ 2) :* (:v :* :G :^ 3) :* :G
             :+ num 2 :* :F
-            :* ((num 3 :* :d :* (:v :* :G :^ 3) :- ((:u′ :- :u″) :* :G :^ 3 :+ num 3 :* :v :* :G :^ 2 :* :G′)) :* :G :- num 3 :* (:v :* :G :^ 3) :* (:d :* :G :- :G′))
+            :* ((num 3 :* :d :* (:v :* :G :^ 3) :- ((:u′ :- :u″) :* :G :^ 3 :+ num 3 :* :v :* :G :^ 2 :* :G′)) :* :G :- num 3 :* (:v :* :G :^ 3) :*
+            (:d :* :G :- :G′))
             :- num 3 :* (:1 :* (:u :* :G :^ 2) :^ 2) :- :t :* (:t :* (:1 :* (:ã :* :G :^ 4))))
             (:G :^ 4 :* :Ψ) tt
 
   pub second-zero : 1 ≤ d → (g : Seq R) → Meets R q g → second g ≡ zeros R
   second-zero d≥1 g meets =
-      r-back R (ap (λ y. reversed R q g ^ 4 ⊗ y) (Ψ-zero R q d≥1 g (meets .r1) (meets .r3)) ∙ Ring.mul-zero (Series R) _) (r-second g (meets .r1)) (r-zero R (2 * ℓ R q))
+      r-back R (ap (λ y. reversed R q g ^ 4 ⊗ y) (Ψ-zero R q d≥1 g (meets .r1) (meets .r3)) ∙ Ring.mul-zero (Series R) _) (r-second g (meets .r1))
+      (r-zero R (2 * ℓ R q))
 
   -- where g meets the rules, f′ w g + 2 f (W′ g − 3 w g′) = 3 N² + Ã g⁴
   pub tangent : 1 ≤ d → (g : Seq R) → Meets R q g

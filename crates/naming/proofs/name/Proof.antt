@@ -13,14 +13,16 @@ j-value-requires : tie.Need-j-value-requires
 j-value-requires c κs =
     let number = c .before in
     let start = number .before in
-    let yes = judged-yes (name-asks (start .args .p) (start .args .a) (start .args .b)) (number .name-number .result) (number .name-number .ensures) (c .if1 .taken) in
+    let yes = judged-yes (name-asks (start .args .p) (start .args .a) (start .args .b)) (number .name-number .result) (number .name-number .ensures)
+    (c .if1 .taken) in
     (yes .0 .prime, (le-of-lt (yes .0 .most), yes .1 .1 .0))
 
 returns : tie.Need-returns
 returns c =
     let number = c .before .before in
     let start = number .before in
-    let yes = judged-yes (name-asks (start .args .p) (start .args .a) (start .args .b)) (number .name-number .result) (number .name-number .ensures) (c .before .if1 .taken) in
+    let yes = judged-yes (name-asks (start .args .p) (start .args .a) (start .args .b)) (number .name-number .result) (number .name-number .ensures)
+    (c .before .if1 .taken) in
     (yes, (c .j-value .ensures .0, c .j-value .ensures .1))
 
 returns-2 : tie.Need-returns-2

@@ -38,7 +38,8 @@ returns-4 c =
     let three = c .before .before in
     let one = three .before .before in
     let start = one .before .before in
-    singular (start .args .p) (start .args .a) (start .args .b) (shown (one .before .prime-allowed .ensures) (one .if1 .left)) (omega (arith, three .before .if2 .left)) (omega (arith, three .if3 .left))
+    singular (start .args .p) (start .args .a) (start .args .b) (shown (one .before .prime-allowed .ensures) (one .if1 .left))
+    (omega (arith, three .before .if2 .left)) (omega (arith, three .if3 .left))
     (refuted (c .before .nonsingular .ensures) (c .if4 .taken))
 
 returns-5 : tie.Need-returns-5
@@ -46,7 +47,8 @@ returns-5 c =
     let three = c .before .before in
     let one = three .before .before in
     let start = one .before .before in
-    named (start .args .p) (start .args .a) (start .args .b) (shown (one .before .prime-allowed .ensures) (one .if1 .left)) (omega (arith, three .before .if2 .left)) (omega (arith, three .if3 .left))
+    named (start .args .p) (start .args .a) (start .args .b) (shown (one .before .prime-allowed .ensures) (one .if1 .left))
+    (omega (arith, three .before .if2 .left)) (omega (arith, three .if3 .left))
     (shown (c .before .nonsingular .ensures) (c .if4 .left))
 
 pub name-number-spec : {M : Type 1} → statement M

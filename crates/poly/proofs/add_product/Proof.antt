@@ -52,7 +52,8 @@ loop-again c =
     let loop = c .before .before .before .loop in
     let at = c .before .before .before .before .before .before .before .args in
     stored-more _ (at .out .now) (loop .out) (loop .k) (c .coefficient .result) (search needs) (loop .inv)
-    (add-product-turn (at .p) (getD (loop .out) (loop .k) 0) (c .coefficient .result) (at .out .now) (at .a .now) (at .b .now) (loop .k) (word-kept _ _ _ _ (loop .inv)) (c .coefficient .ensures))
+    (add-product-turn (at .p) (getD (loop .out) (loop .k) 0) (c .coefficient .result) (at .out .now) (at .a .now) (at .b .now) (loop .k)
+    (word-kept _ _ _ _ (loop .inv)) (c .coefficient .ensures))
 
 same-length : tie.Need-same-length Inv-loop μ-loop
 same-length c = search needs

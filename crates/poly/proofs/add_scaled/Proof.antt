@@ -61,7 +61,8 @@ loop-again c =
       search needs,
       search needs,
       stored-more _ (at .out .now) (loop .out) (loop .k) (c .plus-multiple .result) (search needs) (loop .inv .2)
-          (add-scaled-turn (at .p) (at .c) (getD (loop .out) (loop .k) 0) (c .plus-multiple .result) (at .out .now) (at .a .now) (loop .k) (word-kept _ _ _ _ (loop .inv .2)) (c .plus-multiple .ensures)),
+          (add-scaled-turn (at .p) (at .c) (getD (loop .out) (loop .k) 0) (c .plus-multiple .result) (at .out .now) (at .a .now) (loop .k)
+          (word-kept _ _ _ _ (loop .inv .2)) (c .plus-multiple .ensures)),
     )
 
 same-length : tie.Need-same-length Inv-loop μ-loop

@@ -31,7 +31,8 @@ returns : tie.Need-returns
 returns c =
     let at = c .before .before .before .before .before .before .before .args in
     let from = c .before .before .before .before .over in
-    coefficient-class (at .p) (at .a .now) (at .b .now) (at .k) (mk (at .p) (at .start)) (from .result) (c .before .before .most .result) (c .reduce .result) (c .before .span .result)
+    coefficient-class (at .p) (at .a .now) (at .b .now) (at .k) (mk (at .p) (at .start)) (from .result) (c .before .before .most .result) (c .reduce .result)
+    (c .before .span .result)
     (from .ensures) (omega arith) (c .before .span .ensures .0) (c .reduce .ensures)
 
 pub coefficient-spec : {M : Type 1} → statement M

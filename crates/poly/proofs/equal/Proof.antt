@@ -36,7 +36,8 @@ returns c =
     let at = words .before .before .before .before .before .before .args in
     λ p ha hb. (
       λ e. absurd (false≢true e),
-      λ e. absurd (c .if1 .taken (words .word .ensures ∙ same-word p (at .a .now) (at .b .now) (words .before .before .loop .i) ha hb e ∙ sym (c .before .word2 .ensures))),
+      λ e. absurd (c .if1 .taken (words .word .ensures ∙ same-word p (at .a .now) (at .b .now) (words .before .before .loop .i) ha hb e ∙ sym
+          (c .before .word2 .ensures))),
     )
 
 add-i : tie.Need-add-i Inv-loop μ-loop

@@ -39,8 +39,10 @@ loop-again c =
     let loop = c .before .before .before .loop in
     let at = c .before .before .before .before .before .args in (
       search needs,
-      upper-more (at .p) (∂ (Zmod (at .p)) (poly (at .p) (at .a .now))) (length (at .a .now)) (mk (at .p) (at .x)) (loop .i) (loop .r) (c .plus-multiple .result) (search needs) (search needs) (loop .inv .1)
-          (residue-same (ap (λ y. plus (at .p) y (times (at .p) (mk (at .p) (at .x)) (mk (at .p) (loop .r)))) (c .before .derivative-coefficient .ensures .class)) (c .plus-multiple .ensures)),
+      upper-more (at .p) (∂ (Zmod (at .p)) (poly (at .p) (at .a .now))) (length (at .a .now)) (mk (at .p) (at .x)) (loop .i) (loop .r)
+          (c .plus-multiple .result) (search needs) (search needs) (loop .inv .1)
+          (residue-same (ap (λ y. plus (at .p) y (times (at .p) (mk (at .p) (at .x)) (mk (at .p) (loop .r))))
+          (c .before .derivative-coefficient .ensures .class)) (c .plus-multiple .ensures)),
     )
 
 returns : tie.Need-returns Inv-loop μ-loop

@@ -38,7 +38,8 @@ loop-again : tie.Need-loop-again Inv-loop μ-loop
 loop-again c =
     let loop = c .before .before .loop in
     let at = c .before .before .before .before .before .before .args in
-    stored-more _ (at .out .now) (loop .out) (loop .n) (c .coefficient .result) (search needs) (loop .inv) (product-turn (at .p) (c .coefficient .result) (at .a .now) (at .b .now) (loop .n) (c .coefficient .ensures))
+    stored-more _ (at .out .now) (loop .out) (loop .n) (c .coefficient .result) (search needs) (loop .inv)
+    (product-turn (at .p) (c .coefficient .result) (at .a .now) (at .b .now) (loop .n) (c .coefficient .ensures))
 
 same-length : tie.Need-same-length Inv-loop μ-loop
 same-length c = search needs

@@ -45,7 +45,8 @@ loop-again c =
     let loop = c .before .before .before .loop in
     let at = c .before .before .before .before .before .args in
     stored-more _ (at .out .now) (loop .out) (loop .k) (c .multiply .result) (search needs) (loop .inv)
-    (scale-turn (at .p) (at .c) (getD (loop .out) (loop .k) 0) (c .multiply .result) (at .out .now) (loop .k) (word-kept _ _ _ _ (loop .inv)) (c .multiply .ensures))
+    (scale-turn (at .p) (at .c) (getD (loop .out) (loop .k) 0) (c .multiply .result) (at .out .now) (loop .k) (word-kept _ _ _ _ (loop .inv))
+    (c .multiply .ensures))
 
 same-length : tie.Need-same-length Inv-loop μ-loop
 same-length c = search needs

@@ -34,7 +34,14 @@ dot-requires : tie.Need-dot-requires Inv-loop μ-loop
 dot-requires c κs =
     let start = c .before .before .before .before .before in (
       omega arith,
-      (omega arith, (reduced-mono (start .args .a .now) (search needs) (start .pre .1 .1 .0), reduced-mono (start .args .b .now) (search needs) (start .pre .1 .1 .1))),
+      (
+        omega arith,
+        (
+          reduced-mono (start .args .a .now) (search needs) (start .pre .1 .1 .0),
+          reduced-mono (start .args .b .now) (search needs)
+              (start .pre .1 .1 .1),
+        ),
+      ),
     )
 
 add-reduce : tie.Need-add-reduce Inv-loop μ-loop
@@ -56,8 +63,10 @@ loop-again c =
       omega arith,
       omega arith,
       c .reduce .ensures .below,
-      span-turn (at .p) (at .a .now) (at .b .now) (at .k) (mk (at .p) (at .start)) (at .from) (loop .i) (loop .i + at .size) (loop .s) (c .before .dot .result) (c .reduce .result)
-          (c .reduce .ensures .class ∙ ap (λ n. mk (at .p) (n + c .before .dot .result)) (c .before .before .wide .ensures)) (loop .inv .3) (c .before .dot .ensures .0 (at .p)),
+      span-turn (at .p) (at .a .now) (at .b .now) (at .k) (mk (at .p) (at .start)) (at .from) (loop .i) (loop .i + at .size) (loop .s) (c .before .dot .result)
+          (c .reduce .result)
+          (c .reduce .ensures .class ∙ ap (λ n. mk (at .p) (n + c .before .dot .result)) (c .before .before .wide .ensures)) (loop .inv .3)
+          (c .before .dot .ensures .0 (at .p)),
     )
 
 wide-requires-2 : tie.Need-wide-requires-2 Inv-loop μ-loop
@@ -67,7 +76,14 @@ dot-requires-2 : tie.Need-dot-requires-2 Inv-loop μ-loop
 dot-requires-2 c κs =
     let start = c .before .before .before .before .before in (
       omega arith,
-      (omega arith, (reduced-mono (start .args .a .now) (search needs) (start .pre .1 .1 .0), reduced-mono (start .args .b .now) (search needs) (start .pre .1 .1 .1))),
+      (
+        omega arith,
+        (
+          reduced-mono (start .args .a .now) (search needs) (start .pre .1 .1 .0),
+          reduced-mono (start .args .b .now) (search needs)
+              (start .pre .1 .1 .1),
+        ),
+      ),
     )
 
 add-result : tie.Need-add-result Inv-loop μ-loop
@@ -77,7 +93,8 @@ returns : tie.Need-returns Inv-loop μ-loop
 returns c =
     let at = c .before .before .before .before .before .before .args in
     let loop = c .before .before .before .loop in (
-      span-turn (at .p) (at .a .now) (at .b .now) (at .k) (mk (at .p) (at .start)) (at .from) (loop .i) (at .to) (loop .s) (c .dot2 .result) (c .before .wide2 .result + c .dot2 .result)
+      span-turn (at .p) (at .a .now) (at .b .now) (at .k) (mk (at .p) (at .start)) (at .from) (loop .i) (at .to) (loop .s) (c .dot2 .result)
+          (c .before .wide2 .result + c .dot2 .result)
           (ap (λ n. mk (at .p) (n + c .dot2 .result)) (c .before .wide2 .ensures)) (loop .inv .3) (c .dot2 .ensures .0 (at .p)),
       omega arith,
     )

@@ -45,7 +45,8 @@ returns : tie.Need-returns
 returns c =
     let at = c .before .before .before .before .before .before .before .args in
     let from = c .before .before .before .before .before .over in
-    square-class (at .p) (at .a .now) (at .k) (from .result) (c .before .before .before .most .result) (c .reduce .result) (c .before .before .span .result) (c .before .middle .result)
+    square-class (at .p) (at .a .now) (at .k) (from .result) (c .before .before .before .most .result) (c .reduce .result) (c .before .before .span .result)
+    (c .before .middle .result)
     (from .ensures) (omega arith) (c .before .middle .ensures) (c .before .before .span .ensures .0) (c .reduce .ensures)
 
 pub square-coefficient-spec : {M : Type 1} → statement M

@@ -23,7 +23,8 @@ returns c =
     let at = start .args in
     let turned = c .before .before .before .negate in
     residues-same
-    (ap (sums (Zmod (at .p)) (poly (at .p) (at .out .now))) (scaled-minus (at .p) (at .c) (turned .result) (poly (at .p) (at .a .now)) (turned .ensures .class)))
+    (ap (sums (Zmod (at .p)) (poly (at .p) (at .out .now))) (scaled-minus (at .p) (at .c) (turned .result) (poly (at .p) (at .a .now))
+    (turned .ensures .class)))
     (c .before .before .add-scaled .ensures)
 
 pub subtract-scaled-spec : {M : Type 1} → statement M

@@ -19,7 +19,8 @@ add-requires-2 c κs = search needs
 returns : tie.Need-returns
 returns c =
     let start = c .before .before .before .before in
-    cubic-is (start .args .p) (start .args .a) (start .args .b) (start .args .x) (c .before .before .before .multiply .ensures) (c .before .before .add .ensures) (c .before .multiply2 .ensures) (c .add2 .ensures)
+    cubic-is (start .args .p) (start .args .a) (start .args .b) (start .args .x) (c .before .before .before .multiply .ensures)
+    (c .before .before .add .ensures) (c .before .multiply2 .ensures) (c .add2 .ensures)
 
 pub cubic-spec : {M : Type 1} → statement M
 cubic-spec =

@@ -10,7 +10,8 @@ evaluate-requires c κs = search needs
 returns : tie.Need-returns
 returns c =
     let start = c .before .before .before .before in
-    to-infinity (start .args .v) (start .pre .0) (start .args .g .now) (start .args .n .now) (start .pre .1 .0) (start .pre .1 .1) (start .args .x) (start .args .y)
+    to-infinity (start .args .v) (start .pre .0) (start .args .g .now) (start .args .n .now) (start .pre .1 .0) (start .pre .1 .1) (start .args .x)
+    (start .args .y)
     (c .before .evaluate .ensures) (c .if1 .taken)
 
 evaluate-requires-2 : tie.Need-evaluate-requires-2
@@ -43,9 +44,11 @@ returns-2 c =
     let values = square .before .before .before in
     let test = values .before in
     let start = test .before .before .before .before in
-    to-point (start .args .v) (start .pre .0) (start .args .g .now) (start .args .n .now) (start .pre .1 .0) (start .pre .1 .1) (start .args .x) (start .args .y)
+    to-point (start .args .v) (start .pre .0) (start .args .g .now) (start .args .n .now) (start .pre .1 .0) (start .pre .1 .1) (start .args .x)
+    (start .args .y)
     (test .if1 .left) (test .before .evaluate .ensures) (values .evaluate2 .ensures) (square .before .before .slope .ensures) (square .before .inverse .ensures)
-    (square .multiply .ensures) (c .before .before .before .multiply2 .ensures) (c .before .before .multiply3 .ensures) (c .before .multiply4 .ensures) (c .multiply5 .ensures)
+    (square .multiply .ensures) (c .before .before .before .multiply2 .ensures) (c .before .before .multiply3 .ensures) (c .before .multiply4 .ensures)
+    (c .multiply5 .ensures)
 
 pub image-spec : {M : Type 1} → statement M
 image-spec =

@@ -47,7 +47,8 @@ returns-2 c =
     let e = s .pre .0 .1 in
     pushed (a .ws .now) (s .pre .0 .0) (a .point) (told .0 .0) (told .0 .1 .0) (told .1) (c .image .result)
     (subst (λ v. OnDomain v (told .0 .0) (told .0 .1 .0)) e (was-yes (within .within .ensures) (c .before .if1 .taken)))
-    (of-sheet (a .ws .now) (a .v) e (s .pre .0 .0) (a .g .now) (a .n .now) (s .pre .1 .0) (s .pre .1 .1) (told .0 .0) (told .0 .1 .0) (c .image .result) (c .image .ensures))
+    (of-sheet (a .ws .now) (a .v) e (s .pre .0 .0) (a .g .now) (a .n .now) (s .pre .1 .0) (s .pre .1 .1) (told .0 .0) (told .0 .1 .0) (c .image .result)
+    (c .image .ensures))
 
 returns-3 : tie.Need-returns-3
 returns-3 c =

@@ -26,7 +26,8 @@ returns : tie.Need-returns
 returns c =
     let left = c .before .before .before .before in
     let start = left .before .before .before .before in
-    slope-is (start .args .p) (start .args .gx) (start .args .nx) _ _ (left .before .evaluate-derivative .ensures) (c .before .before .evaluate-derivative2 .ensures)
+    slope-is (start .args .p) (start .args .gx) (start .args .nx) _ _ (left .before .evaluate-derivative .ensures)
+    (c .before .before .evaluate-derivative2 .ensures)
     (left .multiply .ensures) (c .before .before .before .multiply2 .ensures) (c .before .multiply3 .ensures) (c .subtract .ensures)
 
 pub slope-spec : {M : Type 1} → statement M

@@ -93,7 +93,8 @@ returns c =
     let e₁ = second .before .before .back3 in
     let e₃ = c .before .before .back4 in
     join-is (a .v) (start .pre .0) (a .s .now) (a .t .now) (a .e .now) (a .k) (minus-σ .negate .result) (minus-a .negate2 .result) (p - 3)
-    (s₁ .result) (t₂ .result) (e₁ .result) (e₃ .result) (first .combination .result) (second .combination2 .result) (c .before .wide .result) (c .reduce .result)
+    (s₁ .result) (t₂ .result) (e₁ .result) (e₃ .result) (first .combination .result) (second .combination2 .result) (c .before .wide .result)
+    (c .reduce .result)
     (minus-σ .negate .ensures) (minus-a .negate2 .ensures)
     (mk-less {p = p} 3 (omega arith) (omega arith))
     (back-is p (a .s .now) 1 (a .k) (s₁ .result) (s₁ .ensures .0) (s₁ .ensures .1))
@@ -101,7 +102,8 @@ returns c =
     (back-is p (a .e .now) 1 (a .k) (e₁ .result) (e₁ .ensures .0) (e₁ .ensures .1))
     (back-is p (a .e .now) 3 (a .k) (e₃ .result) (e₃ .ensures .0) (e₃ .ensures .1))
     (first .combination .ensures .0
-    ∙ ap₂ (λ x y. a .v .degree * s₁ .result + minus-σ .negate .result * x + minus-a .negate2 .result * y) (words .word .ensures) (first .before .word2 .ensures))
+    ∙ ap₂ (λ x y. a .v .degree * s₁ .result + minus-σ .negate .result * x + minus-a .negate2 .result * y) (words .word .ensures)
+    (first .before .word2 .ensures))
     (second .combination2 .ensures .0 ∙ ap (λ x. (p - 3) * t₂ .result + a .v .a * e₁ .result + a .v .b * x) (second .before .word3 .ensures))
     (c .before .wide .ensures) (c .reduce .ensures)
 

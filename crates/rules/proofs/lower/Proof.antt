@@ -45,8 +45,21 @@ returns c =
     let a = c .before .before .before .before .before .before .before .args in
     lower-is (a .p) (a .s .now) (a .t .now) (a .i) (c .before .before .before .negate .result) (c .before .combination .result) (c .reduce .result)
     (residue-same (ap (λ w. minus (a .p) (mk (a .p) w)) (c .before .before .before .before .word .ensures)) (c .before .before .before .negate .ensures))
-    (c .before .combination .ensures .0 ∙ ap (λ w. 2 * (a .i + 1) * c .before .before .before .negate .result + 8 * w + 0 * 0) (c .before .before .word2 .ensures))
+    (c .before .combination .ensures .0 ∙ ap (λ w. 2 * (a .i + 1) * c .before .before .before .negate .result + 8 * w + 0 * 0)
+    (c .before .before .word2 .ensures))
     (c .reduce .ensures)
 
 pub lower-spec : {M : Type 1} → statement M
-lower-spec = tie.close (tie.spec add-word word-requires negate-requires cast-n add-n mul-combination word-requires-2 combination-requires reduce-requires returns)
+lower-spec =
+    tie.close
+    (tie.spec
+    add-word
+    word-requires
+    negate-requires
+    cast-n
+    add-n
+    mul-combination
+    word-requires-2
+    combination-requires
+    reduce-requires
+    returns)

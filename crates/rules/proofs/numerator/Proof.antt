@@ -80,4 +80,30 @@ returns : tie.Need-returns
 returns c = search needs
 
 pub numerator-spec : {M : Type 1} → statement M
-numerator-spec = tie.close (tie.spec sub-d mul-i add-i mul-j mul-k sub-k blank-requires blank-requires-2 blank-requires-3 blank-requires-4 blank-requires-5 array-borrow-prefix-s slice-aggregate-numerator-in array-borrow-prefix-t slice-aggregate-numerator-in-2 array-borrow-prefix-h slice-aggregate-numerator-in-3 array-borrow-prefix-q slice-aggregate-numerator-in-4 array-borrow-prefix-e slice-aggregate-numerator-in-5 numerator-in-requires same-length returns)
+numerator-spec =
+    tie.close
+    (tie.spec
+    sub-d
+    mul-i
+    add-i
+    mul-j
+    mul-k
+    sub-k
+    blank-requires
+    blank-requires-2
+    blank-requires-3
+    blank-requires-4
+    blank-requires-5
+    array-borrow-prefix-s
+    slice-aggregate-numerator-in
+    array-borrow-prefix-t
+    slice-aggregate-numerator-in-2
+    array-borrow-prefix-h
+    slice-aggregate-numerator-in-3
+    array-borrow-prefix-q
+    slice-aggregate-numerator-in-4
+    array-borrow-prefix-e
+    slice-aggregate-numerator-in-5
+    numerator-in-requires
+    same-length
+    returns)

@@ -36,7 +36,8 @@ returns-2 : tie.Need-returns-2
 returns-2 c =
     let at = c .before .before .before .before .before .before .args in
     let pre = c .before .before .before .before .before .before .pre in
-    one-last (at .v) (pre .0) (at .g .now) (pre .1 .count) (pre .1 .reduced) _ (c .before .minus-twice .result) (omega (arith, pre)) (c .before .before .before .if1 .left) (c .before .minus-twice .ensures)
+    one-last (at .v) (pre .0) (at .g .now) (pre .1 .count) (pre .1 .reduced) _ (c .before .minus-twice .result) (omega (arith, pre))
+    (c .before .before .before .if1 .left) (c .before .minus-twice .ensures)
 
 pub rule-one-spec : {M : Type 1} → statement M
 rule-one-spec =

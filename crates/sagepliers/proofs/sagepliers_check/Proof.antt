@@ -18,13 +18,23 @@ enum-told c = search needs
 returns : tie.Need-returns
 returns c =
     let start = c .before .before .before .before in
-    record { answer = verdict.Passes; right = subst (CheckAnswer (start .args .bytes .now)) (c .enum-told .given .1) (c .before .before .check .ensures); number = refl }
+    record {
+      answer = verdict.Passes;
+      right = subst (CheckAnswer (start .args .bytes .now)) (c .enum-told .given .1)
+          (c .before .before .check .ensures);
+      number = refl;
+    }
 
 returns-2 : tie.Need-returns-2
 returns-2 c =
     let start = c .before .before .before .before .before in
     let n = c .before .n .given in
-    record { answer = verdict.Refused (n .0 .0); right = subst (CheckAnswer (start .args .bytes .now)) (n .1) (c .before .before .before .check .ensures); number = refl }
+    record {
+      answer = verdict.Refused (n .0 .0);
+      right = subst (CheckAnswer (start .args .bytes .now)) (n .1)
+          (c .before .before .before .check .ensures);
+      number = refl;
+    }
 
 pub sagepliers-check-spec : {M : Type 1} → statement M
 sagepliers-check-spec =

@@ -18,7 +18,12 @@ abbrev μ-loop : tie.MeasureT-loop
 μ-loop ws from out₀ i₀ i-end out i = i-end - i
 
 loop-holds : tie.Need-loop-holds Inv-loop μ-loop
-loop-holds c = (search needs, search needs, filled-none (λ j v. v ≡ valueOf (getD (c .before .before .args .ws .now) (c .before .before .args .from + j) 0)) (c .before .before .args .out .now))
+loop-holds c = (
+  search needs,
+  search needs,
+  filled-none (λ j v. v ≡ valueOf (getD (c .before .before .args .ws .now) (c .before .before .args .from + j) 0))
+      (c .before .before .args .out .now),
+)
 
 add-value : tie.Need-add-value Inv-loop μ-loop
 add-value c = search needs
@@ -49,7 +54,8 @@ loop-again c =
     let at = c .before .before .before .before .before .before .args in (
       simp length-set (c .before .before .before .loop .inv .0),
       omega arith,
-      filled-more (λ j v. v ≡ valueOf (getD (at .ws .now) (at .from + j) 0)) (c .before .before .before .loop .out) (c .before .before .before .loop .i) (c .value .result) (omega (arith, c .before .before .before .loop .inv .0)) (c .before .before .before .loop .inv .2) (c .value .ensures),
+      filled-more (λ j v. v ≡ valueOf (getD (at .ws .now) (at .from + j) 0)) (c .before .before .before .loop .out) (c .before .before .before .loop .i)
+          (c .value .result) (omega (arith, c .before .before .before .loop .inv .0)) (c .before .before .before .loop .inv .2) (c .value .ensures),
     )
 
 same-length : tie.Need-same-length Inv-loop μ-loop
@@ -59,7 +65,8 @@ returns : tie.Need-returns Inv-loop μ-loop
 returns c =
     let at = c .before .before .before .before .args in
     let all : c .before .loop .i ≡ length (at .out .now) = omega arith in
-    values-filled (at .ws .now) (c .before .loop .out) (at .from) (length (at .out .now)) (c .before .loop .inv .0) (search needs) (rw all at (c .before .loop .inv .2))
+    values-filled (at .ws .now) (c .before .loop .out) (at .from) (length (at .out .now)) (c .before .loop .inv .0) (search needs)
+    (rw all at (c .before .loop .inv .2))
 
 pub coefficients-spec : {M : Type 1} → statement M
 coefficients-spec =

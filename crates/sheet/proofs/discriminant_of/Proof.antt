@@ -26,7 +26,10 @@ add-requires c κs = search needs
 
 returns : tie.Need-returns
 returns c =
-    discriminant-is (c .before .before .before .before .before .before .args .p) (c .before .before .before .before .before .before .args .a) (c .before .before .before .before .before .before .args .b) (c .before .before .before .before .before .multiply .ensures) (c .before .before .before .before .multiply2 .ensures) (c .before .before .before .multiply3 .ensures) (c .before .before .multiply4 .ensures) (c .before .multiply5 .ensures) (c .add .ensures)
+    discriminant-is (c .before .before .before .before .before .before .args .p) (c .before .before .before .before .before .before .args .a)
+    (c .before .before .before .before .before .before .args .b) (c .before .before .before .before .before .multiply .ensures)
+    (c .before .before .before .before .multiply2 .ensures) (c .before .before .before .multiply3 .ensures) (c .before .before .multiply4 .ensures)
+    (c .before .multiply5 .ensures) (c .add .ensures)
 
 pub discriminant-of-spec : {M : Type 1} → statement M
 discriminant-of-spec =

@@ -25,14 +25,16 @@ value-requires c κs = search needs
 returns : tie.Need-returns
 returns c =
     let at = c .before .before .before .before .before .args in
-    let right = c .value .ensures ∙ ap (λ n. valueOf (getD (at .ws .now) n 0)) (c .before .before .before .place .ensures) ∙ sym (entry-at (at .form) (at .kind) (at .ws .now) (search needs)) in
+    let right = c .value .ensures ∙ ap (λ n. valueOf (getD (at .ws .now) n 0)) (c .before .before .before .place .ensures) ∙ sym
+    (entry-at (at .form) (at .kind) (at .ws .now) (search needs)) in
     (right, omega (arith, c .value .ensures))
 
 returns-2 : tie.Need-returns-2
 returns-2 c =
     let at = c .before .before .before .args in
     let z : getD (at .ws .now) (c .before .place .result) 0 ≡ 0 = List·getD-eq-default (at .ws .now) 0 (c .if1 .left) in (
-      sym (entry-at (at .form) (at .kind) (at .ws .now) (search needs) ∙ ap (λ n. valueOf (getD (at .ws .now) n 0)) (sym (c .before .place .ensures)) ∙ ap valueOf z),
+      sym (entry-at (at .form) (at .kind) (at .ws .now) (search needs) ∙ ap (λ n. valueOf (getD (at .ws .now) n 0)) (sym (c .before .place .ensures))
+          ∙ ap valueOf z),
       omega arith,
     )
 

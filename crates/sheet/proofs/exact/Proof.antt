@@ -25,7 +25,8 @@ end-at : (c : tie.After-place) → c .place .result ≡ last (c .before .before 
 end-at c =
     let half = c .before in
     let start = half .before .before in
-    end-last (start .args .form) (start .args .ws .now) (half .half-degree .result) (c .place .result) (start .pre .0) (half .half-degree .ensures .0) (c .place .ensures)
+    end-last (start .args .form) (start .args .ws .now) (half .half-degree .result) (c .place .result) (start .pre .0) (half .half-degree .ensures .0)
+    (c .place .ensures)
 
 asked : (c : tie.After-place)
     → Asked6 (c .before .before .before .args .form) (c .before .before .before .args .ws .now)
@@ -34,7 +35,8 @@ asked : (c : tie.After-place)
 asked c =
     let half = c .before in
     let start = half .before .before in
-    rest (start .args .form) (start .args .ws .now) (half .half-degree .result) (c .place .result) (start .pre .0) (half .half-degree .ensures .0) (c .place .ensures)
+    rest (start .args .form) (start .args .ws .now) (half .half-degree .result) (c .place .result) (start .pre .0) (half .half-degree .ensures .0)
+    (c .place .ensures)
 
 add-if1 : tie.Need-add-if1
 add-if1 c =

@@ -24,7 +24,9 @@ has-kind-requires : tie.Need-has-kind-requires Inv-loop μ-loop
 has-kind-requires c κs = search needs
 
 returns : tie.Need-returns Inv-loop μ-loop
-returns c = says-no (λ h. refuted (c .before .has-kind .ensures) (c .if1 .taken) (asked2-stands (c .before .before .before .before .before .args .form) (c .before .before .before .before .before .args .ws .now) h (c .before .before .before .loop .k)))
+returns c = says-no (λ h. refuted (c .before .has-kind .ensures) (c .if1 .taken)
+    (asked2-stands (c .before .before .before .before .before .args .form) (c .before .before .before .before .before .args .ws .now) h
+    (c .before .before .before .loop .k)))
 
 add-k : tie.Need-add-k Inv-loop μ-loop
 add-k c = search needs
@@ -34,11 +36,16 @@ loop-less c = search needs
 
 loop-again : tie.Need-loop-again Inv-loop μ-loop
 loop-again c =
-    let at = c .before .before .before .before .before .args in
-    (omega arith, omega arith, more-from (λ j. Stands (at .form) j (at .ws .now)) 1 (c .before .before .before .loop .k) (c .before .before .before .loop .inv .2) (shown (c .before .has-kind .ensures) (c .if1 .left)))
+    let at = c .before .before .before .before .before .args in (
+      omega arith,
+      omega arith,
+      more-from (λ j. Stands (at .form) j (at .ws .now)) 1 (c .before .before .before .loop .k)
+          (c .before .before .before .loop .inv .2) (shown (c .before .has-kind .ensures) (c .if1 .left)),
+    )
 
 returns-2 : tie.Need-returns-2 Inv-loop μ-loop
-returns-2 c = says-yes (stands-asked2 (c .before .before .before .args .form) (c .before .before .before .args .ws .now) (λ j l h. c .before .loop .inv .2 j l (omega arith)))
+returns-2 c = says-yes (stands-asked2 (c .before .before .before .args .form) (c .before .before .before .args .ws .now)
+    (λ j l h. c .before .loop .inv .2 j l (omega arith)))
 
 pub headed-spec : {M : Type 1} → statement M
 headed-spec =

@@ -40,7 +40,8 @@ loop-again c =
     let at = c .before .before .before .before .before .args in (
       simp length-set (c .before .before .loop .inv .0),
       omega arith,
-      filled-more (λ j v. v ≡ wordAt (at .bytes .now) j) (c .before .before .loop .out) (c .before .before .loop .i) (c .word-at .result) (omega (arith, c .before .before .loop .inv .0)) (c .before .before .loop .inv .2) (c .word-at .ensures),
+      filled-more (λ j v. v ≡ wordAt (at .bytes .now) j) (c .before .before .loop .out) (c .before .before .loop .i) (c .word-at .result)
+          (omega (arith, c .before .before .loop .inv .0)) (c .before .before .loop .inv .2) (c .word-at .ensures),
     )
 
 same-length : tie.Need-same-length Inv-loop μ-loop

@@ -31,7 +31,8 @@ kind-requires c κs = search needs
 
 returns : tie.Need-returns Inv-loop μ-loop
 unfolding Section
-returns c = says-no (λ h. c .if1 .taken (c .before .kind .ensures ∙ h (c .before .before .before .before .loop .i) (c .before .before .before .before .loop .inv .0) (c .before .before .before .loop-test .taken) .0))
+returns c = says-no (λ h. c .if1 .taken (c .before .kind .ensures ∙ h (c .before .before .before .before .loop .i)
+    (c .before .before .before .before .loop .inv .0) (c .before .before .before .loop-test .taken) .0))
 
 mul-value : tie.Need-mul-value Inv-loop μ-loop
 mul-value c = search needs
@@ -44,7 +45,11 @@ value-requires c κs = search needs
 
 returns-2 : tie.Need-returns-2 Inv-loop μ-loop
 unfolding Section
-returns-2 c = says-no (λ h. omega (arith, h (c .before .before .before .before .before .before .before .loop .i) (c .before .before .before .before .before .before .before .loop .inv .0) (c .before .before .before .before .before .before .loop-test .taken) .1))
+returns-2 c = says-no (λ h. omega (
+  arith,
+  h (c .before .before .before .before .before .before .before .loop .i)
+      (c .before .before .before .before .before .before .before .loop .inv .0) (c .before .before .before .before .before .before .loop-test .taken) .1,
+))
 
 add-i : tie.Need-add-i Inv-loop μ-loop
 add-i c = search needs
@@ -56,7 +61,8 @@ loop-again : tie.Need-loop-again Inv-loop μ-loop
 loop-again c =
     let at = c .before .before .before .before .before .before .before .before .before .args in (
       omega arith,
-      more-from (λ j. (kindOf (getD (at .ws .now) j 0) ≡ at .k) × (valueOf (getD (at .ws .now) j 0) < at .p)) (at .from) (c .before .before .before .before .before .before .before .loop .i) (c .before .before .before .before .before .before .before .loop .inv .1)
+      more-from (λ j. (kindOf (getD (at .ws .now) j 0) ≡ at .k) × (valueOf (getD (at .ws .now) j 0) < at .p)) (at .from)
+          (c .before .before .before .before .before .before .before .loop .i) (c .before .before .before .before .before .before .before .loop .inv .1)
           (sym (c .before .before .before .before .kind .ensures) ∙ c .before .before .before .if1 .left, omega (arith, c .before .value .ensures)),
     )
 

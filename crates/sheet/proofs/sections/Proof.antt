@@ -87,7 +87,8 @@ returns-2 c =
     let start = c .before .before .before in
     let a = start .args in
     says-yes
-    (all-down (a .form) (a .d) (a .p) (a .end) (a .ws .now) (start .pre .1) (loop .k) (loop .to) (omega (arith, c .loop-test .left, loop .inv .0)) (loop .inv .2) (loop .inv .3))
+    (all-down (a .form) (a .d) (a .p) (a .end) (a .ws .now) (start .pre .1) (loop .k) (loop .to) (omega (arith, c .loop-test .left, loop .inv .0))
+    (loop .inv .2) (loop .inv .3))
 
 pub sections-spec : {M : Type 1} → statement M
 sections-spec =

@@ -37,8 +37,11 @@ returns-2 c =
     let told = c .before .read2 .given in
     let read = c .before .before .before in
     let start = read .before .before .before .before in
-    let ws = start .args .ws .now in
-    (solve-unread ws (start .args .answer .now) (omega (arith, read .before .if1 .left)) (told .0 .0) (subst (Right Question ws) (told .1) (read .read .ensures)), refl)
+    let ws = start .args .ws .now in (
+      solve-unread ws (start .args .answer .now) (omega (arith, read .before .if1 .left)) (told .0 .0)
+          (subst (Right Question ws) (told .1) (read .read .ensures)),
+      refl,
+    )
 
 same-length : tie.Need-same-length
 same-length c = search needs

@@ -52,9 +52,11 @@ returns c =
     let expansion = c .before .before .before .before .before .before .before .before .before in
     let sums = expansion .before .before .before .before .before in
     let start = sums .before .before .before .before .before in
-    completes (start .args .v) (start .args .g .now) (sums .power-sums .last .1 .1 .0) (expansion .expansion .last .1 .1 .0) (start .pre .0 .0) (start .pre .0 .1)
+    completes (start .args .v) (start .args .g .now) (sums .power-sums .last .1 .1 .0) (expansion .expansion .last .1 .1 .0) (start .pre .0 .0)
+    (start .pre .0 .1)
     (omega arith) (omega arith) (sums .power-sums .ensures) (expansion .expansion .ensures)
-    (c .before .before .before .less-multiple .ensures) (c .before .less-multiple2 .ensures) (c .before .before .before .before .before .multiply .ensures) (c .negate .ensures)
+    (c .before .before .before .less-multiple .ensures) (c .before .less-multiple2 .ensures) (c .before .before .before .before .before .multiply .ensures)
+    (c .negate .ensures)
 
 pub completed-in-spec : {M : Type 1} → statement M
 completed-in-spec =

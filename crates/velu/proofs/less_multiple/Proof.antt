@@ -15,7 +15,8 @@ subtract-requires c κs = search needs
 returns : tie.Need-returns
 returns c =
     let start = c .before .before in
-    residue-same (ap (λ z. plus (start .args .p) (mk (start .args .p) (start .args .a)) (minus (start .args .p) z)) (c .before .multiply .ensures .class)) (c .subtract .ensures)
+    residue-same (ap (λ z. plus (start .args .p) (mk (start .args .p) (start .args .a)) (minus (start .args .p) z)) (c .before .multiply .ensures .class))
+    (c .subtract .ensures)
 
 pub less-multiple-spec : {M : Type 1} → statement M
 less-multiple-spec = tie.close (tie.spec multiply-requires subtract-requires returns)

@@ -42,4 +42,17 @@ returns : tie.Need-returns
 returns c = search needs
 
 pub by-expansion-spec : {M : Type 1} → statement M
-by-expansion-spec = tie.close (tie.spec cast-n blank257-requires blank257-requires-2 add-s array-borrow-prefix-s slice-aggregate-by-expansion-in add-h array-borrow-prefix-h slice-aggregate-by-expansion-in-2 by-expansion-in-requires returns)
+by-expansion-spec =
+    tie.close
+    (tie.spec
+    cast-n
+    blank257-requires
+    blank257-requires-2
+    add-s
+    array-borrow-prefix-s
+    slice-aggregate-by-expansion-in
+    add-h
+    array-borrow-prefix-h
+    slice-aggregate-by-expansion-in-2
+    by-expansion-in-requires
+    returns)

@@ -12,8 +12,16 @@ power-sums-requires c κs =
 
 expansion-requires : tie.Need-expansion-requires
 expansion-requires c κs =
-    let start = c .before .before .before .before .before .before .before .before .before in
-    (start .pre .0 .0, (omega (arith, start .pre .0 .0 .degree), omega arith, omega (arith, start .pre .0 .0 .degree), c .before .before .before .before .power-sums .ensures .reduced))
+    let start = c .before .before .before .before .before .before .before .before .before in (
+      start .pre .0 .0,
+      (
+        omega (arith, start .pre .0 .0 .degree),
+        omega arith,
+        omega
+            (arith, start .pre .0 .0 .degree),
+        c .before .before .before .before .power-sums .ensures .reduced,
+      ),
+    )
 
 conditions-requires : tie.Need-conditions-requires
 conditions-requires c κs =
@@ -30,8 +38,11 @@ returns : tie.Need-returns
 returns c =
     let start = c .before .before .before .before .before .before .before .before .before .before .before .before .before .before in
     let a = start .args in
-    decided (a .v) (start .pre .0 .0) (start .pre .0 .1) (a .g .now) (c .before .before .before .before .before .before .before .before .before .power-sums .last .1 .1 .0) (c .before .before .before .before .expansion .last .1 .1 .0)
-    (start .pre .1 .0 .1) (omega arith) (omega arith) (c .before .before .before .before .before .before .before .before .before .power-sums .ensures) (c .before .before .before .before .expansion .ensures) (c .conditions .result) (c .conditions .ensures)
+    decided (a .v) (start .pre .0 .0) (start .pre .0 .1) (a .g .now)
+    (c .before .before .before .before .before .before .before .before .before .power-sums .last .1 .1 .0)
+    (c .before .before .before .before .expansion .last .1 .1 .0)
+    (start .pre .1 .0 .1) (omega arith) (omega arith) (c .before .before .before .before .before .before .before .before .before .power-sums .ensures)
+    (c .before .before .before .before .expansion .ensures) (c .conditions .result) (c .conditions .ensures)
 
 pub by-expansion-in-spec : {M : Type 1} → statement M
 by-expansion-in-spec = tie.close (tie.spec power-sums-requires expansion-requires conditions-requires same-length same-length-2 returns)

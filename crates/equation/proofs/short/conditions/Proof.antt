@@ -17,7 +17,8 @@ subtract-requires c κs = search needs
 returns : tie.Need-returns
 returns c =
     let a = c .before .before .before .before .before .args in
-    first-no (a .v) (a .h .now) (c .before .before .multiply .result) (c .before .subtract .result) (c .before .before .multiply .ensures) (c .before .subtract .ensures) (c .if1 .taken)
+    first-no (a .v) (a .h .now) (c .before .before .multiply .result) (c .before .subtract .result) (c .before .before .multiply .ensures)
+    (c .before .subtract .ensures) (c .if1 .taken)
 
 shared-slice-read-multiply-2 : tie.Need-shared-slice-read-multiply-2
 shared-slice-read-multiply-2 c = search needs
@@ -31,8 +32,11 @@ subtract-requires-2 c κs = search needs
 returns-2 : tie.Need-returns-2
 returns-2 c =
     let a = c .before .before .before .before .before .before .before .before .before .args in
-    second-no (a .v) (a .h .now) (c .before .before .before .before .before .before .multiply .result) (c .before .before .before .before .before .subtract .result) (c .before .before .before .before .before .before .multiply .ensures) (c .before .before .before .before .before .subtract .ensures)
-    (c .before .before .multiply2 .result) (c .before .subtract2 .result) (c .before .before .multiply2 .ensures) (c .before .subtract2 .ensures) (c .if2 .taken)
+    second-no (a .v) (a .h .now) (c .before .before .before .before .before .before .multiply .result)
+    (c .before .before .before .before .before .subtract .result) (c .before .before .before .before .before .before .multiply .ensures)
+    (c .before .before .before .before .before .subtract .ensures)
+    (c .before .before .multiply2 .result) (c .before .subtract2 .result) (c .before .before .multiply2 .ensures) (c .before .subtract2 .ensures)
+    (c .if2 .taken)
 
 recurs-requires : tie.Need-recurs-requires
 recurs-requires c κs =
@@ -43,9 +47,24 @@ returns-3 : tie.Need-returns-3
 returns-3 c =
     let start = c .before .before .before .before .before .before .before .before .before .before in
     let a = start .args in
-    all-yes (a .v) (a .h .now) (c .before .before .before .before .before .before .before .multiply .result) (c .before .before .before .before .before .before .subtract .result) (c .before .before .before .before .before .before .before .multiply .ensures) (c .before .before .before .before .before .before .subtract .ensures)
-    (c .before .before .before .multiply2 .result) (c .before .before .subtract2 .result) (c .before .before .before .multiply2 .ensures) (c .before .before .subtract2 .ensures)
+    all-yes (a .v) (a .h .now) (c .before .before .before .before .before .before .before .multiply .result)
+    (c .before .before .before .before .before .before .subtract .result) (c .before .before .before .before .before .before .before .multiply .ensures)
+    (c .before .before .before .before .before .before .subtract .ensures)
+    (c .before .before .before .multiply2 .result) (c .before .before .subtract2 .result) (c .before .before .before .multiply2 .ensures)
+    (c .before .before .subtract2 .ensures)
     (c .recurs .result) (start .pre .0) (start .pre .1) (c .before .before .before .before .before .if1 .left) (c .before .if2 .left) (c .recurs .ensures)
 
 pub conditions-spec : {M : Type 1} → statement M
-conditions-spec = tie.close (tie.spec shared-slice-read-multiply multiply-requires subtract-requires returns shared-slice-read-multiply-2 multiply-requires-2 subtract-requires-2 returns-2 recurs-requires returns-3)
+conditions-spec =
+    tie.close
+    (tie.spec
+    shared-slice-read-multiply
+    multiply-requires
+    subtract-requires
+    returns
+    shared-slice-read-multiply-2
+    multiply-requires-2
+    subtract-requires-2
+    returns-2
+    recurs-requires
+    returns-3)

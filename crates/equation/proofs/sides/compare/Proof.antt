@@ -33,7 +33,10 @@ slice-aggregate-sides-agree-2 : tie.Need-slice-aggregate-sides-agree-2
 slice-aggregate-sides-agree-2 c = simp length-take (omega arith)
 
 sides-agree-requires : tie.Need-sides-agree-requires
-sides-agree-requires c κs = (c .before .before .before .before .before .before .pre .0, (c .before .before .before .before .before .before .pre .1, simp length-take (omega (arith, c .before .before .before .before .before .before .pre))))
+sides-agree-requires c κs = (
+  c .before .before .before .before .before .before .pre .0,
+  (c .before .before .before .before .before .before .pre .1, simp length-take (omega (arith, c .before .before .before .before .before .before .pre))),
+)
 
 returns : tie.Need-returns
 returns c = search needs

@@ -23,7 +23,8 @@ returns c =
     let at = c .before .before .before .before .before .before .before .before .args in
     let e = c .before .cross in
     let blank = c .before .before .before .blank766 .result in
-    front (at .p) (e .last .1 .1 .1 .1 .0) (drop (at .k) blank) (at .k) (omega (arith, e .kept, c .before .before .before .before .before .before .before .before .pre, length-take (at .k) blank)) (e .ensures)
+    front (at .p) (e .last .1 .1 .1 .1 .0) (drop (at .k) blank) (at .k)
+    (omega (arith, e .kept, c .before .before .before .before .before .before .before .before .pre, length-take (at .k) blank)) (e .ensures)
 
 pub cross766-spec : {M : Type 1} → statement M
 cross766-spec =

@@ -9,7 +9,8 @@ returns : tie.Need-returns
 returns c =
     let v = c .args .v in record {
       reduced = reduced-cons (v .b) (v .a ∷ 0 ∷ 1 ∷ []) (c .pre .below .b)
-          (reduced-cons (v .a) (0 ∷ 1 ∷ []) (c .pre .below .a) (reduced-cons 0 (1 ∷ []) (omega arith) (reduced-cons 1 [] (omega arith) (reduced-nil (omega arith)))));
+          (reduced-cons (v .a) (0 ∷ 1 ∷ []) (c .pre .below .a)
+          (reduced-cons 0 (1 ∷ []) (omega arith) (reduced-cons 1 [] (omega arith) (reduced-nil (omega arith)))));
       same = f-words v;
     }
 

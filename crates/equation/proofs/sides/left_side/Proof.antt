@@ -86,9 +86,11 @@ returns c =
     let w = c .before .before .before .before .before .before .before .before .before .cross766 in
     let ww = c .before .before .before .before .before .before .before .square766 in
     let o = c .before .before .product in
-    left-steps (at .v) (at .g .now) (at .n .now) (take d (dg .result)) (take (2 * d + 1) (dn .result)) (take (3 * d + 1) (w .result)) (take (6 * d + 1) (ww .result))
+    left-steps (at .v) (at .g .now) (at .n .now) (take d (dg .result)) (take (2 * d + 1) (dn .result)) (take (3 * d + 1) (w .result))
+    (take (6 * d + 1) (ww .result))
     (c .before .before .before .before .before .before .cubic-words .result) (o .last .1 .1 .0) (pre .0 .1 .count) (pre .1 .count)
-    (simp length-take (omega (arith, pre))) (simp length-take (omega (arith, pre))) (simp length-take (omega (arith, pre))) (simp length-take (omega (arith, pre)))
+    (simp length-take (omega (arith, pre))) (simp length-take (omega (arith, pre))) (simp length-take (omega (arith, pre)))
+    (simp length-take (omega (arith, pre)))
     (dg .ensures) (dn .ensures) (w .ensures) (ww .ensures) (c .before .before .before .before .before .before .cubic-words .ensures) (o .ensures)
 
 pub left-side-spec : {M : Type 1} → statement M

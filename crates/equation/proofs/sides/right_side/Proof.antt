@@ -85,8 +85,34 @@ returns c =
     let h = c .before .before .before .before .before .before .before .before .before .square7662 in
     let t = c .before .before .before .before .before .before .before .square-and in
     let o = c .before .before .add-terms in
-    right-steps (at .v) (at .g .now) (at .n .now) (take (2 * d + 1) (s .result)) (take (4 * d + 1) (h .result)) (take (4 * d + 3) (t .result)) (o .last .1 .1 .1 .1 .1 .0)
+    right-steps (at .v) (at .g .now) (at .n .now) (take (2 * d + 1) (s .result)) (take (4 * d + 1) (h .result)) (take (4 * d + 3) (t .result))
+    (o .last .1 .1 .1 .1 .1 .0)
     (simp length-take (omega (arith, pre))) (simp length-take (omega (arith, pre))) (s .ensures) (h .ensures) (t .ensures) (o .ensures)
 
 pub right-side-spec : {M : Type 1} → statement M
-right-side-spec = tie.close (tie.spec sub-d mul-i add-i mul-j add-j mul-k add-k square766-requires array-share-prefix-s slice-aggregate-square766 square766-requires-2 array-share-prefix-h slice-aggregate-square-and square-and-requires array-share-prefix-s-2 slice-aggregate-add-terms array-share-prefix-h-2 slice-aggregate-add-terms-2 array-share-prefix-t slice-aggregate-add-terms-3 add-terms-requires same-length returns)
+right-side-spec =
+    tie.close
+    (tie.spec
+    sub-d
+    mul-i
+    add-i
+    mul-j
+    add-j
+    mul-k
+    add-k
+    square766-requires
+    array-share-prefix-s
+    slice-aggregate-square766
+    square766-requires-2
+    array-share-prefix-h
+    slice-aggregate-square-and
+    square-and-requires
+    array-share-prefix-s-2
+    slice-aggregate-add-terms
+    array-share-prefix-h-2
+    slice-aggregate-add-terms-2
+    array-share-prefix-t
+    slice-aggregate-add-terms-3
+    add-terms-requires
+    same-length
+    returns)

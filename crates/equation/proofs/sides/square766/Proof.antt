@@ -23,7 +23,8 @@ returns c =
     let at = c .before .before .before .before .before .args in
     let e = c .before .square in
     let blank = c .before .before .before .blank766 .result in
-    front (at .p) (e .last .1 .0) (drop (at .n) blank) (at .n) (omega (arith, e .kept, c .before .before .before .before .before .pre, length-take (at .n) blank)) (e .ensures)
+    front (at .p) (e .last .1 .0) (drop (at .n) blank) (at .n)
+    (omega (arith, e .kept, c .before .before .before .before .before .pre, length-take (at .n) blank)) (e .ensures)
 
 pub square766-spec : {M : Type 1} → statement M
 square766-spec =

@@ -54,8 +54,15 @@ loop-less c = omega (arith, half (c .before))
 
 loop-again : tie.Need-loop-again Inv-loop μ-loop
 loop-again c =
-    let at = c .before .before .loop in
-    (omega arith, omega arith, omega arith, at .inv .3, clear-more (at .d) (c .before .before .before .before .before .args .n) (at .inv .2) (at .inv .3) (at .inv .4) (c .if3 .left), omega (arith, half (c .before)))
+    let at = c .before .before .loop in (
+      omega arith,
+      omega arith,
+      omega arith,
+      at .inv .3,
+      clear-more (at .d) (c .before .before .before .before .before .args .n) (at .inv .2) (at .inv .3)
+          (at .inv .4) (c .if3 .left),
+      omega (arith, half (c .before)),
+    )
 
 returns-4 : tie.Need-returns-4 Inv-loop μ-loop
 returns-4 c =

@@ -36,7 +36,8 @@ returns-2 c =
     let kept = c .before .before .before in
     let bytes = kept .before .before .before .before .before .args .bytes .now in
     check-bytes bytes (c .check .result) (omega arith)
-    (check-long _ (c .check .result) (at-kept (λ ws. CheckRight ws (c .check .result)) (kept .before .before .blank .result) (kept .before .before .blank .ensures) (kept .keep .ensures) (c .check .ensures)))
+    (check-long _ (c .check .result) (at-kept (λ ws. CheckRight ws (c .check .result)) (kept .before .before .blank .result)
+    (kept .before .before .blank .ensures) (kept .keep .ensures) (c .check .ensures)))
 
 pub check-spec : {M : Type 1} → statement M
 check-spec =

@@ -41,9 +41,11 @@ returns-3 : tie.Need-returns-3
 returns-3 c =
     let kept = c .before .before .before .before .before .before in
     let start = kept .before .before .before .before .before .before .before in
-    kernel-bytes (start .args .bytes .now) (start .args .answer .now) (c .before .before .kernel .last .1 .0) (c .before .before .kernel .result) (omega (arith, kept .before .before .before .if2 .left))
+    kernel-bytes (start .args .bytes .now) (start .args .answer .now) (c .before .before .kernel .last .1 .0) (c .before .before .kernel .result)
+    (omega (arith, kept .before .before .before .if2 .left))
     (kernel-long _ (start .args .answer .now) (c .before .before .kernel .last .1 .0) (c .before .before .kernel .result)
-    (at-kept (λ ws. KernelRight ws (start .args .answer .now) (c .before .before .kernel .last .1 .0) (c .before .before .kernel .result)) (kept .before .before .blank .result) (kept .before .before .blank .ensures) (kept .keep .ensures)
+    (at-kept (λ ws. KernelRight ws (start .args .answer .now) (c .before .before .kernel .last .1 .0) (c .before .before .kernel .result))
+    (kept .before .before .blank .result) (kept .before .before .blank .ensures) (kept .keep .ensures)
     (c .before .before .kernel .ensures)))
 
 pub kernel-spec : {M : Type 1} → statement M

@@ -64,7 +64,8 @@ returns-4 c =
     push-bytes (start .args .bytes .now) (start .args .point) (c .push .result) (omega (arith, kept .before .before .before .if2 .left))
     (omega (arith, kept .before .before .before .before .if1 .left))
     (push-long _ (pointOf (start .args .point)) (c .push .result)
-    (at-kept (λ ws. PushRight ws (pointOf (start .args .point)) (c .push .result)) (kept .before .before .blank .result) (kept .before .before .blank .ensures) (kept .keep .ensures)
+    (at-kept (λ ws. PushRight ws (pointOf (start .args .point)) (c .push .result)) (kept .before .before .blank .result) (kept .before .before .blank .ensures)
+    (kept .keep .ensures)
     (subst (λ at. PushRight (take (kept .keep .result) (kept .keep .last .1 .0)) at (c .push .result)) (c .before .point-of .ensures) (c .push .ensures))))
 
 pub push-spec : {M : Type 1} → statement M

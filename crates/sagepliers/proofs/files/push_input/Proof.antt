@@ -33,7 +33,8 @@ returns-2 c =
     let rest : take (length bytes - 8) (drop 8 bytes) ≡ drop 8 bytes = take-all (length bytes - 8) (drop 8 bytes) (omega (arith, length-drop 8 bytes)) in
     record {
       short = λ l. absurd (omega arith);
-      long = λ l. subst (λ k. PushAnswer (drop 8 bytes) k (c .push .result)) (c .before .before .number .ensures) (subst (λ b. PushAnswer b (c .before .before .number .result) (c .push .result)) rest (c .push .ensures));
+      long = λ l. subst (λ k. PushAnswer (drop 8 bytes) k (c .push .result)) (c .before .before .number .ensures)
+          (subst (λ b. PushAnswer b (c .before .before .number .result) (c .push .result)) rest (c .push .ensures));
     }
 
 pub push-input-spec : {M : Type 1} → statement M

@@ -41,9 +41,11 @@ returns-3 : tie.Need-returns-3
 returns-3 c =
     let kept = c .before .before .before .before .before .before in
     let start = kept .before .before .before .before .before .before .before in
-    solve-bytes (start .args .bytes .now) (start .args .answer .now) (c .before .before .solve .last .1 .0) (c .before .before .solve .result) (omega (arith, kept .before .before .before .if2 .left))
+    solve-bytes (start .args .bytes .now) (start .args .answer .now) (c .before .before .solve .last .1 .0) (c .before .before .solve .result)
+    (omega (arith, kept .before .before .before .if2 .left))
     (solve-long _ (start .args .answer .now) (c .before .before .solve .last .1 .0) (c .before .before .solve .result)
-    (at-kept (λ ws. SolveRight ws (start .args .answer .now) (c .before .before .solve .last .1 .0) (c .before .before .solve .result)) (kept .before .before .blank .result) (kept .before .before .blank .ensures) (kept .keep .ensures)
+    (at-kept (λ ws. SolveRight ws (start .args .answer .now) (c .before .before .solve .last .1 .0) (c .before .before .solve .result))
+    (kept .before .before .blank .result) (kept .before .before .blank .ensures) (kept .keep .ensures)
     (c .before .before .solve .ensures)))
 
 pub solve-spec : {M : Type 1} → statement M
