@@ -1,11 +1,11 @@
-/* Sagepliers: normalized isogenies of odd degree over a prime field. The C entries of the library.
+/* Sagepliers: isogenies between elliptic curves over prime fields, normalized and of odd degree. The C entries of the library.
  *
  * Isogenies. The domain is y^2 = x^3 + A x + B over the field of p elements, the codomain y^2 = x^3 + A~ x + B~, and the degree l is odd. An isogeny is
  * given by two polynomials: the kernel polynomial g, of degree d = (l - 1)/2, whose roots are the abscissas of the kernel, and the numerator N. It takes
- * (x, y) to (F, y F') with F = N/g^2; that no other factor stands before F' is what normalized means. sigma is the sum of the abscissas, each root of g
- * counted twice.
+ * (x, y) to (F, y F') with F = N/g^2; that no other factor stands before F' is what normalized means. sigma is twice the sum of the
+ * roots of g, since a root is the abscissa of a point and of its negative.
  *
- * Words and sheets. A word has 32 bits: the top four are its kind, the low 28 its value. Kinds: 1 p, 2 A, 3 B, 4 A~, 5 B~, 6 l, 7 sigma, 8 a coefficient
+ * Words and sheets. A word has 32 bits, four of kind above 28 of value. Kinds: 1 p, 2 A, 3 B, 4 A~, 5 B~, 6 l, 7 sigma, 8 a coefficient
  * of g, 9 a coefficient of N, 15 the end, with value 0. A sheet is a run of words:
  *    question      kinds 1 to 7, end                                              8 words
  *    certificate   kinds 1 to 7, d + 1 words of kind 8, 2 d + 2 of kind 9, end    3 d + 11 words, at most SAGEPLIERS_ROOM
@@ -19,9 +19,9 @@
  *    3  p is a prime from 11 to 2^28 - 1
  *    4  the degree l is odd, from 3 to 255, with 2 l - 1 < p
  *    5  the curve values, and sigma where it stands, are below p
- *    6  the remaining words are exactly those of the sheet: coefficients below p, an end with value 0, nothing after
+ *    6  behind these words is what the form has and nothing else: coefficients below p, then an end with value 0
  *    7  no curve on the sheet is singular
- *    8  g has degree d and leading coefficient 1, and sigma is that of g (rule R1); of a kernel sheet only the leading coefficient is asked
+ *    8  g is monic of degree d, and sigma is that of g (rule R1); of a kernel sheet only the leading coefficient is asked
  *    9  N is that of g: N = (l x - sigma) g^2 - 2 (3 x^2 + A) g g' - 4 f (g g'' - g'^2), where f = x^3 + A x + B (rule R2)
  *   10  f (N' g - 2 N g')^2 = N^3 + A~ N g^4 + B~ g^6 (rule R3)
  *   11  there is an answer: a g that meets the rules (solve), a codomain that is not singular and meets rule R3 (kernel)

@@ -38,7 +38,8 @@ fn by_expansion_in(v: Values, g: &[u32], s: &mut [u32], h: &mut [u32]) -> bool
     requires { ⌜ (Ready v) × (3 * v .degree - 3 < v .p) ⌝ }
     requires { ⌜ HoldsG v (now g) × R1 (Zmod (v .p)) (question v) (poly (v .p) (now g)) ⌝ }
     requires { ⌜ (length (now s) ≡ v .degree + 2) × (length (now h) ≡ v .degree + 1) ⌝ }
-    ensures { λ r. ⌜ (r ≡ true) ↔ (R3 (Zmod (v .p)) (question v) (poly (v .p) (now (g .entry))) (N (Zmod (v .p)) (question v) (poly (v .p) (now (g .entry))))) ⌝ }
+    ensures { λ r. ⌜ (r ≡ true) ↔ (R3 (Zmod (v .p)) (question v) (poly (v .p) (now (g .entry)))
+        (N (Zmod (v .p)) (question v) (poly (v .p) (now (g .entry))))) ⌝ }
 {
     expansion::power_sums(v, g, s);
     expansion::expansion(v, s, h);
@@ -49,7 +50,8 @@ fn by_expansion_in(v: Values, g: &[u32], s: &mut [u32], h: &mut [u32]) -> bool
 pub fn by_expansion(v: Values, g: &[u32]) -> bool
     requires { ⌜ (Ready v) × (3 * v .degree - 3 < v .p) ⌝ }
     requires { ⌜ HoldsG v (now g) × R1 (Zmod (v .p)) (question v) (poly (v .p) (now g)) ⌝ }
-    ensures { λ r. ⌜ (r ≡ true) ↔ (R3 (Zmod (v .p)) (question v) (poly (v .p) (now (g .entry))) (N (Zmod (v .p)) (question v) (poly (v .p) (now (g .entry))))) ⌝ }
+    ensures { λ r. ⌜ (r ≡ true) ↔ (R3 (Zmod (v .p)) (question v) (poly (v .p) (now (g .entry)))
+        (N (Zmod (v .p)) (question v) (poly (v .p) (now (g .entry))))) ⌝ }
 {
     let n = v.degree as usize;
     let mut s = blank257();

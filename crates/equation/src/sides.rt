@@ -59,7 +59,8 @@ fn square_and(n: &[u32], h: &[u32], k: usize, a: u32, p: u32) -> [u32; 766]
 // out = b h s + n t
 fn add_terms(n: &[u32], s: &[u32], h: &[u32], t: &[u32], b: u32, out: &mut [u32], p: u32)
     requires { ⌜ (0 < p) × (p ≤ 2 ^ 28) × (Reduced p (now n)) × (Reduced p (now s)) × (Reduced p (now h)) × (Reduced p (now t)) ⌝ }
-    ensures { λ _. ⌜ Residues p (sums (Zmod p) (scaled (Zmod p) (mk p b) (conv (Zmod p) (poly p (now (h .entry))) (poly p (now (s .entry))))) (conv (Zmod p) (poly p (now (n .entry))) (poly p (now (t .entry))))) (now (out .exit)) ⌝ }
+    ensures { λ _. ⌜ Residues p (sums (Zmod p) (scaled (Zmod p) (mk p b) (conv (Zmod p) (poly p (now (h .entry))) (poly p (now (s .entry)))))
+        (conv (Zmod p) (poly p (now (n .entry))) (poly p (now (t .entry))))) (now (out .exit)) ⌝ }
 {
     poly::product(h, s, out, p);
     poly::scale(out, b, p);
@@ -85,7 +86,8 @@ fn right_side(v: Values, g: &[u32], n: &[u32], out: &mut [u32])
 // w = n′g - 2ng′, where dg is to be g′ and dn n′.
 fn cross(g: &[u32], n: &[u32], dg: &[u32], dn: &[u32], w: &mut [u32], p: u32)
     requires { ⌜ (11 ≤ p) × (p ≤ 2 ^ 28) × (Reduced p (now g)) × (Reduced p (now n)) × (Reduced p (now dg)) × (Reduced p (now dn)) ⌝ }
-    ensures { λ _. ⌜ Residues p (crossed (Zmod p) (poly p (now (g .entry))) (poly p (now (n .entry))) (poly p (now (dg .entry))) (poly p (now (dn .entry)))) (now (w .exit)) ⌝ }
+    ensures { λ _. ⌜ Residues p (crossed (Zmod p) (poly p (now (g .entry))) (poly p (now (n .entry)))
+        (poly p (now (dg .entry))) (poly p (now (dn .entry)))) (now (w .exit)) ⌝ }
 {
     poly::product(n, dg, w, p);
     poly::scale(w, p - 2, p);
@@ -95,7 +97,8 @@ fn cross(g: &[u32], n: &[u32], dg: &[u32], dn: &[u32], w: &mut [u32], p: u32)
 // The k coefficients of the same.
 fn cross766(g: &[u32], n: &[u32], dg: &[u32], dn: &[u32], k: usize, p: u32) -> [u32; 766]
     requires { ⌜ (11 ≤ p) × (p ≤ 2 ^ 28) × (Reduced p (now g)) × (Reduced p (now n)) × (Reduced p (now dg)) × (Reduced p (now dn)) × (k ≤ 766) ⌝ }
-    ensures { λ r. ⌜ Residues p (crossed (Zmod p) (poly p (now (g .entry))) (poly p (now (n .entry))) (poly p (now (dg .entry))) (poly p (now (dn .entry)))) (take k r) ⌝ }
+    ensures { λ r. ⌜ Residues p (crossed (Zmod p) (poly p (now (g .entry))) (poly p (now (n .entry)))
+        (poly p (now (dg .entry))) (poly p (now (dn .entry)))) (take k r) ⌝ }
 {
     let mut r = blank766();
     cross(g, n, dg, dn, &mut r[..k], p);

@@ -190,7 +190,8 @@ fn recurs_at(v: Values, h: &[u32], k: usize, y: u32, z: u32) -> bool
 pub fn recurs(v: Values, h: &[u32]) -> bool
     requires { ⌜ Ready v ⌝ }
     requires { ⌜ (length (now h) ≤ 1024) × Reduced (v .p) (now h) ⌝ }
-    ensures { λ r. ⌜ (r ≡ true) ↔ ((k : ℕ) → 3 ≤ k → k < length (now (h .entry)) → Recurs (Zmod (v .p)) (question v .A) (question v .B) (poly (v .p) (now (h .entry))) k) ⌝ }
+    ensures { λ r. ⌜ (r ≡ true) ↔ ((k : ℕ) → 3 ≤ k → k < length (now (h .entry)) →
+        Recurs (Zmod (v .p)) (question v .A) (question v .B) (poly (v .p) (now (h .entry))) k) ⌝ }
 {
     let p = v.p;
     let a = field::add(v.a, v.a, p);

@@ -62,7 +62,8 @@ fn span(
     requires { ⌜ (start < p) × (p ≤ 2 ^ 28) × (0 < size) × (size ≤ 256) ⌝ }
     requires { ⌜ (from ≤ to) × (to ≤ max from (length (now a))) × (to ≤ k + 1) × (k < from + length (now b)) × (k < 2 ^ 63) ⌝ }
     requires { ⌜ (Reduced p (now a)) × (Reduced p (now b)) ⌝ }
-    ensures { λ r. ⌜ plus p (partial p (now (a .entry)) (now (b .entry)) k from) (mk p r) ≡ plus p (mk p start) (partial p (now (a .entry)) (now (b .entry)) k to) ⌝ }
+    ensures { λ r. ⌜ plus p (partial p (now (a .entry)) (now (b .entry)) k from) (mk p r)
+        ≡ plus p (mk p start) (partial p (now (a .entry)) (now (b .entry)) k to) ⌝ }
     ensures { λ r. ⌜ r < 2 ^ 28 + size * 72057593501057025 ⌝ }
 {
     let mut s = start;
@@ -102,7 +103,8 @@ pub fn product(a: &[u32], b: &[u32], out: &mut [u32], p: u32)
 pub fn add_product(a: &[u32], b: &[u32], out: &mut [u32], p: u32)
     requires { ⌜ (0 < p) × (p ≤ 2 ^ 28) ⌝ }
     requires { ⌜ (Reduced p (now a)) × (Reduced p (now b)) × (Reduced p (now out)) ⌝ }
-    ensures { λ _. ⌜ Residues p (sums (Zmod p) (poly p (now (out .entry))) (conv (Zmod p) (poly p (now (a .entry))) (poly p (now (b .entry))))) (now (out .exit)) ⌝ }
+    ensures { λ _. ⌜ Residues p (sums (Zmod p) (poly p (now (out .entry)))
+        (conv (Zmod p) (poly p (now (a .entry))) (poly p (now (b .entry))))) (now (out .exit)) ⌝ }
 {
     let mut k = 0;
     while k < out.len() {
@@ -177,7 +179,8 @@ pub fn add_scaled(out: &mut [u32], a: &[u32], c: u32, p: u32)
 // out = out - c a
 pub fn subtract_scaled(out: &mut [u32], a: &[u32], c: u32, p: u32)
     requires { ⌜ (c < p) × (Reduced p (now out)) ⌝ }
-    ensures { λ _. ⌜ Residues p (sums (Zmod p) (poly p (now (out .entry))) (negs (Zmod p) (scaled (Zmod p) (mk p c) (poly p (now (a .entry)))))) (now (out .exit)) ⌝ }
+    ensures { λ _. ⌜ Residues p (sums (Zmod p) (poly p (now (out .entry)))
+        (negs (Zmod p) (scaled (Zmod p) (mk p c) (poly p (now (a .entry)))))) (now (out .exit)) ⌝ }
 {
     add_scaled(out, a, field::negate(c, p), p)
 }

@@ -73,7 +73,8 @@ fn back(a: &[u32], j: usize, k: usize) -> u32
 // The coefficient k of (ℓx - σ)s - (3x² + A)t + f e, with one remainder.
 fn join(v: Values, s: &[u32], t: &[u32], e: &[u32], k: usize) -> u32
     requires { ⌜ (Ready v) × (Reduced (v .p) (now s)) × (Reduced (v .p) (now t)) × (Reduced (v .p) (now e)) ⌝ }
-    ensures { λ r. ⌜ Residue (v .p) (joined (Zmod (v .p)) (question v) (poly (v .p) (now (s .entry))) (poly (v .p) (now (t .entry))) (poly (v .p) (now (e .entry))) k) r ⌝ }
+    ensures { λ r. ⌜ Residue (v .p) (joined (Zmod (v .p)) (question v) (poly (v .p) (now (s .entry)))
+        (poly (v .p) (now (t .entry))) (poly (v .p) (now (e .entry))) k) r ⌝ }
 {
     let p = v.p;
     let minus_sigma = field::negate(v.sigma, p);
@@ -100,7 +101,8 @@ fn join(v: Values, s: &[u32], t: &[u32], e: &[u32], k: usize) -> u32
 // out = (ℓx - σ)s - (3x² + A)t + f e
 fn join_all(v: Values, s: &[u32], t: &[u32], e: &[u32], out: &mut [u32])
     requires { ⌜ (Ready v) × (Reduced (v .p) (now s)) × (Reduced (v .p) (now t)) × (Reduced (v .p) (now e)) ⌝ }
-    ensures { λ _. ⌜ Residues (v .p) (joined (Zmod (v .p)) (question v) (poly (v .p) (now (s .entry))) (poly (v .p) (now (t .entry))) (poly (v .p) (now (e .entry)))) (now (out .exit)) ⌝ }
+    ensures { λ _. ⌜ Residues (v .p) (joined (Zmod (v .p)) (question v) (poly (v .p) (now (s .entry)))
+        (poly (v .p) (now (t .entry))) (poly (v .p) (now (e .entry)))) (now (out .exit)) ⌝ }
 {
     let mut k = 0;
     while k < out.len() {

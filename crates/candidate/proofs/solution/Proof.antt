@@ -44,17 +44,18 @@ fill-s-requires : tie.Need-fill-s-requires
 fill-s-requires c κs =
     let second = c .before .before .before .before .before in
     let first = inverted second in
-    let a = start first .args in
+    let begin = start first in
+    let a = begin .args in
     let table = first .inverses in
     let h = second .fill-h in (
-      start first .pre .0,
+      begin .pre .0,
       (
-        (table .ensures, omega (arith, table .kept .0)),
+        (table .ensures, omega (arith, begin .pre, table .kept .0)),
         (
-          omega (arith, h .kept .1 .1 .0),
-          solved-all (a .v .p) (HAt (Zmod (a .v .p)) (question (a .v))) (omega arith) (h .last .1 .1 .0) (length (a .h .now))
-              (omega (arith, h .kept .1 .1 .0)) (h .ensures),
-          omega arith,
+          omega (arith, begin .pre, h .kept .1 .1 .0),
+          solved-all (a .v .p) (HAt (Zmod (a .v .p)) (question (a .v))) (omega (arith, begin .pre)) (h .last .1 .1 .0) (length (a .h .now))
+              (omega (arith, begin .pre, h .kept .1 .1 .0)) (h .ensures),
+          omega (arith, begin .pre),
         ),
       ),
     )
@@ -64,18 +65,19 @@ fill-c-requires c κs =
     let third = c .before .before .before .before .before in
     let second = with-h third in
     let first = inverted second in
-    let a = start first .args in
+    let begin = start first in
+    let a = begin .args in
     let table = first .inverses in
     let h = second .fill-h in
     let s = third .fill-s in (
-      start first .pre .0,
+      begin .pre .0,
       (
-        (table .ensures, omega (arith, table .kept .0)),
+        (table .ensures, omega (arith, begin .pre, table .kept .0)),
         (
-          omega (arith, s .kept .1 .1 .1 .0),
-          solved-all (a .v .p) (SAt (Zmod (a .v .p)) (question (a .v)) (poly (a .v .p) (h .last .1 .1 .0))) (omega arith) (s .last .1 .1 .1 .0)
-              (length (a .s .now)) (omega (arith, s .kept .1 .1 .1 .0)) (s .ensures),
-          omega arith,
+          omega (arith, begin .pre, s .kept .1 .1 .1 .0),
+          solved-all (a .v .p) (SAt (Zmod (a .v .p)) (question (a .v)) (poly (a .v .p) (h .last .1 .1 .0))) (omega (arith, begin .pre)) (s .last .1 .1 .1 .0)
+              (length (a .s .now)) (omega (arith, begin .pre, s .kept .1 .1 .1 .0)) (s .ensures),
+          omega (arith, begin .pre),
         ),
       ),
     )
