@@ -260,9 +260,8 @@ enum status command_check(int argc, char **argv)
     call->jobs = 1;
     call->walk.found = gather;
     call->walk.context = call;
-    begin_options(&call->options, argc);
     enum status status = FAILED;
-    if (argp_parse(&argp, argc, argv, 0, NULL, call) == 0) {
+    if (take_options(&argp, argc, argv, call, &call->options)) {
         if (call->jobs == 0) {
             long processors = sysconf(_SC_NPROCESSORS_ONLN);
             call->jobs = processors < 1 ? 1 : processors > MOST_JOBS ? MOST_JOBS : (size_t)processors;

@@ -60,10 +60,7 @@ enum status command_name(int argc, char **argv)
                               "Prints the j-value of the curve y^2 = x^3 + A*x + B over the field of P elements.\v"
                               "A negative number stands for itself plus P.",
                               NULL, NULL, NULL};
-    begin_options(&call.options, argc);
-    enum status status = FAILED;
-    if (argp_parse(&argp, argc, argv, 0, NULL, &call) == 0)
-        status = answer(&call);
+    enum status status = take_options(&argp, argc, argv, &call, &call.options) ? answer(&call) : FAILED;
     end_options(&call.options);
     return status;
 }

@@ -22,9 +22,10 @@ error_t common_option(int key, char *argument, struct argp_state *state, struct 
     }
 }
 
-void begin_options(struct options *options, int argc)
+bool take_options(const struct argp *argp, int argc, char **argv, void *call, struct options *options)
 {
     options->arguments = need(calloc((size_t)argc + 1, sizeof *options->arguments));
+    return argp_parse(argp, argc, argv, 0, NULL, call) == 0;
 }
 
 void end_options(struct options *options)

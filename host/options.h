@@ -27,8 +27,8 @@ struct options {
 /* Takes the options above and gathers the arguments; ends the program with a message if a word is wrong. */
 error_t common_option(int key, char *argument, struct argp_state *state, struct options *options);
 
-/* Room for the arguments, to be made before they are taken and released after. */
-void begin_options(struct options *options, int argc);
+/* Takes the command line: argp's parser gets the call, of which the options are a part. False if argp cannot; the arguments are there until end_options. */
+bool take_options(const struct argp *argp, int argc, char **argv, void *call, struct options *options);
 void end_options(struct options *options);
 
 #endif

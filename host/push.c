@@ -141,10 +141,7 @@ enum status command_push(int argc, char **argv)
                               "FILE may be `-' for standard input. A POINT is two numbers U V, or the word infinity; a negative number stands for itself plus "
                               "the certificate's P.",
                               NULL, NULL, NULL};
-    begin_options(&call.options, argc);
-    enum status status = FAILED;
-    if (argp_parse(&argp, argc, argv, 0, NULL, &call) == 0 && call.taken)
-        status = answer(&call);
+    enum status status = take_options(&argp, argc, argv, &call, &call.options) && call.taken ? answer(&call) : FAILED;
     end_options(&call.options);
     free(call.points);
     free(call.sheet);

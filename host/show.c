@@ -73,10 +73,7 @@ enum status command_show(int argc, char **argv)
                               "The sheet is in FILE or, without arguments, in standard input, or is given by its values in their order. With -o it is written "
                               "as bytes, whatever it was written as. Status 1 means that it is neither question nor certificate nor kernel sheet.",
                               NULL, NULL, NULL};
-    begin_options(&call.options, argc);
-    enum status status = FAILED;
-    if (argp_parse(&argp, argc, argv, 0, NULL, &call) == 0 && call.taken)
-        status = answer(&call);
+    enum status status = take_options(&argp, argc, argv, &call, &call.options) && call.taken ? answer(&call) : FAILED;
     end_options(&call.options);
     free(call.sheet);
     return status;

@@ -53,10 +53,7 @@ static enum status run(int argc, char **argv, const struct service *service, con
 {
     struct call call = {.service = service, .sheet = need(malloc(sizeof *call.sheet))};
     const struct argp argp = {option_table, parse, args, doc, NULL, NULL, NULL};
-    begin_options(&call.options, argc);
-    enum status status = FAILED;
-    if (argp_parse(&argp, argc, argv, 0, NULL, &call) == 0 && call.taken)
-        status = answer(&call);
+    enum status status = take_options(&argp, argc, argv, &call, &call.options) && call.taken ? answer(&call) : FAILED;
     end_options(&call.options);
     free(call.sheet);
     return status;
