@@ -11,6 +11,7 @@ set -eu
 here=$(pwd)
 cd "$(dirname "$0")"
 . ./environment.sh
+. ./marked.sh
 cd ..
 root=$(pwd)
 CC=${CC:-gcc}
@@ -165,10 +166,6 @@ host=$prefix/share/doc/sagepliers/examples/host.c
         fail "host.c does not build with sanitizers"
 }
 
-header='100003f1 20000001 30000003 40000109 5000036d 60000003 7000002e'
-first="$header 800003da 80000001 900003b5 900002a6 900003c3 90000001 f0000000"
-# p = 11: (0, 1) to (0, 6), g = x, N = x^3 + 4
-over_11='1000000b 20000000 30000001 40000000 50000006 60000003 70000000 80000000 80000001 90000004 90000000 90000000 90000001 f0000000'
 # shellcheck disable=SC2086
 {
     sheet $header f0000000 >question.bin
@@ -259,28 +256,9 @@ runs 1 'the certificate passes
 (1008, 1) goes to (617, 44)' first.bin 1008 2 1009 1 1008 1
 
 step "host, verify and push: refused certificates, by document 01's questions"
-g='800003da 80000001'
-n='900003b5 900002a6 900003c3 90000001'
+each_refused refused
 # shellcheck disable=SC2086
-{
-    refused 2 200003f1 20000001 30000003 40000109 5000036d 60000003 7000002e $g $n f0000000 # the first word of another kind
-    refused 2 100003f1 20000001 30000003 40000109 5000036d 60000003                        # no seven words
-    refused 3 100003e9 20000001 30000003 40000109 5000036d 60000003 7000002e $g $n f0000000 # p = 1001
-    refused 4 100003f1 20000001 30000003 40000109 5000036d 60000006 7000002e $g $n f0000000 # l = 6
-    refused 4 1000000b 20000000 30000001 40000000 50000006 60000007 70000000 f0000000       # p = 11 with l = 7
-    refused 6 1000000b 20000000 30000001 40000000 50000006 60000005 70000000 f0000000       # p = 11 with l = 5 passes question 4
-    refused 5 100003f1 200003f1 30000003 40000109 5000036d 60000003 7000002e $g $n f0000000 # A = p
-    refused 6 $header $g $n                                                                # no end
-    refused 6 $header $g $n f0000001                                                       # an end with value 1
-    refused 6 $header $g $n f0000000 f0000000                                              # a word after the end
-    refused 6 $header 800003f1 80000001 $n f0000000                                        # a coefficient p
-    refused 6 $header f0000000                                                             # a question is no certificate
-    refused 7 100003f1 20000000 30000000 40000109 5000036d 60000003 7000002e $g $n f0000000 # A = B = 0
-    refused 8 $header 800003da 80000002 $n f0000000                                        # g with leading 2
-    refused 9 1000000b 20000000 30000001 40000000 50000001 60000003 70000002 8000000a 80000001 90000000 90000001 90000009 90000001 f0000000
-    refused 10 1000000b 20000000 30000001 40000000 50000007 60000003 70000000 80000000 80000001 90000004 90000000 90000000 90000001 f0000000
-    sheet $first | dd bs=1 count=55 of=damaged.bin 2>/dev/null                             # a byte count that is no multiple of four
-}
+sheet $first | dd bs=1 count=55 of=damaged.bin 2>/dev/null # a byte count that is no multiple of four
 refused_file 2 damaged.bin
 
 step "host: files and arguments that it cannot take"

@@ -12,12 +12,7 @@ words() {
     done
 }
 
-header='100003f1 20000001 30000003 40000109 5000036d 60000003 7000002e'
-g='800003da 80000001'
-n='900003b5 900002a6 900003c3 90000001'
-first="$header $g $n f0000000"
-# p = 11: (0, 1) to (0, 6), g = x, N = x^3 + 4
-over_11='1000000b 20000000 30000001 40000000 50000006 60000003 70000000 80000000 80000001 90000004 90000000 90000000 90000001 f0000000'
+. "$BATS_TEST_DIRNAME/../marked.sh"
 
 # What the first certificate looks like.
 first_text='certificate: p = 1009, degree 3, kernel sum 46

@@ -19,27 +19,7 @@ sheet_refused() {
 }
 
 @test "check and push: 2 to 10" {
-    # shellcheck disable=SC2086
-    {
-        check_refuses 2 200003f1 20000001 30000003 40000109 5000036d 60000003 7000002e $g $n f0000000 # the first word of another kind
-        check_refuses 2 100003f1 20000001 30000003 40000109 5000036d 60000003                        # no seven words
-        check_refuses 3 100003e9 20000001 30000003 40000109 5000036d 60000003 7000002e $g $n f0000000 # p = 1001
-        check_refuses 3 10000007 20000001 30000003 40000001 50000003 60000003 70000002 $g $n f0000000 # p = 7
-        check_refuses 4 100003f1 20000001 30000003 40000109 5000036d 60000006 7000002e $g $n f0000000 # l = 6
-        check_refuses 4 1000000b 20000001 30000003 40000001 50000003 60000007 70000002 $g $n f0000000 # p = 11 with l = 7
-        check_refuses 6 1000000b 20000001 30000003 40000001 50000003 60000005 70000002 $g $n f0000000 # with l = 5 it passes 4
-        check_refuses 5 100003f1 200003f1 30000003 40000109 5000036d 60000003 7000002e $g $n f0000000 # A = p
-        check_refuses 5 100003f1 20000001 30000003 40000109 5000036d 60000003 700003f1 $g $n f0000000 # sigma = p
-        check_refuses 6 $header $g $n                                                                # no end
-        check_refuses 6 $header $g $n f0000001                                                       # an end with value 1
-        check_refuses 6 $header $g $n f0000000 f0000000                                              # a word after the end
-        check_refuses 6 $header 800003f1 80000001 $n f0000000                                        # a coefficient p
-        check_refuses 6 $header f0000000                                                             # a question is no certificate
-        check_refuses 7 100003f1 20000000 30000000 40000109 5000036d 60000003 7000002e $g $n f0000000 # A = B = 0
-        check_refuses 8 $header 800003da 80000002 $n f0000000                                        # g with leading 2
-        check_refuses 9 1000000b 20000000 30000001 40000000 50000001 60000003 70000002 8000000a 80000001 90000000 90000001 90000009 90000001 f0000000
-        check_refuses 10 1000000b 20000000 30000001 40000000 50000007 60000003 70000000 80000000 80000001 90000004 90000000 90000000 90000001 f0000000
-    }
+    each_refused check_refuses
 }
 
 # pari_sheet U: the certificate of what PARI/GP computes for the kernel polynomial x - U of (1, 3) over 1009, in decimal.

@@ -97,8 +97,8 @@ same-image (image.Refused m) (image.Affine x y) e = absurd (apart (point.Affine 
 same-image (image.Refused m) image.Infinity e = absurd (apart point.Infinity m (sym e))
 same-image (image.Refused m) (image.Refused n) e = cc
 
-pub same-name : (r s : Named) → namedOutcome r ≡ namedOutcome s → r ≡ s
-same-name (named.Value j) (named.Value k) e = cc
-same-name (named.Value j) (named.Refused n) e = absurd (apart j n e)
-same-name (named.Refused m) (named.Value k) e = absurd (apart k m (sym e))
-same-name (named.Refused m) (named.Refused n) e = cc
+pub same-named : (r s : Named) → namedOutcome r ≡ namedOutcome s → r ≡ s
+same-named (named.Value j) (named.Value k) e = cc
+same-named (named.Value j) (named.Refused n) e = absurd (apart j n e)
+same-named (named.Refused m) (named.Value k) e = absurd (apart k m (sym e))
+same-named (named.Refused m) (named.Refused n) e = cc
