@@ -1,21 +1,14 @@
--- Residues of sums, negatives and differences of residues, as the functions compute them; and the size of a product.
+-- Residues of sums, negatives and differences of residues, as the functions compute them.
 -- Assumes nothing.
-use mathlib.Core.Path.{_≡_, sym, _∙_, ap, subst⁻¹}
+use mathlib.Core.Path.{_≡_, sym, _∙_, ap}
 use Prim.Native.Nat.{ℕ, _+_, _-_, _*_, _^_, _<_, _≤_}
 use native.Mathlib.Nat as N
 use native.Mathlib.Omega.{arith}
-use lib.Pow.{pow-add, pow-pos}
 use Rattle.ring.specs.Ring
 use Rattle.ring.specs.Identity.{solve2}
 use Rattle.ring.specs.Identity.Ex.{_:+_, _:-_}
 use Rattle.zmod.specs.Zmod.{Zmod, mk, plus, minus, mk-add, mk-eq, mk-sub}
 use Rattle.zmod.specs.Residues.{Residue}
-
--- the product of two numbers of k bits has 2 k bits
-pub product-below : (k : ℕ) {a b : ℕ} → a < 2 ^ k → b < 2 ^ k → a * b < 2 ^ (k + k)
-product-below k {a} {b} ha hb =
-    subst⁻¹ (λ (n : ℕ). a * b < n) (pow-add 2 k k)
-    (N.lt-of-le-of-lt (N.mul-le-mul-left a (N.le-of-lt hb)) (N.mul-lt-mul-of-pos-right ha (pow-pos k)))
 
 module _ (p a b : ℕ) where
   pub add-low : a + b < p → Residue p (plus p (mk p a) (mk p b)) (a + b)

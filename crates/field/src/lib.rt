@@ -1,9 +1,6 @@
 // Arithmetic in ℤ/p on residues held in u32, for p up to 2^28: a residue is below p, and what a function promises is the residue of the sum, the
 // product, .. of the classes of its arguments. `Residue p x r` says that r is the residue of the element x, `InverseOf p a r` that r is the inverse
-// of a. `is_prime` is for every word.
-mod prime;
-
-pub use prime::is_prime;
+// of a.
 ghost use mathlib.Core.Path.{_≡_};
 ghost use Prim.Native.Nat.{_+_, _*_, _^_, _<_, _≤_};
 ghost use Rattle.ring.specs.Ring.{pow};

@@ -181,7 +181,7 @@ pub fn prime_allowed(p: u32) -> bool
     if 268435456 <= p {
         return false;
     }
-    field::is_prime(p)
+    primes::is_prime(p)
 }
 
 // Question 4.

@@ -1,6 +1,6 @@
 -- `field::product` meets its contract: two words have a product of 64 bits. Assumes nothing.
 use borrow.Author.Needs.{needs}
-use Rattle.field.proofs.Laws.{product-below}
+use Rattle.zmod.specs.Remainder.{product-below}
 use Rattle.field.proofs.product.Statement.{statement}
 use Rattle.field.proofs.product.Tie as tie
 
