@@ -20,7 +20,7 @@ echo "no fault: passed"
 missed=0
 found=0
 for fault in $faults; do
-    if SAGEPLIERS_FAULT=$fault "$compare" --quick >"$log" 2>&1; then
+    if SAGEPLIERS_FAULT=$fault "$compare" --quick --differences 1 >"$log" 2>&1; then
         echo "$fault: MISSED"
         missed=$((missed + 1))
     elif grep -q '^DIFFERENCE' "$log"; then

@@ -8,6 +8,7 @@ pub mod hostile;
 pub mod lengths;
 pub mod limits;
 pub mod points;
+pub mod primes;
 pub mod search;
 
 use crate::judge::Judge;
@@ -21,7 +22,7 @@ pub struct Group {
 /// A group with a quick form, which the flag asks for.
 type WithQuick = fn(&mut Judge, bool);
 
-/// Shards of the random part; each has its own seed.
+/// Shards of the random part, each with its own seed, and of the range of p.
 const SHARDS: u64 = 8;
 
 fn group(name: impl Into<String>, run: impl Fn(&mut Judge) + Send + Sync + 'static) -> Group {
@@ -34,7 +35,8 @@ fn group(name: impl Into<String>, run: impl Fn(&mut Judge) + Send + Sync + 'stat
 
 /// The long searches come early, so that all threads have work to the end.
 pub fn all(options: &Options) -> Vec<Group> {
-    let mut groups = by_document();
+    let mut groups = by_document(options.quick);
+    groups.extend(by_sieve(options.quick));
     groups.extend(by_search(options.quick));
     groups.extend(by_generation(options.quick));
     groups.extend(by_chance(options.count));
@@ -42,14 +44,27 @@ pub fn all(options: &Options) -> Vec<Group> {
 }
 
 /// Cases that document 01 prints or whose expectation it states outright.
-fn by_document() -> Vec<Group> {
+fn by_document(quick: bool) -> Vec<Group> {
     vec![
         group("document", document::rows),
         group("order of questions", document::order),
         group("rooms", limits::rooms),
         group("degrees", limits::degrees),
+        group("primes", move |judge| primes::run(judge, quick)),
         group("points", points::run),
     ]
+}
+
+/// Question 3 for every p; the quick form leaves it out.
+fn by_sieve(quick: bool) -> Vec<Group> {
+    let shards = if quick { 0 } else { SHARDS as u32 };
+    (0..shards)
+        .map(|shard| {
+            group(format!("every p {}", shard + 1), move |judge| {
+                primes::every(judge, shard, shards);
+            })
+        })
+        .collect()
 }
 
 /// Cases whose expectation is an exhaustive search.
@@ -78,7 +93,7 @@ fn by_generation(quick: bool) -> Vec<Group> {
         })
     };
     let mut groups: Vec<Group> = certificates::primes(quick).into_iter().map(over).collect();
-    let others: [(&str, WithQuick); 9] = [
+    let others: [(&str, WithQuick); 8] = [
         ("certificates, least primes", certificates::least_primes),
         ("certificates, composed", certificates::composed),
         ("damage", damage::run),
@@ -87,7 +102,6 @@ fn by_generation(quick: bool) -> Vec<Group> {
         ("almost, deep", almost::deep),
         ("lengths", lengths::run),
         ("names", limits::names),
-        ("primes", limits::primes),
     ];
     groups.extend(others.map(|(name, run)| group(name, move |judge| run(judge, quick))));
     groups

@@ -17,10 +17,14 @@ use crate::report;
 const MARGIN: usize = 64;
 const CAPACITY: usize = 1 << 17;
 const LARGEST_ROOM: usize = 8192;
-/// The run ends at so many differences.
-const ENOUGH: u64 = 10;
 
 static DIFFERENCES: AtomicU64 = AtomicU64::new(0);
+static ENOUGH: AtomicU64 = AtomicU64::new(u64::MAX);
+
+/// From now on the run ends at so many differences.
+pub fn end_at(differences: u64) {
+    ENOUGH.store(differences, Ordering::SeqCst);
+}
 
 /// Differences so far, of all threads.
 pub fn differences() -> u64 {
@@ -48,6 +52,17 @@ struct Seen {
     /// negative before the answer.
     words: Vec<(isize, u32, u32)>,
     sheet_changed: bool,
+}
+
+impl Seen {
+    /// Of an entry that is lent nothing.
+    fn number(number: u64) -> Seen {
+        Seen {
+            number,
+            words: Vec::new(),
+            sheet_changed: false,
+        }
+    }
 }
 
 impl Judge {
@@ -102,10 +117,27 @@ impl Judge {
     }
 
     pub fn expect(&mut self, call: &Call, expected: &Reply) {
+        self.compare(call, expected, |judge| judge.put(call, expected));
+    }
+
+    /// Name is expected to refuse each p, A and B with the number beside them.
+    /// The clock is read once for all: twice a call would take longer than most
+    /// of these calls.
+    pub fn names_refused(&mut self, cases: impl Iterator<Item = ([u32; 3], u32)>) {
+        let start = Instant::now();
+        for ([p, a, b], number) in cases {
+            let call = Call::Name { p, a, b };
+            let name = |_: &mut Judge| Seen::number(entries::name(p, a, b));
+            self.compare(&call, &call.refusal(number), name);
+        }
+        self.inside += start.elapsed();
+    }
+
+    fn compare(&mut self, call: &Call, expected: &Reply, put: impl FnOnce(&mut Judge) -> Seen) {
         self.cases += 1;
         self.coverage.record(call, expected);
         report::running(call, self.group);
-        let seen = self.put(call, expected);
+        let seen = put(self);
         report::finished();
         if seen.number != expected.number || !seen.words.is_empty() || seen.sheet_changed {
             self.report(call, expected, &seen);
@@ -126,11 +158,9 @@ impl Judge {
             Call::Kernel { sheet, room } => {
                 self.with_answer(sheet, *room, &expected.words, entries::kernel)
             }
-            Call::Name { p, a, b } => Seen {
-                number: timed(&mut self.inside, || entries::name(*p, *a, *b)),
-                words: Vec::new(),
-                sheet_changed: false,
-            },
+            Call::Name { p, a, b } => {
+                Seen::number(timed(&mut self.inside, || entries::name(*p, *a, *b)))
+            }
         }
     }
 
@@ -207,8 +237,9 @@ impl Judge {
             text += "  the sheet was changed\n";
         }
         eprint!("{text}");
-        if DIFFERENCES.fetch_add(1, Ordering::SeqCst) + 1 >= ENOUGH {
-            eprintln!("{ENOUGH} differences: stopped");
+        let differences = DIFFERENCES.fetch_add(1, Ordering::SeqCst) + 1;
+        if differences >= ENOUGH.load(Ordering::SeqCst) {
+            eprintln!("{differences} differences: stopped");
             std::process::exit(1);
         }
     }

@@ -22,6 +22,8 @@ pub struct Options {
     /// Random cases of the hostile groups.
     pub count: u64,
     threads: usize,
+    /// The run ends at so many differences.
+    differences: u64,
     /// Only groups whose name contains this.
     only: String,
 }
@@ -32,7 +34,8 @@ struct Totals {
     coverage: Coverage,
 }
 
-const USAGE: &str = "usage: compare [--quick] [--count N] [--threads N] [--only TEXT]";
+const USAGE: &str =
+    "usage: compare [--quick] [--count N] [--threads N] [--differences N] [--only TEXT]";
 
 fn parse(arguments: impl Iterator<Item = String>) -> Option<Options> {
     let mut arguments = arguments;
@@ -41,6 +44,7 @@ fn parse(arguments: impl Iterator<Item = String>) -> Option<Options> {
         quick: false,
         count: 0,
         threads: 2,
+        differences: 10,
         only: String::new(),
     };
     while let Some(argument) = arguments.next() {
@@ -48,6 +52,7 @@ fn parse(arguments: impl Iterator<Item = String>) -> Option<Options> {
             "--quick" => options.quick = true,
             "--count" => count = Some(arguments.next()?.parse().ok()?),
             "--threads" => options.threads = arguments.next()?.parse().ok()?,
+            "--differences" => options.differences = arguments.next()?.parse().ok()?,
             "--only" => options.only = arguments.next()?,
             _ => return None,
         }
@@ -93,6 +98,7 @@ fn main() -> ExitCode {
         eprintln!("{USAGE}");
         return ExitCode::from(2);
     };
+    judge::end_at(options.differences);
     report::catch_faults();
     let start = Instant::now();
     let mut groups = groups::all(&options);

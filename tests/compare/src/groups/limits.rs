@@ -1,7 +1,7 @@
-//! Limits that document 01 names: buffer sizes, primes, degrees, names.
+//! Limits that document 01 names: buffer sizes, degrees, names.
 
 use reference::call::{Call, Reply};
-use reference::primes::{next_prime, previous_prime, sieve};
+use reference::primes::{next_prime, sieve};
 use reference::random::Random;
 use reference::sheet::{bytes_of, word, KernelSheet, Question, A, L, P};
 
@@ -39,55 +39,6 @@ pub fn rooms(judge: &mut Judge) {
             }
         }
     }
-}
-
-/// Question 3 for all small numbers and around the limits, by name, which puts
-/// it first, and by sheets.
-pub fn primes(judge: &mut Judge, quick: bool) {
-    let limit = if quick { 1 << 14 } else { 1 << 18 };
-    let mut is_prime = vec![false; limit];
-    for p in sieve(limit) {
-        is_prime[p as usize] = true;
-    }
-    for p in 0..limit as u32 {
-        let call = Call::Name { p, a: 0, b: 1 };
-        if p >= 11 && is_prime[p as usize] {
-            judge.expect(&call, &Reply::number(0));
-        } else {
-            judge.refuses(&call, 3);
-        }
-    }
-    for p in hard_numbers() {
-        // a = 0 gives j = 0 for a lawful prime.
-        judge.agrees(&Call::Name { p, a: 0, b: 1 });
-        if p < 1 << 28 {
-            let mut words = reference::marked::first().words();
-            words[0] = word(P, u64::from(p));
-            judge.agrees(&Call::check(&words));
-        }
-    }
-}
-
-/// Squares and products of neighbouring primes, pseudoprimes, both sides of
-/// 2^28 and of 2^32.
-fn hard_numbers() -> Vec<u32> {
-    let mut numbers = vec![
-        341, 561, 1105, 1729, 2047, 3277, 4033, 8911, 10585, 25326001,
-    ];
-    numbers.extend([3215031751, 8321, 252601, 1373653, 9080191, 161304001]);
-    let mut random = Random::new(60);
-    for p in sieve(16384).into_iter().rev().step_by(40) {
-        numbers.push(p * p);
-        numbers.push(p * previous_prime(u64::from(p) - 1) as u32);
-    }
-    for _ in 0..300 {
-        let prime = next_prime(random.below(LARGEST_PRIME)) as u32;
-        numbers.extend([prime, prime + 2, 3 * (prime / 3)]);
-    }
-    numbers.extend((1 << 28) - 200..(1 << 28) + 200);
-    numbers.extend((u32::MAX - 20)..=u32::MAX);
-    numbers.extend([268435459, 536870909, 2147483647, 4294967291]);
-    numbers
 }
 
 /// Question 4 for every degree over every small prime. With a = p the next
