@@ -19,8 +19,11 @@ echo "no fault: passed"
 
 missed=0
 found=0
-for fault in $faults; do
-    if SAGEPLIERS_FAULT=$fault "$compare" --quick --differences 1 >"$log" 2>&1; then
+# must_find FAULT ARGUMENT..: the comparison with these arguments.
+must_find() {
+    fault=$1
+    shift
+    if SAGEPLIERS_FAULT=$fault "$compare" --differences 1 "$@" >"$log" 2>&1; then
         echo "$fault: MISSED"
         missed=$((missed + 1))
     elif grep -q '^DIFFERENCE' "$log"; then
@@ -32,6 +35,10 @@ for fault in $faults; do
         cat "$log"
         missed=$((missed + 1))
     fi
-done
-echo "$found faults found, $missed missed"
+}
+
+for fault in $faults; do must_find "$fault" --quick; done
+# What the quick form leaves out.
+must_find divisors-below-root --only 'every p'
+echo "$found found, $missed missed"
 [ "$missed" -eq 0 ]

@@ -1,8 +1,8 @@
 \\ Computes with PARI what the library answered, for the calls that the driver writes: isogeny for each kernel, then goes for points through that
-\\ isogeny, name for curves, and finish with how many of each there must have been. The last line is the verdict.
+\\ isogeny, name for curves, permitted for primes, and finish with how many of each there must have been. The last line is the verdict.
 
 differences = 0;
-isogenies = points = infinities = names = 0;
+isogenies = points = infinities = names = numbers = 0;
 
 differs(what) = {
   differences++;
@@ -36,7 +36,14 @@ name(p, a, b, j) = {
   if (lift(ellinit([a, b], p).j) != j, differs(["name", p, a, b, j]));
 };
 
-finish(i, m, f, k) = {
-  if ([isogenies, points, infinities, names] != [i, m, f, k], differs("the script was cut short"));
-  print("PARI/GP ", strjoin(apply(n -> Str(n), version()[1..3]), "."), ": ", isogenies, " kernels, ", points, " points, ", infinities, " of them to infinity, ", names, " names: ", differences, " differences");
+\\ The primes from 11 to 2^28 - 1 among the numbers from m to n.
+permitted(m, n, list) = {
+  my(from = max(m, 11), to = min(n, 2^28 - 1));
+  numbers += n - m + 1;
+  if (list != if (from <= to, primes([from, to]), []), differs(["primes", m, n]));
+};
+
+finish(i, m, f, k, n) = {
+  if ([isogenies, points, infinities, names, numbers] != [i, m, f, k, n], differs("the script was cut short"));
+  print("PARI/GP ", strjoin(apply(n -> Str(n), version()[1..3]), "."), ": ", isogenies, " kernels, ", points, " points, ", infinities, " of them to infinity, ", names, " names, ", numbers, " numbers prime or not: ", differences, " differences");
 };

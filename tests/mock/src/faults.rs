@@ -1,6 +1,8 @@
 //! Deliberate faults, one at a time: each is a program that breaks document 01
 //! in one way and keeps it otherwise. The comparison must find every one.
 
+mod primes;
+
 use std::sync::OnceLock;
 
 use reference::call::{point_number, point_of, Call, Reply, INFINITY, REFUSED};
@@ -9,7 +11,6 @@ use reference::field::Field;
 use reference::generate;
 use reference::marked;
 use reference::poly::Poly;
-use reference::primes::{divisors, is_prime, passes_strong_test};
 use reference::rules::R3;
 use reference::services::{self, Point};
 use reference::sheet::{self, kind, value, word, Certificate, KernelSheet, Question};
@@ -49,31 +50,31 @@ pub const FAULTS: &[(&str, Fault)] = &[
     ("coefficient-kind", Fault::Input(coefficient_kind)),
     ("codomain-swapped", Fault::Input(codomain_swapped)),
     ("codomain-singular", Fault::Output(codomain_singular)),
-    ("prime-fermat", Fault::Output(prime_fermat)),
-    ("prime-strong-test", Fault::Output(prime_strong_test)),
-    ("prime-of-low-bits", Fault::Input(prime_of_low_bits)),
-    ("prime-small-low-bits", Fault::Output(prime_small_low_bits)),
-    ("prime-from-7", Fault::Output(prime_from_7)),
-    ("prime-below-last-square", Fault::Output(below_last_square)),
-    ("prime-no-upper-bound", Fault::Output(no_upper_bound)),
-    ("divisor-2-untried", Fault::Output(divisor_2_untried)),
-    ("divisor-left-out", Fault::Output(divisor_left_out)),
-    ("divisor-composite", Fault::Output(divisor_composite)),
-    ("divisors-swapped", Fault::Output(divisors_swapped)),
-    ("divisor-last-untried", Fault::Output(divisor_last_untried)),
-    ("divisor-last-refused", Fault::Output(divisor_last_refused)),
-    ("divisors-in-whole-blocks", Fault::Output(whole_blocks)),
-    ("divisors-below-root", Fault::Output(divisors_below_root)),
+    ("prime-fermat", Fault::Output(primes::fermat)),
+    ("prime-strong-test", Fault::Output(primes::strong_test)),
+    ("prime-of-low-bits", Fault::Input(primes::of_low_bits)),
     (
-        "divisors-below-root-less-1",
-        Fault::Output(below_root_less_1),
+        "prime-small-low-bits",
+        Fault::Output(primes::small_low_bits),
     ),
-    ("divisor-bound-less-1", Fault::Output(divisor_bound_less_1)),
-    ("divisor-bound-twice", Fault::Output(divisor_bound_twice)),
+    ("prime-from-7", Fault::Output(primes::from_7)),
     (
-        "divisors-below-root-on-sheets",
-        Fault::Output(root_on_sheets),
+        "prime-to-last-square",
+        Fault::Output(primes::to_last_square),
     ),
+    ("prime-unbounded", Fault::Output(primes::unbounded)),
+    ("divisor-2-untried", Fault::Output(primes::untried_2)),
+    ("divisor-left-out", Fault::Output(primes::left_out)),
+    ("divisor-composite", Fault::Output(primes::composite)),
+    ("divisors-swapped", Fault::Output(primes::swapped)),
+    ("divisor-last-untried", Fault::Output(primes::untried_last)),
+    ("divisor-last-refused", Fault::Output(primes::refused_last)),
+    ("divisors-whole-blocks", Fault::Output(primes::whole_blocks)),
+    ("divisors-below-root", Fault::Output(primes::below_root)),
+    ("divisors-root-less-1", Fault::Output(primes::root_less_1)),
+    ("divisor-bound-less-1", Fault::Output(primes::bound_less_1)),
+    ("divisor-bound-twice", Fault::Output(primes::bound_twice)),
+    ("divisors-of-sheets", Fault::Output(primes::of_sheets)),
     ("degree-bound", Fault::Output(degree_bound)),
     ("degree-255", Fault::Output(degree_255)),
     ("room-ignored", Fault::Input(room_ignored)),
@@ -334,163 +335,6 @@ fn codomain_singular(call: &Call, reply: Reply) -> Reply {
         return reply;
     }
     call.refusal(if certificate(call).is_some() { 10 } else { 11 })
-}
-
-// Question 3.
-
-/// Question 3 gets a yes exactly if the test says so. What is then taken for a
-/// prime gets the number of the question that comes next.
-fn asks_prime(call: &Call, reply: Reply, test: impl Fn(u64) -> bool) -> Reply {
-    let (p, next) = match call {
-        Call::Name { p, .. } => (u64::from(*p), 5),
-        _ => (first(call, P), 4),
-    };
-    match (refusal(call, &reply), test(p)) {
-        (1 | 2, _) => reply,
-        (3, true) => call.refusal(next),
-        (_, true) => reply,
-        (_, false) => call.refusal(3),
-    }
-}
-
-/// What question 3 asks of p beside being prime.
-fn permitted(p: u64) -> bool {
-    (11..sheet::VALUE_LIMIT).contains(&p)
-}
-
-fn prime_fermat(call: &Call, reply: Reply) -> Reply {
-    asks_prime(call, reply, |p| {
-        permitted(p) && p % 2 == 1 && Field::new(p).pow(2, p - 1) == 1
-    })
-}
-
-/// Right for nearly all numbers.
-fn prime_strong_test(call: &Call, reply: Reply) -> Reply {
-    asks_prime(call, reply, |p| {
-        permitted(p) && p % 2 == 1 && [2, 3, 5].iter().all(|&base| passes_strong_test(p, base))
-    })
-}
-
-fn prime_small_low_bits(call: &Call, reply: Reply) -> Reply {
-    asks_prime(call, reply, |p| {
-        permitted(p) && is_prime(if p < 1 << 14 { p % (1 << 13) } else { p })
-    })
-}
-
-fn prime_from_7(call: &Call, reply: Reply) -> Reply {
-    asks_prime(call, reply, |p| p == 7 || permitted(p) && is_prime(p))
-}
-
-fn below_last_square(call: &Call, reply: Reply) -> Reply {
-    asks_prime(call, reply, |p| {
-        permitted(p) && p < LAST * LAST && is_prime(p)
-    })
-}
-
-fn no_upper_bound(call: &Call, reply: Reply) -> Reply {
-    asks_prime(call, reply, |p| {
-        p >= 11 && p % 2 == 1 && divided(p, divisors())
-    })
-}
-
-fn prime_of_low_bits(mut call: Call) -> Call {
-    if let Call::Name { p, .. } = &mut call {
-        *p %= 1 << sheet::VALUE_BITS;
-    }
-    call
-}
-
-// Trial division in question 3 (request E8).
-
-/// The last trial divisor.
-const LAST: u64 = 16381;
-
-/// Whether none of these divides p, up to the first with a square above p.
-fn divided(p: u64, mut divisors: impl Iterator<Item = u64>) -> bool {
-    let found = divisors.find(|&q| q * q > p || p.is_multiple_of(q));
-    found.is_none_or(|q| q * q > p)
-}
-
-/// A permitted odd p is tried with other divisors.
-fn tries<D: Iterator<Item = u64>>(call: &Call, reply: Reply, divisors: fn(u64) -> D) -> Reply {
-    asks_prime(call, reply, |p| {
-        permitted(p) && p % 2 == 1 && divided(p, divisors(p))
-    })
-}
-
-fn divisor_2_untried(call: &Call, reply: Reply) -> Reply {
-    asks_prime(call, reply, |p| permitted(p) && divided(p, divisors()))
-}
-
-fn divisor_left_out(call: &Call, reply: Reply) -> Reply {
-    tries(call, reply, |_| divisors().filter(|&q| q != 16363))
-}
-
-/// 10003 = 7 * 1429 in the place of 10007.
-fn divisor_composite(call: &Call, reply: Reply) -> Reply {
-    tries(call, reply, |_| {
-        divisors().map(|q| if q == 10007 { 10003 } else { q })
-    })
-}
-
-fn divisors_swapped(call: &Call, reply: Reply) -> Reply {
-    tries(call, reply, |_| {
-        divisors().map(|q| match q {
-            10007 => 10009,
-            10009 => 10007,
-            _ => q,
-        })
-    })
-}
-
-fn divisor_last_untried(call: &Call, reply: Reply) -> Reply {
-    tries(call, reply, |_| divisors().filter(|&q| q != LAST))
-}
-
-fn divisor_last_refused(call: &Call, reply: Reply) -> Reply {
-    asks_prime(call, reply, |p| permitted(p) && p != LAST && is_prime(p))
-}
-
-/// The last divisors, which fill no block of sixteen, are not tried.
-fn whole_blocks(call: &Call, reply: Reply) -> Reply {
-    tries(call, reply, |_| {
-        divisors().take(divisors().count() / 16 * 16)
-    })
-}
-
-fn divisors_below_root(call: &Call, reply: Reply) -> Reply {
-    tries(call, reply, |p| divisors().take_while(move |&q| q * q < p))
-}
-
-/// Squares are found, products of q and q + 2 are not.
-fn below_root_less_1(call: &Call, reply: Reply) -> Reply {
-    tries(call, reply, |p| {
-        divisors().filter(move |&q| q * q == p || (q + 1) * (q + 1) <= p)
-    })
-}
-
-/// Of all quotients that 16111 can have, the largest is not found: 16661.
-fn divisor_bound_less_1(call: &Call, reply: Reply) -> Reply {
-    tries(call, reply, |p| {
-        divisors().filter(move |&q| q != 16111 || p / q < (sheet::VALUE_LIMIT - 1) / q)
-    })
-}
-
-/// With the inverse of 8191 modulo 2^32 a product up to twice the bound is taken
-/// for a quotient, so 8191 seems to divide 2^32 + p too.
-fn divisor_bound_twice(call: &Call, reply: Reply) -> Reply {
-    asks_prime(call, reply, |p| {
-        let q = 8191;
-        let seems = q * q <= p && (p + (1 << 32)).is_multiple_of(q);
-        permitted(p) && !seems && is_prime(p)
-    })
-}
-
-fn root_on_sheets(call: &Call, reply: Reply) -> Reply {
-    match call {
-        Call::Name { .. } => reply,
-        _ => divisors_below_root(call, reply),
-    }
 }
 
 // Questions 4 and 1.

@@ -1,8 +1,7 @@
-//! Field, primes and polynomials held against their definitions.
+//! Field and polynomials held against their definitions.
 
 use reference::field::Field;
 use reference::poly::Poly;
-use reference::primes::{is_prime, next_prime, previous_prime, sieve};
 use reference::random::Random;
 use reference::rules;
 
@@ -29,21 +28,6 @@ fn square_roots() {
             assert_eq!(field.sqrt(a).is_some(), field.is_square(a));
         }
     }
-}
-
-#[test]
-fn primality_agrees_with_a_sieve() {
-    let limit = 1 << 21;
-    let primes = sieve(limit);
-    let mut listed = primes.iter().copied().peekable();
-    for n in 0..limit as u64 {
-        let is_listed = listed.next_if_eq(&(n as u32)).is_some();
-        assert_eq!(is_prime(n), is_listed, "{n}");
-    }
-    assert_eq!(previous_prime((1 << 28) - 1), 268435399);
-    assert_eq!(next_prime(1002), 1009);
-    // The largest square of a prime below 2^28.
-    assert!(is_prime(16381) && !is_prime(16381 * 16381));
 }
 
 #[test]
