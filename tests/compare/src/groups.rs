@@ -57,14 +57,12 @@ fn by_document(quick: bool) -> Vec<Group> {
 
 /// Question 3 for every p; the quick form leaves it out.
 fn by_sieve(quick: bool) -> Vec<Group> {
-    let shards = if quick { 0 } else { SHARDS as u32 };
-    (0..shards)
-        .map(|shard| {
-            group(format!("every p {}", shard + 1), move |judge| {
-                primes::every(judge, shard, shards);
-            })
+    let shards = (0..SHARDS).filter(|_| !quick).map(|shard| {
+        group(format!("every p {}", shard + 1), move |judge| {
+            primes::every(judge, shard, SHARDS);
         })
-        .collect()
+    });
+    shards.collect()
 }
 
 /// Cases whose expectation is an exhaustive search.

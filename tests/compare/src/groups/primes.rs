@@ -1,6 +1,6 @@
-//! Question 3, by name, which puts it before its others, and by the p of sheets:
-//! every p below 2^28, against a sieve; and numbers that a test by division or by
-//! powers most easily takes for another sort, known from how they are made.
+//! Question 3, by name, which puts it first, and by the p of sheets: every p below
+//! 2^28, against a sieve; and numbers that a test by division or by powers most
+//! easily takes for another sort, known from how they are made.
 
 use std::ops::Range;
 
@@ -20,13 +20,14 @@ const LIMIT: u32 = VALUE_LIMIT as u32;
 /// So many numbers are sieved at once, few enough for a processor's cache.
 const SEGMENT: usize = 1 << 18;
 
-/// One of so many equal shares of all p below 2^28. With a = p the next "no" is
-/// 5, so 5 says that question 3 was passed.
-pub fn every(judge: &mut Judge, share: u32, shares: u32) {
-    let size = LIMIT / shares;
+/// One of so many shares of all p below 2^28. With a = p the next "no" is 5, so 5
+/// says that question 3 was passed.
+pub fn every(judge: &mut Judge, share: u64, shares: u64) {
+    let bound = |share: u64| (share * VALUE_LIMIT / shares) as u32;
+    let end = bound(share + 1);
     let mut primes = 0;
-    for start in (share * size..(share + 1) * size).step_by(SEGMENT) {
-        let prime = sieved(start..start + SEGMENT as u32);
+    for start in (bound(share)..end).step_by(SEGMENT) {
+        let prime = sieved(start..end.min(start + SEGMENT as u32));
         primes += prime.iter().filter(|&&prime| prime).count();
         let cases = (start..).zip(prime);
         judge.names_refused(cases.map(|(p, prime)| {
@@ -107,10 +108,9 @@ fn all_of(judge: &mut Judge, range: Range<u32>) {
     }
 }
 
-/// Numbers with few divisors: the squares of primes and the products of
-/// neighbours, up to 2^32; each divisor with the least prime that is none and
-/// with the largest two that it can have beside it; higher powers; composites
-/// that are like primes in their powers.
+/// Products of few primes: squares and neighbours, up to 2^32; each divisor with the
+/// least prime that is no divisor, and with the largest two for which the product
+/// is below 2^28; higher powers; composites with powers like those of primes.
 fn composites() -> Vec<u32> {
     let mut numbers = Vec::new();
     for pair in sieve(1 << 16)[1..].windows(2) {
@@ -163,13 +163,14 @@ fn strong_pseudoprimes() -> Vec<u64> {
     numbers
 }
 
-/// Permitted primes: the divisors; those next to the square of a divisor q, for
-/// which q is the last to be tried or the first not to be; and the least p from
-/// there on that is -2^32 modulo q. If q divides n, then n times the inverse of q
-/// modulo 2^32 is at most (2^32 - 1)/q, else more: for this p it is (2^32 + p)/q,
-/// which is as little more as it can be.
+/// Permitted primes: the largest; the divisors; those next to the square of a
+/// divisor q, for which q is the last to be tried or the first not to be; and the
+/// least p from there on that is -2^32 modulo q. If q divides n, then n times the
+/// inverse of q modulo 2^32 is at most (2^32 - 1)/q, else more: for this p it is
+/// (2^32 + p)/q, which is as little more as it can be.
 fn primes() -> Vec<u32> {
-    let mut primes = Vec::new();
+    let mut primes: Vec<u64> = (VALUE_LIMIT - 1000..VALUE_LIMIT).collect();
+    primes.retain(|&p| is_prime(p));
     for q in divisors() {
         let square = q * q;
         primes.extend([q, previous_prime(square), next_prime(square)]);
