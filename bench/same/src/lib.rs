@@ -3,9 +3,11 @@
 //! The sheets it is given must be long enough for their own header; `bench/measure` gives it the ones that it gives the library, and compares the
 //! answers before it takes any time. R3 is decided by the recurrence, so 3l - 3 < p is assumed.
 
+mod primes;
 pub mod rules;
 mod services;
 
+pub use primes::question_three;
 pub use services::{check, kernel, push, solve};
 
 /// The values in a sheet's header; 0 where its form has no such word.

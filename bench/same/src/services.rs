@@ -1,28 +1,12 @@
 //! Reading, the five questions of a sheet's form and content, and the services check, solve, kernel and push.
 
+use crate::primes::question_three;
 use crate::rules::{self, add, at, mul, neg, put, rem, sub, times};
 use crate::{Values, INFINITY, REFUSED};
 
 const ROOM: usize = 392;
 
 // ── questions 3 to 7
-
-fn is_prime(n: u32) -> bool {
-    if n < 2 {
-        return false;
-    }
-    if n.is_multiple_of(2) {
-        return n == 2;
-    }
-    let mut d = 3u32;
-    while u64::from(d) * u64::from(d) <= u64::from(n) {
-        if n.is_multiple_of(d) {
-            return false;
-        }
-        d += 2;
-    }
-    true
-}
 
 fn kind(w: u32) -> u32 {
     w >> 28
@@ -60,7 +44,7 @@ fn read(ws: &[u32], kinds: &[u32], g: bool, numerator: bool) -> Result<Values, u
         }
     }
     let (p, l) = (v.p, v.degree);
-    if p < 11 || !is_prime(p) {
+    if !question_three(p) {
         return Err(3);
     }
     if l.is_multiple_of(2) || !(3..=255).contains(&l) || p < 2 * l {
