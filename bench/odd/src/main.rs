@@ -1,0 +1,42 @@
+//! Puts questions 2 and 3 to certificates, question 3 by trying every odd number. Arguments: files, and folders of them. Prints a line for each that
+//! is refused, and at last how many pass.
+
+use std::path::Path;
+use std::process::ExitCode;
+
+use reference::sheet;
+
+/// The number of the question that refuses the certificate.
+fn judge(bytes: &[u8]) -> Result<(), u32> {
+    let words = sheet::words_of(bytes)?;
+    let [p, ..] = sheet::ask_head(&words, sheet::QUESTION_HEAD)?;
+    if odd::question_three(p as u32) {
+        Ok(())
+    } else {
+        Err(3)
+    }
+}
+
+fn main() -> ExitCode {
+    let (mut pass, mut refused) = (0, 0);
+    for path in std::env::args().skip(1) {
+        let sheets = match list::read(Path::new(&path)) {
+            Ok(sheets) => sheets,
+            Err(error) => {
+                eprintln!("{path}: {error}");
+                return ExitCode::from(2);
+            }
+        };
+        for (name, bytes) in sheets {
+            match judge(&bytes) {
+                Ok(()) => pass += 1,
+                Err(number) => {
+                    refused += 1;
+                    println!("{}: refused {number}", name.display());
+                }
+            }
+        }
+    }
+    println!("{pass} pass, {refused} refused");
+    ExitCode::from(u8::from(refused > 0))
+}
