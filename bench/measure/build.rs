@@ -1,4 +1,4 @@
-//! Links the library from the directory that SAGEPLIERS_LIB_DIR names, and the check with FLINT, which the system's C compiler makes.
+//! Links the library from the directory that SAGEPLIERS_LIB_DIR names, FLINT with the check, which the system's C compiler makes, and PARI's library.
 
 use std::process::Command;
 
@@ -31,4 +31,5 @@ fn main() {
     println!("cargo:rustc-link-search=native={out}");
     println!("cargo:rustc-link-lib=static=flintcheck");
     println!("cargo:rustc-link-lib=flint");
+    println!("cargo:rustc-link-lib=pari");
 }

@@ -2,6 +2,8 @@
 //! differences are taken within a round. What is measured is the time that the processor spent, not the time that passed, so that other work on the same
 //! core counts little. Assumes 64-bit Linux.
 
+use std::hint::black_box;
+
 #[repr(C)]
 struct Timespec {
     seconds: i64,
@@ -27,7 +29,7 @@ fn spent() -> f64 {
 }
 
 /// Microseconds that a number of calls take.
-pub fn timed(times: usize, mut call: impl FnMut()) -> f64 {
+fn timed(times: usize, mut call: impl FnMut()) -> f64 {
     let start = spent();
     for _ in 0..times {
         call();
@@ -62,6 +64,15 @@ pub fn stat(mut values: Vec<f64>) -> Stat {
 /// A column: its name and the microseconds that so many calls take.
 pub type Column<'a> = (&'static str, Box<dyn FnMut(usize) -> f64 + 'a>);
 
+pub fn column<'a, T>(name: &'static str, mut call: impl FnMut() -> T + 'a) -> Column<'a> {
+    let again = move |times| {
+        timed(times, || {
+            black_box(call());
+        })
+    };
+    (name, Box::new(again))
+}
+
 /// Runs the columns; each sample lasts about `sample` microseconds.
 pub fn run(mut columns: Vec<Column>, rounds: usize, sample: f64) -> Samples {
     // The first calls warm up, the next ones tell the time.
@@ -82,18 +93,17 @@ pub fn run(mut columns: Vec<Column>, rounds: usize, sample: f64) -> Samples {
     Samples { names, times }
 }
 
+/// A value of one round: the time of a column.
+pub type Value<'a> = &'a dyn Fn(&str) -> f64;
+
 impl Samples {
     fn column(&self, name: &str) -> &[f64] {
         let place = self.names.iter().position(|&n| n == name);
         &self.times[place.unwrap_or_else(|| panic!("no column {name}"))]
     }
 
-    pub fn has(&self, name: &str) -> bool {
-        self.names.contains(&name)
-    }
-
     /// What a formula gives in each round, from the columns it asks for.
-    pub fn each(&self, formula: impl Fn(&dyn Fn(&str) -> f64) -> f64) -> Stat {
+    pub fn each(&self, formula: impl Fn(Value) -> f64) -> Stat {
         let rounds = self.times[0].len();
         let value = |round: usize| formula(&|name: &str| self.column(name)[round]);
         stat((0..rounds).map(value).collect())

@@ -2,9 +2,11 @@
 
 use std::fmt::Write;
 
-use crate::clock::Stat;
+use crate::clock::{Stat, Value};
 use crate::counts;
 use crate::inputs;
+use crate::primes::Primes;
+use crate::table::{short, spread, Table};
 use crate::{Row, DOT, ROUNDS};
 
 const SERVICES: [&str; 4] = ["check", "solve", "kernel", "push"];
@@ -19,9 +21,6 @@ fn count(service: &str, l: usize) -> usize {
         _ => counts::push(l),
     }
 }
-
-/// A value of one round: the time of a column.
-type Value<'a> = &'a dyn Fn(&str) -> f64;
 
 /// Question 3: a certificate of even degree is refused after it, one with an even p before.
 fn question_three(t: Value) -> f64 {
@@ -55,10 +54,8 @@ impl Row {
             .each(|t| (t("check") - question_three(t)) / t("flint"))
     }
 
-    fn against_pari(&self) -> Option<Stat> {
-        self.samples
-            .has("pari")
-            .then(|| self.samples.each(|t| t("kernel") / t("pari")))
+    fn against_pari(&self, service: &str) -> Stat {
+        self.samples.each(|t| t(service) / t("pari"))
     }
 
     fn against_pari_apart(&self) -> Stat {
@@ -75,21 +72,6 @@ impl Row {
     fn bound(&self, service: &str) -> f64 {
         count(service, self.l) as f64 * self.dot().median / 1000.0
     }
-}
-
-/// Three digits that count.
-fn short(x: f64) -> String {
-    match x.abs() {
-        y if y >= 99.95 => format!("{x:.0}"),
-        y if y >= 9.995 => format!("{x:.1}"),
-        _ => format!("{x:.2}"),
-    }
-}
-
-/// The median, and half the distance of the quartiles in percent of it.
-fn spread(s: Stat) -> String {
-    let percent = (s.high - s.low) / 2.0 / s.median.abs().max(1e-9) * 100.0;
-    format!("{} ±{percent:.0}%", short(s.median))
 }
 
 fn over(rows: &[Row], p: u64) -> impl Iterator<Item = &Row> {
@@ -124,20 +106,6 @@ fn worst(
     (ratio(row), format!("p = {}, l = {}", row.p, row.l))
 }
 
-struct Table<'a>(&'a mut String);
-
-impl Table<'_> {
-    fn head(&mut self, cells: &[&str]) {
-        self.line(cells.iter().map(|cell| cell.to_string()));
-        self.line(cells.iter().map(|_| "---".to_string()));
-    }
-
-    fn line(&mut self, cells: impl Iterator<Item = String>) {
-        let cells: Vec<String> = cells.collect();
-        writeln!(self.0, "| {} |", cells.join(" | ")).expect("a string takes any text");
-    }
-}
-
 fn verdict(value: f64, bar: f64) -> String {
     if value <= bar {
         "pass".to_string()
@@ -146,14 +114,14 @@ fn verdict(value: f64, bar: f64) -> String {
     }
 }
 
-fn bars(out: &mut String, rows: &[Row]) {
+fn bars(out: &mut String, rows: &[Row], primes: &Primes) {
     let mut table = Table(out);
     table.head(&["bar", "at most", "worst measured", "where", "verdict"]);
     let mut bar = |what: String, most: f64, (value, place): (f64, String)| {
         let cells = [
             what,
             most.to_string(),
-            format!("{value:.2}"),
+            short(value),
             place,
             verdict(value, most),
         ];
@@ -172,22 +140,40 @@ fn bars(out: &mut String, rows: &[Row]) {
         );
         bar("the same, aim".into(), 0.3, flint);
     }
-    if rows[0].samples.has("pari") {
-        let pari = worst(
-            rows,
-            |row| FROM <= row.l,
-            |row| row.against_pari().expect("measured").median,
-        );
-        bar("kernel over PARI's ellisogeny, l ≥ 31".into(), 0.25, pari);
-        let apart = worst(
-            rows,
-            |row| FROM <= row.l,
-            |row| row.against_pari_apart().median,
-        );
+    let pari = worst(
+        rows,
+        |row| FROM <= row.l,
+        |row| row.against_pari("kernel").median,
+    );
+    bar("kernel over PARI's ellisogeny, l ≥ 31".into(), 0.25, pari);
+    let apart = worst(
+        rows,
+        |row| FROM <= row.l,
+        |row| row.against_pari_apart().median,
+    );
+    bar(
+        "kernel, question 3 apart, over PARI's ellisogeny, l ≥ 31".into(),
+        0.25,
+        apart,
+    );
+    let largest = inputs::PRIMES[0];
+    let small = worst(
+        rows,
+        |row| row.p == largest && row.l == 3,
+        |row| row.against_pari("check").median,
+    );
+    bar("check over PARI's ellisogeny, l = 3".into(), 0.3, small);
+    for (what, most, peer) in [
+        ("a program that tries every odd number", 0.08, "odd"),
+        ("FLINT's n_is_prime", 1.5, "flint"),
+    ] {
         bar(
-            "kernel, question 3 apart, over PARI's ellisogeny, l ≥ 31".into(),
-            0.25,
-            apart,
+            format!("question 3 over {what}"),
+            most,
+            (
+                primes.over(largest as u32, peer).median,
+                format!("p = {largest}"),
+            ),
         );
     }
     for service in SERVICES {
@@ -234,11 +220,6 @@ fn times(out: &mut String, rows: &[Row], p: u64) {
     ]);
     for row in over(rows, p) {
         let column = |name: &str| spread(row.samples.of(name));
-        let pari = if row.samples.has("pari") {
-            column("pari")
-        } else {
-            "not there".into()
-        };
         let cells = [
             row.l.to_string(),
             column("check"),
@@ -247,7 +228,7 @@ fn times(out: &mut String, rows: &[Row], p: u64) {
             column("kernel"),
             column("push"),
             column("flint"),
-            pari,
+            column("pari"),
             column("reference"),
             short(row.bound("check")),
         ];
@@ -272,7 +253,7 @@ fn ratios(out: &mut String, rows: &[Row], p: u64) {
         let cells = [
             row.l.to_string(),
             spread(row.against_flint()),
-            row.against_pari().map_or("not there".into(), spread),
+            spread(row.against_pari("kernel")),
             spread(row.samples.each(|t| independent(t))),
             bound("check"),
             bound("solve"),
@@ -355,11 +336,6 @@ fn growth(out: &mut String, rows: &[Row]) {
                 exponent(rows, p, |row| row.samples.of(name).median)
             )
         };
-        let pari = if rows[0].samples.has("pari") {
-            column("pari")
-        } else {
-            "not there".into()
-        };
         let counted = format!(
             "{:.2}",
             exponent(rows, p, |row| counts::check(row.l) as f64
@@ -372,7 +348,7 @@ fn growth(out: &mut String, rows: &[Row]) {
             service("kernel"),
             service("push"),
             column("flint"),
-            pari,
+            column("pari"),
             counted,
         ];
         table.line(cells.into_iter());
@@ -390,7 +366,7 @@ fn counted(out: &mut String, rows: &[Row], p: u64) {
     }
 }
 
-pub fn write(rows: &[Row], machine: &str, remarks: &str) -> String {
+pub fn write(rows: &[Row], primes: &Primes, machine: &str, remarks: &str) -> String {
     let mut out = String::new();
     let dot = rows[0].dot();
     write!(
@@ -401,8 +377,8 @@ Written by `bench/run`, which measures everything below in one run on one core; 
 
 {machine}
 Each value is the median of {ROUNDS} rounds, with half the distance of the quartiles in percent of it. A round times every column once, one after the
-other; ratios and differences are taken within a round. Times are microseconds of the processor a call. Every answer is compared before it is timed. The inputs are
-certificates of isogenies that `tests/reference` makes from points of order l.
+other; ratios and differences are taken within a round. Times are microseconds of the processor a call. Every answer is compared before it is timed. The
+inputs are certificates of isogenies that `tests/reference` makes from points of order l.
 
 - check, solve, kernel, push: the C entries of `libsagepliers.a`.
 - FLINT: R1 to R3 of the same certificate with `nmod_poly` (`bench/flint/check.c`), from words that have been read, for a p that is known to be prime.
@@ -419,10 +395,11 @@ certificates of isogenies that `tests/reference` makes from points of order l.
         short(dot.median)
     )
     .expect("a string takes any text");
-    bars(&mut out, rows);
+    bars(&mut out, rows, primes);
     out.push_str("\n## Remarks\n\n");
     out.push_str(remarks.trim());
     out.push('\n');
+    primes.section(&mut out);
     for p in inputs::PRIMES {
         write!(out, "\n## Times over p = {p}\n\n").expect("a string takes any text");
         times(&mut out, rows, p);
@@ -434,7 +411,11 @@ certificates of isogenies that `tests/reference` makes from points of order l.
         ratios(&mut out, rows, p);
     }
     for p in inputs::PRIMES {
-        write!(out, "\n## Beside the same algorithms in unchecked Rust, p = {p}\n\nWhole, then with question 3 taken off both.\n\n").expect("a string takes any text");
+        write!(
+            out,
+            "\n## Beside the same algorithms in unchecked Rust, p = {p}\n\nWhole, then with question 3 taken off both.\n\n"
+        )
+        .expect("a string takes any text");
         unchecked(&mut out, rows, p);
     }
     out.push_str(

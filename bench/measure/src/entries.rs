@@ -1,11 +1,15 @@
-//! The C entries of the library, and the check with FLINT, each in a safe function.
+//! The C entries of the library, the check with FLINT, and FLINT's and PARI's tests of a prime, each in a safe function.
 
 extern "C" {
     fn sagepliers_check(bytes: *const u8, count: usize) -> u32;
     fn sagepliers_push(bytes: *const u8, count: usize, point: u64) -> u64;
     fn sagepliers_solve(sheet: *const u32, words: usize, answer: *mut u32, room: usize) -> u64;
     fn sagepliers_kernel(sheet: *const u32, words: usize, answer: *mut u32, room: usize) -> u64;
+    fn sagepliers_name(p: u32, a: u32, b: u32) -> u64;
     fn flint_check(values: *const u32, g: *const u32, n: *const u32) -> u32;
+    fn n_is_prime(n: u64) -> i32;
+    fn pari_init_opts(stack: usize, prime: u64, options: u64);
+    fn uisprime(n: u64) -> i32;
 }
 
 pub fn check(bytes: &[u8]) -> u32 {
@@ -48,4 +52,27 @@ pub fn flint(values: &[u32; 7], g: &[u32], n: &[u32]) -> u32 {
     assert!(g.len() == d + 1 && n.len() == 2 * d + 2);
     // SAFETY: the three have the lengths that the C function reads.
     unsafe { flint_check(values.as_ptr(), g.as_ptr(), n.as_ptr()) }
+}
+
+/// Question 3, by the name of a curve with A = p: that is refused with 5, the next question, as soon as p has passed.
+pub fn question_three(p: u32) -> bool {
+    // SAFETY: the function takes every number.
+    unsafe { sagepliers_name(p, p, 0) == same::REFUSED + 5 }
+}
+
+pub fn flint_is_prime(n: u32) -> bool {
+    // SAFETY: as for question_three.
+    unsafe { n_is_prime(u64::from(n)) != 0 }
+}
+
+/// Before anything else is asked of PARI; with its defaults (4), but without its handlers of signals and errors.
+pub fn start_pari() {
+    // SAFETY: the numbers are a size, a bound and a set of options.
+    unsafe { pari_init_opts(1 << 20, 0, 4) }
+}
+
+/// What `isprime` calls for a number of one word.
+pub fn pari_is_prime(n: u32) -> bool {
+    // SAFETY: as for question_three.
+    unsafe { uisprime(u64::from(n)) != 0 }
 }

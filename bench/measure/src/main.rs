@@ -1,5 +1,6 @@
-//! Times the services through the C entries beside FLINT, PARI/GP, the independent implementation and the same algorithms in unchecked Rust, prints the
-//! ratios and writes the document. Arguments: the document, a file with lines on the machine and the versions, a file with remarks.
+//! Times the services and question 3 through the C entries beside FLINT, PARI/GP, the independent implementation and the same algorithms in unchecked Rust,
+//! prints the ratios and writes the document. Arguments: the document, a file with lines on the machine, the versions and the list of sheets, a file with
+//! remarks, the folder of the list.
 
 mod clock;
 mod counts;
@@ -7,8 +8,11 @@ mod document;
 mod entries;
 mod inputs;
 mod pari;
+mod primes;
+mod table;
 
 use std::hint::black_box;
+use std::path::Path;
 use std::process::ExitCode;
 
 use clock::{Column, Samples};
@@ -63,7 +67,7 @@ fn compare(input: &Input) {
     assert_eq!(entries::flint(&other, g, n), 10);
 }
 
-fn columns<'a>(input: &'a Input, pari: Option<&'a mut Pari>) -> Vec<Column<'a>> {
+fn columns<'a>(input: &'a Input, pari: &'a mut Pari) -> Vec<Column<'a>> {
     let Input {
         bytes,
         question,
@@ -78,14 +82,7 @@ fn columns<'a>(input: &'a Input, pari: Option<&'a mut Pari>) -> Vec<Column<'a>> 
     let mut columns: Vec<Column> = Vec::new();
     macro_rules! column {
         ($name:expr, $call:expr) => {
-            columns.push((
-                $name,
-                Box::new(move |times| {
-                    clock::timed(times, || {
-                        black_box($call);
-                    })
-                }),
-            ));
+            columns.push(clock::column($name, move || $call));
         };
     }
     let at = |number: u32| {
@@ -164,39 +161,34 @@ fn columns<'a>(input: &'a Input, pari: Option<&'a mut Pari>) -> Vec<Column<'a>> 
         "dot",
         same::rules::dot(black_box(&left), black_box(&right), 0, DOT, DOT - 1)
     );
-    if let Some(pari) = pari {
-        columns.push(("pari", Box::new(move |times| pari.again(times))));
-    }
+    columns.push(("pari", Box::new(move |times| pari.again(times))));
     columns
 }
 
 fn main() -> ExitCode {
     let arguments: Vec<String> = std::env::args().collect();
-    let [_, document, machine, remarks] = &arguments[..] else {
-        eprintln!("usage: measure DOCUMENT MACHINE REMARKS");
+    let [_, document, machine, remarks, sheets] = &arguments[..] else {
+        eprintln!("usage: measure DOCUMENT MACHINE REMARKS SHEETS");
         return ExitCode::from(2);
     };
     let read =
         |path: &String| std::fs::read_to_string(path).unwrap_or_else(|e| panic!("{path}: {e}"));
     let (machine, remarks) = (read(machine), read(remarks));
+    eprintln!("question 3");
+    let primes = primes::measure(Path::new(sheets));
     let mut pari = Pari::start();
-    if pari.is_none() {
-        eprintln!("gp cannot be started: no comparison with PARI");
-    }
     let mut rows = Vec::new();
     for p in inputs::PRIMES {
         for input in inputs::all(p) {
             let l = input.values[5] as usize;
             eprintln!("p = {p}, l = {l}");
             compare(&input);
-            if let Some(pari) = &mut pari {
-                pari.set(&input.certificate);
-            }
-            let samples = clock::run(columns(&input, pari.as_mut()), ROUNDS, SAMPLE);
+            pari.set(&input.certificate);
+            let samples = clock::run(columns(&input, &mut pari), ROUNDS, SAMPLE);
             rows.push(Row { p, l, samples });
         }
     }
-    let text = document::write(&rows, &machine, &remarks);
+    let text = document::write(&rows, &primes, &machine, &remarks);
     print!("{text}");
     std::fs::write(document, text).unwrap_or_else(|e| panic!("{document}: {e}"));
     ExitCode::SUCCESS

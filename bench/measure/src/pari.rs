@@ -13,20 +13,19 @@ pub struct Pari {
 }
 
 impl Pari {
-    /// None where gp is not there.
-    pub fn start() -> Option<Pari> {
+    pub fn start() -> Pari {
         let mut process = Command::new("gp")
             .args(["-q", "-f", "--default", "colors=no"])
             .stdin(Stdio::piped())
             .stdout(Stdio::piped())
             .spawn()
-            .ok()?;
-        let to = process.stdin.take()?;
-        let from = BufReader::new(process.stdout.take()?);
+            .expect("gp can be started");
+        let to = process.stdin.take().expect("a pipe");
+        let from = BufReader::new(process.stdout.take().expect("a pipe"));
         let mut pari = Pari { process, to, from };
         pari.tell("default(parisizemax, 256000000);");
         pari.tell("again(n) = { for (i = 1, n, ellisogeny(E, g)); 1 };");
-        Some(pari)
+        pari
     }
 
     fn tell(&mut self, line: &str) {
