@@ -79,3 +79,10 @@ pub fn read(path: &Path) -> io::Result<Vec<(PathBuf, Vec<u8>)>> {
     });
     sheets.collect()
 }
+
+/// The p of a certificate in bytes, or the number of question 2, where that refuses it.
+pub fn prime_of(bytes: &[u8]) -> Result<u32, u32> {
+    let words = sheet::words_of(bytes)?;
+    let [p, ..] = sheet::ask_head(&words, sheet::QUESTION_HEAD)?;
+    Ok(p as u32)
+}

@@ -148,13 +148,8 @@ fn single(n: u32) -> Samples {
 }
 
 fn listed(sheets: &[Vec<u8>]) -> Samples {
-    let heads = sheets.iter().map(|bytes| {
-        let words = sheet::words_of(bytes)?;
-        sheet::ask_head(&words, sheet::QUESTION_HEAD)
-    });
-    let primes: Vec<u32> = heads
-        .map(|head| head.expect("a certificate")[0] as u32)
-        .collect();
+    let prime = |bytes: &Vec<u8>| list::prime_of(bytes).expect("a certificate");
+    let primes: Vec<u32> = sheets.iter().map(prime).collect();
     let passing = || sheets.iter().filter(|bytes| entries::check(bytes) == 0);
     assert_eq!(passing().count(), sheets.len());
     let mut columns = vec![column("check", || passing().count())];

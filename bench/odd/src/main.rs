@@ -4,13 +4,9 @@
 use std::path::Path;
 use std::process::ExitCode;
 
-use reference::sheet;
-
 /// The number of the question that refuses the certificate.
 fn judge(bytes: &[u8]) -> Result<(), u32> {
-    let words = sheet::words_of(bytes)?;
-    let [p, ..] = sheet::ask_head(&words, sheet::QUESTION_HEAD)?;
-    if odd::question_three(p as u32) {
+    if odd::question_three(list::prime_of(bytes)?) {
         Ok(())
     } else {
         Err(3)
