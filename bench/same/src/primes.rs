@@ -105,11 +105,14 @@ fn is_prime(n: u32) -> bool {
     if small(n) != 0 {
         return false;
     }
-    if below_square(n, PRIMES[SECOND]) {
+    if n < 1 << 12 {
         return true;
     }
     if middle(n) != 0 {
         return false;
+    }
+    if n < 1 << 20 {
+        return true;
     }
     let primes = PRIMES[THIRD..].chunks_exact(BLOCK);
     for (primes, inverses) in primes.zip(SHORT_INVERSES.chunks_exact(BLOCK)) {

@@ -2,6 +2,7 @@
 -- n < W; for n = W high + low, with both halves below W, the quotient is found by halves too.
 -- Assumes nothing.
 use mathlib.Core.Path.{_≡_, sym, ap, _∙_, subst}
+use mathlib.Core.Logic.{_↔_}
 use Prim.Native.Nat.{ℕ, _+_, _-_, _*_, _/_, _%_, _≤_, _<_, _∣_}
 use native.Mathlib.Nat as N
 use native.Mathlib.Decide.{decLt}
@@ -30,7 +31,7 @@ module _ (W M q i : ℕ) (pos : 0 < q) (unit : (q * i) % W ≡ 1) (room : M * q 
   small : (e : ℕ) → e < M → e < W
   small e h = omega (arith, room, N.mul-le-mul-left M pos, N.mul-one M)
 
-  pub divides-small : (n : ℕ) → n < M * q → q ∣ n → (n * i) % W < M
+  divides-small : (n : ℕ) → n < M * q → q ∣ n → (n * i) % W < M
   divides-small n h dv =
       let prod : q * (n / q) ≡ n = N.mul-div-cancel' q dv in
       let low : n / q < M = N.div-lt-iff-lt-mul pos .1 h in
@@ -43,8 +44,8 @@ module _ (W M q i : ℕ) (pos : 0 < q) (unit : (q * i) % W ≡ 1) (room : M * q 
       let below : t * q < M * q = N.mul-lt-mul-of-pos-right h pos in
       sym (N.mod-eq-of-lt (omega (arith, below, room))) ∙ again n word
 
-  pub small-divides : (n : ℕ) → n < W → (n * i) % W < M → q ∣ n
-  small-divides n word h = subst (λ x. q ∣ x) (exact n word h) (N.dvd-mul-left q ((n * i) % W))
+  pub one-product : (n : ℕ) → n < M * q → (q ∣ n) ↔ ((n * i) % W < M)
+  one-product n h = (divides-small n h, λ t. subst (λ x. q ∣ x) (exact n (omega (arith, h, room)) t) (N.dvd-mul-left q ((n * i) % W)))
 
   -- ── by halves
   module _ (high low m t rest : ℕ) (high-below : high < M * q) (low-below : low < W)
@@ -94,7 +95,7 @@ module _ (W M q i : ℕ) (pos : 0 < q) (unit : (q * i) % W ≡ 1) (room : M * q 
       same : c * q + t ≡ high
       same = N.eq-of-mul-eq-mul-left W (omega arith) (c * q + t) high upper
 
-      pub halves-small : (rest * i) % W < M
+      halves-small : (rest * i) % W < M
       halves-small =
           let cq : c * q < M * q = omega (arith, same) in
           let cm : c < M = N.lt-of-mul-lt-mul-right q cq in
@@ -114,7 +115,7 @@ module _ (W M q i : ℕ) (pos : 0 < q) (unit : (q * i) % W ≡ 1) (room : M * q 
       unfolding k
       k-below = h
 
-      pub small-halves : q ∣ W * high + low
+      small-halves : q ∣ W * high + low
       small-halves = go (decLt high t)
         where
           go : Dec (high < t) → q ∣ W * high + low
@@ -131,3 +132,6 @@ module _ (W M q i : ℕ) (pos : 0 < q) (unit : (q * i) % W ≡ 1) (room : M * q 
               ∙ ap (λ x. x + W * (k * q)) (sym split)
               ∙ omega (arith, N.mul-add W t (k * q), ap (λ x. W * x) up) in
               subst (λ x. q ∣ x) e (N.dvd-mul-left q (m + W * k))
+
+    pub by-halves : (q ∣ W * high + low) ↔ ((rest * i) % W < M)
+    by-halves = (halves-small, small-halves)

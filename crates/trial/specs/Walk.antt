@@ -222,7 +222,8 @@ module _ (all : List ℕ) (r : Rising 2 all) where
 pub table : (k b : ℕ) (qs : List ℕ) → b ≡ 2 + 2 * k → T (climbs 2 qs) → T (walk qs k 3 qs) → PrimesBetween 2 b qs
 table k b qs e c t =
     let r = climbed 2 qs c in
-    let w = walked qs r k 3 0 qs (omega arith) (omega arith) (λ j l. (omega arith, ap (λ x. getD qs x 0) (omega arith))) (λ q Q lo hi. absurd (omega arith)) t in
+    let rest : Rest qs r 0 qs = λ j l. (omega arith, ap (λ x. getD qs x 0) (omega arith)) in
+    let w = walked qs r k 3 0 qs (omega arith) (omega arith) rest (λ q Q lo hi. absurd (omega arith)) t in
     record {
       prime = w .prime;
       above = r .above;

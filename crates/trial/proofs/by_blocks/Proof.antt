@@ -77,7 +77,8 @@ loop-less c = omega arith
 loop-again : tie.Need-loop-again Inv-loop μ-loop
 loop-again c =
     let call = c .before in
-    (omega arith, omega arith, omega arith, missed-more (start (tried call) .pre .1 .primes) (tried call .loop .inv .3) (call .by-half-products .ensures) (c .if2 .left))
+    let table = start (tried call) .pre .1 .primes in
+    (omega arith, omega arith, omega arith, missed-more table (tried call .loop .inv .3) (call .by-half-products .ensures) (c .if2 .left))
 
 returns-3 : tie.Need-returns-3 Inv-loop μ-loop
 returns-3 c =

@@ -1,13 +1,13 @@
 -- `trial::divides_by_halves` meets its contract: the upper half of n is below 4 times the divisor, and that is at most 2^16.
 -- Assumes nothing.
 use mathlib.Core.Path.{_≡_, refl, sym, subst}
-use mathlib.Core.Logic.{inl, inr}
+use mathlib.Core.Logic.{inl, inr, _↔_}
 use Prim.Native.Nat.{ℕ, _+_, _*_, _/_, _%_, _^_, _≤_, _<_, _∣_}
 use native.Mathlib.Nat as N
 use native.Mathlib.Omega.{arith}
 use borrow.Author.Needs.{needs}
 use Rattle.trial.specs.Table.{Pair}
-use Rattle.trial.proofs.Quotient.{halves-small, small-halves}
+use Rattle.trial.proofs.Quotient.{by-halves}
 use Rattle.trial.proofs.divides_by_halves.Statement.{statement}
 use Rattle.trial.proofs.divides_by_halves.Tie as tie
 
@@ -29,50 +29,54 @@ difference-requires c κs = search needs
 low-half-requires-2 : tie.Need-low-half-requires-2
 low-half-requires-2 c κs = search needs
 
+-- places, each seen from behind the one after it
+abbrev start : tie.After-low-half → tie.Start
+start c = c .before
+
+abbrev with-m : tie.After-high-half → tie.After-low-half
+with-m c = c .before
+
+abbrev with-t : tie.After-difference → tie.After-high-half
+with-t c = c .before
+
+abbrev with-rest : tie.After-low-half2 → tie.After-difference
+with-rest c = c .before
+
 -- the second quotient is below 4 exactly where q divides n
 module _ (c : tie.After-low-half2) where
-  abbrev start : tie.Start
-  start = c .before .before .before .before
+  abbrev begin : tie.Start
+  begin = start (with-m (with-t (with-rest c)))
 
   abbrev n : ℕ
-  n = start .args .n
+  n = begin .args .n
 
   abbrev q : ℕ
-  q = start .args .q
+  q = begin .args .q
 
-  abbrev pair : Pair (2 ^ 16) 1024 16384 q (start .args .inverse)
-  pair = start .pre .2
+  abbrev pair : Pair (2 ^ 16) 1024 16384 q (begin .args .inverse)
+  pair = begin .pre .2
 
-  whole : 2 ^ 16 * (n / 2 ^ 16) + n % 2 ^ 16 ≡ n
-  whole = N.div-add-mod n (2 ^ 16)
+  halves : (q ∣ 2 ^ 16 * (n / 2 ^ 16) + n % 2 ^ 16) ↔ ((with-rest c .difference .result * begin .args .inverse) % 2 ^ 16 < 4)
+  halves =
+      let t = with-t (with-rest c) in
+      let m = with-m t in
+      by-halves (2 ^ 16) 4 q (begin .args .inverse) (omega (arith, pair .above)) (pair .inverse) (omega (arith, pair .below)) (n / 2 ^ 16) (n % 2 ^ 16)
+      (m .low-half .result) (t .high-half .result) (with-rest c .difference .result) (omega (arith, begin .pre .1, pair .above)) (N.mod-lt n (omega arith))
+      (m .low-half .ensures) (t .high-half .ensures) (with-rest c .difference .ensures)
 
-  high-below : n / 2 ^ 16 < 4 * q
-  high-below = omega (arith, start .pre .1, pair .above)
-
-  room : 4 * q ≤ 2 ^ 16
-  room = omega (arith, pair .below)
-
-  divided : q ∣ n → c .low-half2 .result < 4
-  divided dv =
-      subst (λ x. x < 4) (sym (c .low-half2 .ensures))
-      (halves-small (2 ^ 16) 4 q (start .args .inverse) (omega (arith, pair .above)) (pair .inverse) room (n / 2 ^ 16) (n % 2 ^ 16)
-      (c .before .before .before .low-half .result) (c .before .before .high-half .result) (c .before .difference .result)
-      high-below (N.mod-lt n (omega arith)) (c .before .before .before .low-half .ensures) (c .before .before .high-half .ensures)
-      (c .before .difference .ensures) (subst (λ x. q ∣ x) (sym whole) dv))
-
-  divides : c .low-half2 .result < 4 → q ∣ n
-  divides h =
-      subst (λ x. q ∣ x) whole
-      (small-halves (2 ^ 16) 4 q (start .args .inverse) (omega (arith, pair .above)) (pair .inverse) room (n / 2 ^ 16) (n % 2 ^ 16)
-      (c .before .before .before .low-half .result) (c .before .before .high-half .result) (c .before .difference .result)
-      high-below (N.mod-lt n (omega arith)) (c .before .before .before .low-half .ensures) (c .before .before .high-half .ensures)
-      (c .before .difference .ensures) (subst (λ x. x < 4) (c .low-half2 .ensures) h))
+  decides : (q ∣ n) ↔ (c .low-half2 .result < 4)
+  decides =
+      let whole : 2 ^ 16 * (n / 2 ^ 16) + n % 2 ^ 16 ≡ n = N.div-add-mod n (2 ^ 16) in
+      let quotient = c .low-half2 .ensures in (
+        λ dv. subst (λ x. x < 4) (sym quotient) (halves .0 (subst (λ x. q ∣ x) (sym whole) dv)),
+        λ h. subst (λ x. q ∣ x) whole (halves .1 (subst (λ x. x < 4) quotient h)),
+      )
 
 returns : tie.Need-returns
-returns c = inl ((divides (c .before) (c .if1 .taken), omega (arith, pair (c .before) .below)), refl)
+returns c = inl ((decides (c .before) .1 (c .if1 .taken), omega (arith, pair (c .before) .below)), refl)
 
 returns-2 : tie.Need-returns-2
-returns-2 c = inr (λ h. omega (arith, c .if1 .left, divided (c .before) (h .0)), refl)
+returns-2 c = inr (λ h. omega (arith, c .if1 .left, decides (c .before) .0 (h .0)), refl)
 
 pub divides-by-halves-spec : {M : Type 1} → statement M
 divides-by-halves-spec =
