@@ -1,4 +1,4 @@
--- That inverses stand beside the entries of a table, by one test that antt computes.
+-- That inverses stand beside the entries of a table, by one test that antt computes; and both tables together.
 -- Assumes nothing.
 use mathlib.Core.Path.{_≡_, refl, ap}
 use mathlib.Core.Bool.{Bool, true, false}
@@ -12,6 +12,7 @@ use Rattle.trial.specs.Table.{PrimesBetween, Pairs, Whole}
 use Rattle.trial.specs.Walk.{table, climbs, walk}
 use Rattle.trial.specs.Runs.{rises}
 
+-- each product is 1 modulo W
 unfoldable pub beside : ℕ → List ℕ → List ℕ → Bool
 beside W [] [] = true
 beside W [] (i ∷ is) = false
@@ -50,9 +51,11 @@ pairs W a b i qs is table from t =
       pair = λ k le l. record { above = omega (arith, from, rises table i k le l); below = table .below k l; inverse = r .inverse k l };
     }
 
+-- and from any later one
 pub pairs-from : {W a b i : ℕ} {qs is : List ℕ} → Pairs W a b i qs is → (j : ℕ) → i ≤ j → Pairs W a b j qs is
 pairs-from p j le = record { as-long = p .as-long; pair = λ k h l. p .pair k (omega arith) l }
 
+-- both tables, by one test of each
 pub whole : (qs is : List ℕ) → length qs ≡ 1899 → T (climbs 2 qs) → T (walk qs 8191 3 qs) → getD qs 170 0 < 1024 → 1024 < getD qs 171 0
     → T (beside (2 ^ 16) qs is) → Whole qs is
 whole qs is size c w first next b =

@@ -3,7 +3,7 @@
 use mathlib.Core.Path.{_≡_}
 use mathlib.Core.Logic.{_⊎_}
 use mathlib.Core.List.{List}
-use Prim.Native.Nat.{ℕ, _+_, _%_, _≤_, _<_, _∣_}
+use Prim.Native.Nat.{ℕ, suc, _%_, _<_, _∣_}
 use lib.ListN.{getD}
 use Rattle.zmod.specs.Prime.{Prime}
 
@@ -22,8 +22,8 @@ Undivided a b n = (q : ℕ) → Prime q → a < q → q < b → Proper q n → �
 abbrev pub Told : Type 0 → ℕ → Type 0
 Told A r = (A × (r ≡ 1)) ⊎ ((A → ⊥) × (r ≡ 0))
 
--- r is 0 exactly where none of the numbers at the places from i up to e − 1 is a proper divisor of n
-pub record Found (n : ℕ) (qs : List ℕ) (i e r : ℕ) : Type 0 where
-  pub most : i + r ≤ e
-  pub none : r ≡ 0 → (j : ℕ) → i ≤ j → j < e → Proper (getD qs j 0) n → ⊥
-  pub some : (r ≡ 0 → ⊥) → (j : ℕ) × (i ≤ j) × (j < e) × Proper (getD qs j 0) n
+-- of the numbers at the places from i up to e − 1, r are proper divisors of n
+pub data Found (n : ℕ) (qs : List ℕ) (i : ℕ) : ℕ → ℕ → Type 0 where
+  none : Found n qs i i 0
+  hit : {e r : ℕ} → Found n qs i e r → Proper (getD qs e 0) n → Found n qs i (suc e) (suc r)
+  miss : {e r : ℕ} → Found n qs i e r → (Proper (getD qs e 0) n → ⊥) → Found n qs i (suc e) r

@@ -1,17 +1,18 @@
--- Prime divisors: every number above 1 has one, and one that is composite has one up to its root.
+-- Prime divisors: every number above 1 has one, and one that is composite has one up to its root; what the ends of a run of trials say.
 -- Assumes nothing.
 use mathlib.Core.Path.{_≡_, ap, _∙_, subst}
 use mathlib.Core.Logic.{_↔_}
+use mathlib.Core.Bool.{true}
 use Prim.Native.Nat.{ℕ, zero, suc, _+_, _-_, _*_, _/_, _%_, _≤_, _<_, _∣_}
 use native.Mathlib.Nat as N
 use native.Mathlib.Decide.{decLt, ℕ-discrete}
 use native.Mathlib.Omega.{arith}
 use lib.Dec.{eqb}
 use borrow.Author.Tests.{eqb-true, eq-eqb}
-use mathlib.Core.Bool.{true}
 use Rattle.zmod.specs.Prime.{Prime}
 use Rattle.trial.specs.Divisors.{Odd, Proper, Undivided}
 
+-- an even number divides no odd one
 pub even-divides : (k n : ℕ) → k % 2 ≡ 0 → Odd n → k ∣ n → ⊥
 even-divides k n e h d =
     let z : n % 2 ≡ 0 = N.mod-eq-zero-of-dvd 2 (N.dvd-trans 2 (N.dvd-of-mod-eq-zero 2 e) d) in

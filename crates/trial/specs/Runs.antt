@@ -1,10 +1,10 @@
 -- Runs of trials: what one more trial adds, and what a run over a table of primes says.
 -- Assumes nothing.
-use mathlib.Core.Path.{_≡_, refl, sym, ap, subst}
+use mathlib.Core.Path.{_≡_, refl, sym, ap, subst, subst₂}
 use mathlib.Core.Logic.{_⊎_, inl, inr, _↔_}
 use mathlib.Core.Bool.{true}
 use mathlib.Core.List.{List}
-use Prim.Native.Nat.{ℕ, _+_, _-_, _*_, _≤_, _<_, _∣_}
+use Prim.Native.Nat.{ℕ, suc, _+_, _-_, _*_, _≤_, _<_, _∣_}
 use native.Mathlib.Nat as N
 use native.Mathlib.Decide.{decLt, ℕ-discrete}
 use native.Mathlib.Omega.{arith}
@@ -13,6 +13,7 @@ use lib.ListN.{length, getD}
 use borrow.Author.Tests.{eqb-true, eq-eqb}
 use Rattle.zmod.specs.Prime.{Prime}
 use Rattle.trial.specs.Divisors.{Odd, Proper, Undivided, Told, Found}
+use Rattle.trial.specs.Divisors.Found.{none, hit, miss}
 use Rattle.trial.specs.Table.{PrimesBetween}
 use Rattle.trial.specs.Primes.{odd-divisor, square-lt, below-square, root-prime}
 
@@ -20,27 +21,35 @@ pub told-most : {A : Type 0} {r : ℕ} → Told A r → r ≤ 1
 told-most (inl (a, e)) = omega arith
 told-most (inr (a, e)) = omega arith
 
-pub found-none : (n : ℕ) (qs : List ℕ) (i : ℕ) → Found n qs i i 0
-found-none n qs i = record { most = omega arith; none = λ z j l h. absurd (omega arith); some = λ nz. absurd (nz refl) }
-
 pub found-more : {n : ℕ} {qs : List ℕ} {i e r s : ℕ} → Found n qs i e r → Told (Proper (getD qs e 0) n) s → Found n qs i (e + 1) (r + s)
-found-more {n} {qs} {i} {e} {r} {s} f (inl (hit, one)) = record {
-  most = omega (arith, f .most);
-  none = λ z. absurd (omega arith);
-  some = λ nz. (e, omega (arith, f .most), omega arith, hit);
-}
-found-more {n} {qs} {i} {e} {r} {s} f (inr (miss, zero)) = record {
-  most = omega (arith, f .most);
-  none = λ z j l h. none (omega arith) j l h (ℕ-discrete j e);
-  some = λ nz. later (f .some (λ z. nz (omega arith)));
-}
-  where
-    none : r ≡ 0 → (j : ℕ) → i ≤ j → j < e + 1 → Dec (j ≡ e) → Proper (getD qs j 0) n → ⊥
-    none z j l h (yes g) p = miss (subst (λ x. Proper (getD qs x 0) n) g p)
-    none z j l h (no g) p = f .none z j l (omega arith) p
+found-more {n} {qs} {i} {e} {r} {s} f (inl (p, one)) = subst₂ (Found n qs i) (omega arith) (omega arith) (hit f p)
+found-more {n} {qs} {i} {e} {r} {s} f (inr (p, zero)) = subst₂ (Found n qs i) (omega arith) (omega arith) (miss f p)
 
-    later : (j : ℕ) × (i ≤ j) × (j < e) × Proper (getD qs j 0) n → (j : ℕ) × (i ≤ j) × (j < e + 1) × Proper (getD qs j 0) n
-    later (j, l, h, p) = (j, l, omega arith, p)
+pub found-most : {n : ℕ} {qs : List ℕ} {i e r : ℕ} → Found n qs i e r → i + r ≤ e
+found-most none = omega arith
+found-most (hit f p) = omega (arith, found-most f)
+found-most (miss f p) = omega (arith, found-most f)
+
+-- a place among them whose number is a proper divisor
+abbrev Hit : ℕ → List ℕ → ℕ → ℕ → Type 0
+Hit n qs i e = (j : ℕ) × (i ≤ j) × (j < e) × Proper (getD qs j 0) n
+
+pub found-some : {n : ℕ} {qs : List ℕ} {i e r : ℕ} → Found n qs i e r → (r ≡ 0 → ⊥) → Hit n qs i e
+found-some none nz = absurd (nz refl)
+found-some (hit {e} {r} f p) nz = (e, omega (arith, found-most f), omega arith, p)
+found-some {n} {qs} {i} (miss {e} {r} f p) nz = later (found-some f nz)
+  where
+    later : Hit n qs i e → Hit n qs i (suc e)
+    later (j, l, h, q) = (j, l, omega arith, q)
+
+pub found-none : {n : ℕ} {qs : List ℕ} {i e r : ℕ} → Found n qs i e r → r ≡ 0 → (j : ℕ) → i ≤ j → j < e → Proper (getD qs j 0) n → ⊥
+found-none none z j l h p = omega arith
+found-none (hit f q) z j l h p = omega arith
+found-none {n} {qs} {i} (miss {e} {r} f q) z j l h p = go (ℕ-discrete j e) (λ g. found-none f z j l g p)
+  where
+    go : Dec (j ≡ e) → (j < e → ⊥) → ⊥
+    go (yes g) t = q (subst (λ x. Proper (getD qs x 0) n) g p)
+    go (no g) t = t (omega arith)
 
 -- ── over a table
 
@@ -67,10 +76,10 @@ module _ {b : ℕ} {qs : List ℕ} (table : PrimesBetween 2 b qs) where
 module _ {b n : ℕ} {qs : List ℕ} (table : PrimesBetween 2 b qs) where
   -- a trial that succeeds shows a divisor
   pub found-composite : {i e r : ℕ} → e ≤ length qs → Found n qs i e r → (r ≡ 0 → ⊥) → Prime n → ⊥
-  found-composite {i} {e} le f nz P = hit (f .some nz)
+  found-composite {i} {e} le f nz P = divided (found-some f nz)
     where
-      hit : (j : ℕ) × (i ≤ j) × (j < e) × Proper (getD qs j 0) n → ⊥
-      hit (j, l, h, (dv, lt)) = P .undivided (getD qs j 0) (table .prime j (omega arith) .above-one) lt dv
+      divided : Hit n qs i e → ⊥
+      divided (j, l, h, (dv, lt)) = P .undivided (getD qs j 0) (table .prime j (omega arith) .above-one) lt dv
 
   -- the first i entries are those up to a
   pub undivided-missed : {a : ℕ} (i : ℕ) → i ≤ length qs → getD qs (i - 1) 0 < a → Undivided 2 a n → Missed n qs i
@@ -84,7 +93,7 @@ module _ {b n : ℕ} {qs : List ℕ} (table : PrimesBetween 2 b qs) where
     where
       go : Dec (j < i) → ⊥
       go (yes h) = m j h p
-      go (no h) = f .none z j (omega arith) l p
+      go (no h) = found-none f z j (omega arith) l p
 
   pub missed-undivided : Missed n qs (length qs) → Undivided 2 b n
   missed-undivided m q Q lo hi p = at (table .complete q Q lo hi)
@@ -112,12 +121,12 @@ pub run-decides : {b n i r : ℕ} {qs : List ℕ} → Found n qs i (length qs) r
 run-decides {b} {n} {i} {r} {qs} f table m =
     (λ e. missed-undivided table (missed-more table m f (eqb-true r 0 e)), λ u. eq-eqb r 0 (go u (ℕ-discrete r 0)))
   where
-    hit : Undivided 2 b n → (j : ℕ) × (i ≤ j) × (j < length qs) × Proper (getD qs j 0) n → ⊥
-    hit u (j, l, h, p) = u (getD qs j 0) (table .prime j h) (table .above j h) (table .below j h) p
+    divided : Undivided 2 b n → Hit n qs i (length qs) → ⊥
+    divided u (j, l, h, p) = u (getD qs j 0) (table .prime j h) (table .above j h) (table .below j h) p
 
     go : Undivided 2 b n → Dec (r ≡ 0) → r ≡ 0
     go u (yes z) = z
-    go u (no nz) = absurd (hit u (f .some nz))
+    go u (no nz) = absurd (divided u (found-some f nz))
 
 -- the same behind a run up to a
 pub run-on-decides : {a b n i r : ℕ} {qs : List ℕ} → Found n qs i (length qs) r → PrimesBetween 2 b qs → Undivided 2 a n → i ≤ length qs

@@ -10,7 +10,6 @@ use native.Mathlib.Decide.{decLt, ℕ-discrete}
 use native.Mathlib.Omega.{arith}
 use lib.Dec.{T, ltb, eqb, ltb→lt, nltb→le, eqb→eq, T-not, eqb-refl}
 use lib.ListN.{length, getD}
-use Rattle.ring.specs.Test.{both, both-left, both-right}
 use Rattle.zmod.specs.Prime.{Prime}
 use Rattle.trial.specs.Divisors.{Odd}
 use Rattle.trial.specs.Table.{PrimesBetween}
@@ -18,6 +17,7 @@ use Rattle.trial.specs.Primes.{odd-prime, odd-divisor, square-le, below-
 
 -- ── a rising list
 
+-- each entry is above the one before it, and the first above lo
 unfoldable pub climbs : ℕ → List ℕ → Bool
 climbs lo [] = true
 climbs lo (x ∷ xs) = elim (ltb lo x) [ true ↦ climbs x xs | false ↦ false ]
@@ -63,6 +63,7 @@ passes (q ∷ qs) d = elim (ltb d (q * q)) [ true ↦ true | false ↦ elim (eqb
 nonzero : (a : ℕ) → T (not (eqb a 0)) → a ≡ 0 → ⊥
 nonzero a t e = T-not (eqb a 0) t (subst (λ x. T (eqb x 0)) (sym e) (eqb-refl 0))
 
+-- entries rise, so none behind the first whose square is above d has a smaller square
 passed : (lo : ℕ) (qs : List ℕ) (d : ℕ) → Rising lo qs → T (passes qs d) → (k : ℕ) → k < length qs → getD qs k 0 * getD qs k 0 ≤ d
     → d % getD qs k 0 ≡ 0 → ⊥
 unfolding passes
@@ -154,7 +155,7 @@ module _ (all : List ℕ) (r : Rising 2 all) where
           let lo : 1 < q = omega (arith, r .above k l) in
           P .undivided q lo (below-square q d lo sq) dv
 
-  -- beside d, the next number is even
+  -- two numbers more: d, and an even one
   known-more : (d : ℕ) → Odd d → 2 < d → Known d → (Prime d → (k : ℕ) × (k < length all) × (getD all k 0 ≡ d)) → Known (d + 2)
   known-more d od lo known here q Q two hi = go (decLt q d) (ℕ-discrete q d)
     where
@@ -218,7 +219,7 @@ module _ (all : List ℕ) (r : Rising 2 all) where
       go true false p f e w v s = absurd s
       go false b p f e w v s = skip k d (x ∷ xs) (v (f tt) s)
 
--- the k odd numbers from 3 on, the last of them below b
+-- The theorem behind the test: k odd numbers from 3 on, the last of them b − 1.
 pub table : (k b : ℕ) (qs : List ℕ) → b ≡ 2 + 2 * k → T (climbs 2 qs) → T (walk qs k 3 qs) → PrimesBetween 2 b qs
 table k b qs e c t =
     let r = climbed 2 qs c in

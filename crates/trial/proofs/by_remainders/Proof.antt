@@ -6,7 +6,8 @@ use lib.ListN.{length}
 use borrow.Author.Needs.{needs}
 use mathlib.Core.Path.{subst}
 use Rattle.trial.specs.Divisors.{Found}
-use Rattle.trial.specs.Runs.{found-none, found-more, told-most}
+use Rattle.trial.specs.Divisors.Found.{none}
+use Rattle.trial.specs.Runs.{found-more, found-most, told-most}
 use Rattle.trial.proofs.by_remainders.Statement.{statement}
 use Rattle.trial.proofs.by_remainders.Tie as tie
 
@@ -16,17 +17,18 @@ Inv-loop n primes found₀ j₀ found j = (j ≤ length primes) × Found n prime
 abbrev μ-loop : tie.MeasureT-loop
 μ-loop n primes found₀ j₀ found j = length primes - j
 
--- the start, as seen from the loop's test, and that test, as seen from behind a trial
+-- the start, as seen from the loop's test, and that test, as seen from a trial and from behind it
 abbrev start : tie.At-loop Inv-loop μ-loop → tie.Start Inv-loop μ-loop
 start at = at .before .before
 
+abbrev test : tie.After-shared-slice-known2 Inv-loop μ-loop → tie.At-loop Inv-loop μ-loop
+test c = c .before .before
+
 abbrev turn : tie.After-divides Inv-loop μ-loop → tie.At-loop Inv-loop μ-loop
-turn c = c .before .before .before
+turn c = test (c .before)
 
 loop-holds : tie.Need-loop-holds Inv-loop μ-loop
-loop-holds c =
-    let begin = c .before in
-    (omega arith, found-none (begin .args .n) (begin .args .primes .now) 0)
+loop-holds c = (omega arith, none)
 
 mul-divides : tie.Need-mul-divides Inv-loop μ-loop
 mul-divides c = omega arith
@@ -36,11 +38,11 @@ shared-slice-read-divides c = omega arith
 
 divides-requires : tie.Need-divides-requires Inv-loop μ-loop
 divides-requires c κs =
-    let at = c .before .before in
+    let at = test c in
     (omega arith, omega (arith, start at .pre .2 .above (at .loop .j) (omega arith)))
 
 add-found : tie.Need-add-found Inv-loop μ-loop
-add-found c = omega (arith, turn c .loop .inv .1 .most, told-most (c .divides .ensures))
+add-found c = omega (arith, found-most (turn c .loop .inv .1), told-most (c .divides .ensures))
 
 add-j : tie.Need-add-j Inv-loop μ-loop
 add-j c = omega arith
