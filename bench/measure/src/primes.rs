@@ -11,12 +11,13 @@ use crate::clock::{self, column, Samples, Stat, Value};
 use crate::table::{spread, Table};
 use crate::{entries, ROUNDS, SAMPLE};
 
-/// Primes of all sizes up to the largest permitted one, then a multiple of 3 and the square of the largest divisor that is ever tried.
-const NUMBERS: [u32; 9] = [
+/// Primes of all sizes up to the largest permitted one, on both sides of 2^20, where the last run of divisors begins, then a multiple of 3 and the square of the largest divisor that is ever tried.
+const NUMBERS: [u32; 10] = [
     11,
     1009,
     65_521,
     1_048_573,
+    1_048_583,
     16_777_213,
     67_108_859,
     268_435_399,
@@ -58,7 +59,7 @@ impl Primes {
             "
 ## Question 3
 
-Is p a prime from 11 to 2^28 - 1? Nanoseconds a call; the last two numbers are no primes but 3 · 89478485 and 16381².
+Is p prime, with 11 ≤ p < 2^28? Nanoseconds a call; the last two numbers are no primes but 3 · 89478485 and 16381².
 
 - question 3: `sagepliers_name(p, p, 0)`, which refuses with the number of the next question, 5, as soon as p has passed.
 - call: the same of p - 1, which is even, so what of it is not trial division.

@@ -15,7 +15,7 @@ pub fn is_prime(n: u32) -> bool {
     true
 }
 
-/// Question 3: is p a prime from 11 to 2^28 - 1?
+/// Question 3: is p prime, with 11 <= p < 2^28?
 pub fn question_three(p: u32) -> bool {
     (11..1 << 28).contains(&p) && is_prime(p)
 }

@@ -1,5 +1,5 @@
-//! Question 3: whether a number is a prime from 11 to 2^28 - 1. 2 is tried apart, then the odd primes from 3 to 16381 in three runs, each prime by what is
-//! cheapest at its size: a remainder, one product of 32 bits, three products of 16 bits. No run, and no block of the third, has a way out before its end, so
+//! Question 3: whether p is prime, with 11 <= p < 2^28. 2 is tried apart, then every odd prime below 2^14 in three runs, each by what is cheapest at its
+//! size: a remainder, one product of 32 bits, three products of 16 bits. No run, and no block of the third, has a way out before its end, so
 //! that the compiler tries several primes at once.
 
 const COUNT: usize = 1899;

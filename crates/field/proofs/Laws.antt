@@ -1,4 +1,4 @@
--- Residues of sums, negatives and differences of residues, as the functions compute them.
+-- Residues of sums, negatives and differences of residues, as the functions compute them; and a bound of a product.
 -- Assumes nothing.
 use mathlib.Core.Path.{_≡_, sym, _∙_, ap}
 use Prim.Native.Nat.{ℕ, _+_, _-_, _*_, _^_, _<_, _≤_}

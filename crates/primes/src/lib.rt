@@ -1,7 +1,7 @@
-// Primality of the numbers below 2^28 by trial division. 2 is tried apart; the other divisors are the entries of a constant table of the odd primes from 3
-// to 16381, in rising order and in three runs: those below 2^6, below 2^10 and below 2^14. Where the square of such a bound is above n, n is a prime. The
-// compiler stores a constant array on the stack where it is lent, unless all of it dissolves into constants, so the whole table is lent in one place
-// alone, which small numbers and most composite ones do not reach.
+// Primality of the numbers below 2^28 by trial division. 2 is tried apart; the other divisors stand in a constant table, which has every odd prime below
+// 2^14, smallest first. There are three runs: those below 2^6, below 2^10 and below 2^14. An n that none below such a bound divides is a prime if the
+// bound's square is above n. The compiler stores a constant array on the stack where it is lent, unless all of it dissolves into constants, so the whole
+// table is lent in one place alone, which small numbers and most composite ones do not reach.
 mod inverses;
 mod table;
 

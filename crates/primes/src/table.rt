@@ -1,5 +1,5 @@
 // The table of divisors.
-// The odd primes from 3 to 16381, in rising order.
+// Every odd prime below 2^14, smallest first: 3, .., 16381.
 pub const PRIMES: [u16; 1899] = [
     3,
     5,

@@ -9,11 +9,11 @@ use native.Mathlib.Decide.{decLt, ℕ-discrete}
 use native.Mathlib.Omega.{arith}
 use lib.Dec.{eqb}
 use borrow.Author.Tests.{eqb-true, eq-eqb}
-use Rattle.zmod.specs.Prime.{Prime}
-use Rattle.trial.specs.Divisors.{Odd, Proper, Undivided}
+use Rattle.zmod.specs.Prime.{Prime, root-prime}
+use Rattle.trial.specs.Divisors.{Odd, Undivided}
 
 -- an even number divides no odd one
-pub even-divides : (k n : ℕ) → k % 2 ≡ 0 → Odd n → k ∣ n → ⊥
+even-divides : (k n : ℕ) → k % 2 ≡ 0 → Odd n → k ∣ n → ⊥
 even-divides k n e h d =
     let z : n % 2 ≡ 0 = N.mod-eq-zero-of-dvd 2 (N.dvd-trans 2 (N.dvd-of-mod-eq-zero 2 e) d) in
     omega arith
@@ -60,7 +60,7 @@ least (suc f) d k e lo c = go (ℕ-discrete (k % d) 0) (least f (suc d) k (omega
         (d, record { above-one = lo; undivided = λ x l h xd. c x l h (N.dvd-trans x xd dv) }, dv)
     go (no z) rec = rec (clear-next d k c z)
 
-pub prime-divisor : (k : ℕ) → 1 < k → PrimeDivisor k
+prime-divisor : (k : ℕ) → 1 < k → PrimeDivisor k
 prime-divisor k h = least (k - 2) 2 k (omega arith) (omega arith) (λ x l u. absurd (omega arith))
 
 -- ── up to the root
@@ -80,35 +80,13 @@ square-lt a b h = go (decLt a b)
 pub below-square : (q n : ℕ) → 1 < q → q * q ≤ n → q < n
 below-square q n lo h = omega (arith, N.mul-le-mul-left q lo)
 
--- a number without a prime divisor up to its root is a prime: of a divisor and its cofactor, one is not above the root
-module _ (n : ℕ) (big : 1 < n) (none : (q : ℕ) → Prime q → q * q ≤ n → q ∣ n → ⊥) where
-  low : (k m : ℕ) → 1 < k → k ≤ m → k * m ≡ n → ⊥
-  low k m lo le e = found (prime-divisor k lo)
-    where
-      found : PrimeDivisor k → ⊥
-      found (q, P, dv) =
-          let ql : q ≤ k = N.le-of-dvd (omega arith) dv in
-          none q P (omega (arith, N.mul-le-mul {n₁ = q} {m₁ = q} {n₂ = k} {m₂ = m} ql (omega arith)))
-          (subst (λ x. q ∣ x) e (N.dvd-mul-right-of-dvd q dv m))
-
-  pub root-prime : Prime n
-  root-prime = record { above-one = big; undivided = all }
-    where
-      all : (k : ℕ) → 1 < k → k < n → k ∣ n → ⊥
-      all k one lt dv = go (decLt (n / k) k)
-        where
-          prod : k * (n / k) ≡ n
-          prod = N.mul-div-cancel' k dv
-
-          above : Dec (1 < n / k) → 1 < n / k
-          above (yes h) = h
-          above (no h) =
-              let e : k * (n / k) ≤ k * 1 = N.mul-le-mul-left k (omega arith) in
-              absurd (omega (arith, prod, N.mul-one k))
-
-          go : Dec (n / k < k) → ⊥
-          go (yes h) = low (n / k) k (above (decLt 1 (n / k))) (N.le-of-lt h) (N.mul-comm (n / k) k ∙ prod)
-          go (no h) = low k (n / k) one (omega arith) prod
+-- a number without a prime divisor up to its root is a prime
+pub without-primes : (n : ℕ) → 1 < n → ((q : ℕ) → Prime q → q * q ≤ n → q ∣ n → ⊥) → Prime n
+without-primes n big none = root-prime n big (λ e lo sq dv. found e lo sq dv (prime-divisor e lo))
+  where
+    found : (e : ℕ) → 1 < e → e * e ≤ n → e ∣ n → PrimeDivisor e → ⊥
+    found e lo sq dv (q, Q, qe) =
+        none q Q (omega (arith, sq, square-le q e (N.le-of-dvd (omega arith) qe))) (N.dvd-trans q qe dv)
 
 -- ── the ends of the runs
 
@@ -118,7 +96,7 @@ prime-undivided a b P q Q lo hi (dv, lt) = P .undivided q (Q .above-one) lt dv
 -- the bound's square is above n
 pub undivided-prime : (b n : ℕ) → Odd n → 1 < n → n < b * b → Undivided 2 b n → Prime n
 undivided-prime b n on big root u =
-    root-prime n big
+    without-primes n big
     (λ q Q sq dv. u q Q (odd-divisor n Q on dv) (square-lt q b (omega (arith, sq, root))) (dv, below-square q n (Q .above-one) sq))
 
 -- ── the first answers

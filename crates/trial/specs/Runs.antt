@@ -1,7 +1,7 @@
 -- Runs of trials: what one more trial adds, and what a run over a table of primes says.
 -- Assumes nothing.
 use mathlib.Core.Path.{_≡_, refl, sym, ap, subst, subst₂}
-use mathlib.Core.Logic.{_⊎_, inl, inr, _↔_}
+use mathlib.Core.Logic.{inl, inr, _↔_}
 use mathlib.Core.Bool.{true}
 use mathlib.Core.List.{List}
 use Prim.Native.Nat.{ℕ, suc, _+_, _-_, _*_, _≤_, _<_, _∣_}
@@ -15,7 +15,7 @@ use Rattle.zmod.specs.Prime.{Prime}
 use Rattle.trial.specs.Divisors.{Odd, Proper, Undivided, Told, Found}
 use Rattle.trial.specs.Divisors.Found.{none, hit, miss}
 use Rattle.trial.specs.Table.{PrimesBetween}
-use Rattle.trial.specs.Primes.{odd-divisor, square-lt, below-square, root-prime}
+use Rattle.trial.specs.Primes.{odd-divisor, square-lt, below-square, without-primes}
 
 pub told-most : {A : Type 0} {r : ℕ} → Told A r → r ≤ 1
 told-most (inl (a, e)) = omega arith
@@ -34,7 +34,7 @@ found-most (miss f p) = omega (arith, found-most f)
 abbrev Hit : ℕ → List ℕ → ℕ → ℕ → Type 0
 Hit n qs i e = (j : ℕ) × (i ≤ j) × (j < e) × Proper (getD qs j 0) n
 
-pub found-some : {n : ℕ} {qs : List ℕ} {i e r : ℕ} → Found n qs i e r → (r ≡ 0 → ⊥) → Hit n qs i e
+found-some : {n : ℕ} {qs : List ℕ} {i e r : ℕ} → Found n qs i e r → (r ≡ 0 → ⊥) → Hit n qs i e
 found-some none nz = absurd (nz refl)
 found-some (hit {e} {r} f p) nz = (e, omega (arith, found-most f), omega arith, p)
 found-some {n} {qs} {i} (miss {e} {r} f p) nz = later (found-some f nz)
@@ -42,7 +42,7 @@ found-some {n} {qs} {i} (miss {e} {r} f p) nz = later (found-some f nz)
     later : Hit n qs i e → Hit n qs i (suc e)
     later (j, l, h, q) = (j, l, omega arith, q)
 
-pub found-none : {n : ℕ} {qs : List ℕ} {i e r : ℕ} → Found n qs i e r → r ≡ 0 → (j : ℕ) → i ≤ j → j < e → Proper (getD qs j 0) n → ⊥
+found-none : {n : ℕ} {qs : List ℕ} {i e r : ℕ} → Found n qs i e r → r ≡ 0 → (j : ℕ) → i ≤ j → j < e → Proper (getD qs j 0) n → ⊥
 found-none none z j l h p = omega arith
 found-none (hit f q) z j l h p = omega arith
 found-none {n} {qs} {i} (miss {e} {r} f q) z j l h p = go (ℕ-discrete j e) (λ g. found-none f z j l g p)
@@ -81,7 +81,7 @@ module _ {b n : ℕ} {qs : List ℕ} (table : PrimesBetween 2 b qs) where
       divided : Hit n qs i e → ⊥
       divided (j, l, h, (dv, lt)) = P .undivided (getD qs j 0) (table .prime j (omega arith) .above-one) lt dv
 
-  -- the first i entries are those up to a
+  -- the first i entries are below a
   pub undivided-missed : {a : ℕ} (i : ℕ) → i ≤ length qs → getD qs (i - 1) 0 < a → Undivided 2 a n → Missed n qs i
   undivided-missed i le last u j l p =
       let inner : i - 1 < length qs = omega arith in
@@ -103,7 +103,7 @@ module _ {b n : ℕ} {qs : List ℕ} (table : PrimesBetween 2 b qs) where
 
   -- the square of the entry at i is above n
   pub missed-prime : Odd n → 1 < n → (i : ℕ) → i < length qs → n < getD qs i 0 * getD qs i 0 → Missed n qs i → Prime n
-  missed-prime on big i l root m = root-prime n big none
+  missed-prime on big i l root m = without-primes n big none
     where
       none : (q : ℕ) → Prime q → q * q ≤ n → q ∣ n → ⊥
       none q Q sq dv = at (table .complete q Q (odd-divisor n Q on dv) (omega (arith, small, table .below i l)))

@@ -20,12 +20,12 @@ pub record Pair (W a b q i : ℕ) : Type 0 where
   pub below : q < b
   pub inverse : (q * i) % W ≡ 1
 
--- so it is at every place from i on
-pub record Pairs (W a b i : ℕ) (qs is : List ℕ) : Type 0 where
+-- at every place from `from` on, entry and inverse are such a pair
+pub record Pairs (W a b from : ℕ) (qs is : List ℕ) : Type 0 where
   pub as-long : length is ≡ length qs
-  pub pair : (k : ℕ) → i ≤ k → k < length qs → Pair W a b (getD qs k 0) (getD is k 0)
+  pub pair : (k : ℕ) → from ≤ k → k < length qs → Pair W a b (getD qs k 0) (getD is k 0)
 
--- the two tables whole: every odd prime below 2^14, the first 171 of them below 2^10, and the inverses modulo 2^16
+-- the two tables whole: every odd prime below 2^14, the first 171 of them below 2^10, and beside all later ones their inverses modulo 2^16
 pub record Whole (qs is : List ℕ) : Type 0 where
   pub size : length qs ≡ 1899
   pub primes : PrimesBetween 2 16384 qs

@@ -1,7 +1,7 @@
 -- That a list has all the odd primes below a bound, by one test that antt computes. It walks over the odd numbers from 3 on: one that no entry up to its
 -- root divides must be the next entry, and any other must not, since it has a factor among the entries before it.
 -- Assumes nothing.
-use mathlib.Core.Path.{_≡_, refl, sym, ap, _∙_, subst}
+use mathlib.Core.Path.{_≡_, sym, ap, _∙_, subst}
 use mathlib.Core.Bool.{Bool, true, false, not}
 use mathlib.Core.List.{List, [], _∷_}
 use Prim.Native.Nat.{ℕ, zero, suc, _+_, _*_, _%_, _≤_, _<_, _∣_}
@@ -13,7 +13,7 @@ use lib.ListN.{length, getD}
 use Rattle.zmod.specs.Prime.{Prime}
 use Rattle.trial.specs.Divisors.{Odd}
 use Rattle.trial.specs.Table.{PrimesBetween}
-use Rattle.trial.specs.Primes.{odd-prime, odd-divisor, square-le, below-square, root-prime}
+use Rattle.trial.specs.Primes.{odd-prime, odd-divisor, square-le, below-square, without-primes}
 
 -- ── a rising list
 
@@ -136,7 +136,7 @@ module _ (all : List ℕ) (r : Rising 2 all) where
     below : (j : ℕ) → j < length xs → getD xs j 0 + 1 < d + 2 * k
 
   passed-prime : (d : ℕ) → Odd d → 2 < d → Known d → T (passes all d) → Prime d
-  passed-prime d od lo known t = root-prime d (omega arith) none
+  passed-prime d od lo known t = without-primes d (omega arith) none
     where
       none : (q : ℕ) → Prime q → q * q ≤ d → q ∣ d → ⊥
       none q Q sq dv = entry (known q Q (odd-divisor d Q od dv) (below-square q d (Q .above-one) sq))
@@ -219,7 +219,8 @@ module _ (all : List ℕ) (r : Rising 2 all) where
       go true false p f e w v s = absurd s
       go false b p f e w v s = skip k d (x ∷ xs) (v (f tt) s)
 
--- The theorem behind the test: k odd numbers from 3 on, the last of them b − 1.
+-- What the test shows: a list that climbs from above 2 and passes the walk over the k odd numbers from 3 on has the primes between 2 and 2 + 2 k, all of
+-- them and nothing else, in rising order.
 pub table : (k b : ℕ) (qs : List ℕ) → b ≡ 2 + 2 * k → T (climbs 2 qs) → T (walk qs k 3 qs) → PrimesBetween 2 b qs
 table k b qs e c t =
     let r = climbed 2 qs c in

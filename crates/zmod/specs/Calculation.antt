@@ -8,7 +8,6 @@ use mathlib.Core.Logic.{_⊎_, inl, inr}
 use mathlib.Core.List.{List, [], _∷_}
 use Prim.Native.Nat.{ℕ, zero, suc, _+_, _*_, _-_, _/_, _%_, _<_, _≤_, _∣_}
 use native.Mathlib.Nat as N
-use native.Mathlib.Decide.{decLe}
 use native.Mathlib.Omega.{arith}
 use lib.Dec.{T, eqb, eqb→eq, eqb-refl, ltb, ltb→lt, T-not}
 use lib.ListN.{getD}
@@ -22,7 +21,7 @@ use Rattle.series.specs.Series.{Series, Seq, conv, sums, negs, scaled, const, z
 use Rattle.series.specs.Indeterminate.{ind, cast-series}
 use Rattle.series.specs.Value.{value}
 use Rattle.zmod.specs.Zmod.{Zmod, mk, plus, times as mul-mod, minus, mk-add, mk-mul, mk-eq, eq-mk, mk-mod, mk-sub, cast-mk, plus-zero}
-use Rattle.zmod.specs.Prime.{Prime}
+use Rattle.zmod.specs.Prime.{Prime, root-prime}
 use Rattle.zmod.specs.Residues.{poly, poly-at}
 
 -- ── sums, multiples, products: not reduced
@@ -314,24 +313,9 @@ undivided-yes p d (suc k) t e le small h = go (ltb p (d * d)) refl t (λ s l. un
 abbrev pub primeTest : ℕ → Bool
 primeTest p = both (ltb 1 p) (undivided p 2 p)
 
--- of two factors one is at most the square root
 pub prime-yes : (p : ℕ) → T (primeTest p) → Prime p
-prime-yes p t = record {
-  above-one = ltb→lt 1 p (both-left (ltb 1 p) (undivided p 2 p) t);
-  undivided = λ d l m h. go d l m h (decLe (d * d) p);
-}
-  where
-    none : (e : ℕ) → 2 ≤ e → e * e ≤ p → e ∣ p → ⊥
-    none = undivided-yes p 2 p (both-right (ltb 1 p) (undivided p 2 p) t)
-
-    go : (d : ℕ) → 1 < d → d < p → d ∣ p → Dec (d * d ≤ p) → ⊥
-    go d l m h (yes small) = none d l small h
-    go d l m h (no large) =
-        let q : ℕ = p / d in
-        let e : q * d ≡ p = N.div-mul-cancel d h in
-        let less : q < d = N.lt-of-mul-lt-mul-right d (subst (λ n. n < d * d) (sym e) (N.lt-of-not-le large)) in
-        let more : 1 < q = N.lt-of-mul-lt-mul-right d (subst (λ n. 1 * d < n) (sym e) (subst (λ n. n < p) (sym (N.one-mul d)) m)) in
-        none q more (subst (λ n. q * q ≤ n) e (N.mul-le-mul-left q (N.le-of-lt less))) (subst (λ n. q ∣ n) e (N.dvd-mul-right q d))
+prime-yes p t =
+    root-prime p (ltb→lt 1 p (both-left (ltb 1 p) (undivided p 2 p) t)) (undivided-yes p 2 p (both-right (ltb 1 p) (undivided p 2 p) t))
 
 -- examples
 primes : T (primeTest 1009) × T (primeTest 11) × T (not (primeTest 1001)) × T (not (primeTest 961))

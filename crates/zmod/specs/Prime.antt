@@ -6,6 +6,7 @@ use mathlib.Core.Path.{_≡_, refl, sym, _∙_, ap, ap₂, subst}
 use mathlib.Core.Logic.{_⊎_, inl, inr, _≢_}
 use Prim.Native.Nat.{ℕ, zero, suc, _+_, _*_, _-_, _<_, _≤_, _%_, _/_, _∣_}
 use native.Mathlib.Nat as N
+use native.Mathlib.Decide.{decLe}
 use native.Mathlib.Omega.{arith}
 use Rattle.ring.specs.Ring
 use Rattle.ring.specs.Ring.{CRing, cast}
@@ -40,6 +41,19 @@ pub record Prime (p : ℕ) : Type 0 where
 
 pub prime-pos : {p : ℕ} → Prime p → 0 < p
 prime-pos P = omega arith
+
+-- a number without a divisor above 1 up to its root is a prime: of two factors one is at most the root
+pub root-prime : (p : ℕ) → 1 < p → ((e : ℕ) → 1 < e → e * e ≤ p → e ∣ p → ⊥) → Prime p
+root-prime p big none = record { above-one = big; undivided = λ d l m h. go d l m h (decLe (d * d) p) }
+  where
+    go : (d : ℕ) → 1 < d → d < p → d ∣ p → Dec (d * d ≤ p) → ⊥
+    go d l m h (yes small) = none d l small h
+    go d l m h (no large) =
+        let q : ℕ = p / d in
+        let e : q * d ≡ p = N.div-mul-cancel d h in
+        let less : q < d = N.lt-of-mul-lt-mul-right d (subst (λ n. n < d * d) (sym e) (N.lt-of-not-le large)) in
+        let more : 1 < q = N.lt-of-mul-lt-mul-right d (subst (λ n. 1 * d < n) (sym e) (subst (λ n. n < p) (sym (N.one-mul d)) m)) in
+        none q more (subst (λ n. q * q ≤ n) e (N.mul-le-mul-left q (N.le-of-lt less))) (subst (λ n. q ∣ n) e (N.dvd-mul-right q d))
 
 -- in any ring: from r + a q = 0 and r b = 1, a · −(q b) = 1
 pub step : (R : CRing) (a q r b : R .Car) → R .add r (R .mul a q) ≡ R .𝟘 → R .mul r b ≡ R .𝟙 → R .mul a (R .neg (R .mul q b)) ≡ R .𝟙

@@ -36,7 +36,7 @@ pub struct Judge {
     cases: u64,
     notes: Vec<String>,
     coverage: Coverage,
-    /// Time spent inside the library.
+    /// Time spent inside the library, with the comparing where the clock is read once for many calls.
     inside: Duration,
     sheet: Guarded,
     answer: Guarded,

@@ -1,7 +1,6 @@
 -- `primes::undivided_to_16381` meets its contract: one test over the whole table, and one of the inverses beside it.
 -- Assumes nothing.
 use mathlib.Core.Path.{refl}
-use Prim.Native.Nat.{_^_}
 use native.Mathlib.Omega.{arith}
 use borrow.Author.Needs.{needs}
 use Rattle.trial.specs.Walk.{climbs, walk, passes}

@@ -2,11 +2,10 @@
 -- what is left of the table.
 -- Assumes nothing.
 use mathlib.Core.Path.{_≡_}
-use Prim.Native.Nat.{_+_, _-_, _*_, _^_, _%_, _≤_, _<_}
+use Prim.Native.Nat.{_-_, _%_, _≤_, _<_}
 use native.Mathlib.Nat as N
 use native.Mathlib.Omega.{arith}
-use lib.ListN.{length, getD}
-use borrow.Author.Needs.{needs}
+use lib.ListN.{getD}
 use Rattle.questions.specs.Tests.{says-no, says-yes}
 use Rattle.zmod.specs.Remainder.{product-below}
 use Rattle.trial.specs.Primes.{undivided-prime}

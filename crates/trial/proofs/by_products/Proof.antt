@@ -3,7 +3,6 @@
 use Prim.Native.Nat.{_-_, _≤_}
 use native.Mathlib.Omega.{arith}
 use lib.ListN.{length}
-use borrow.Author.Needs.{needs}
 use mathlib.Core.Path.{subst}
 use Rattle.trial.specs.Divisors.{Found}
 use Rattle.trial.specs.Divisors.Found.{none}

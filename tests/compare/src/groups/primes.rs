@@ -39,7 +39,7 @@ pub fn every(judge: &mut Judge, share: u64, shares: u64) {
 }
 
 /// Both ends of the range whole, and what is hard between and above. Sheets are
-/// made of every number, in the quick form of every sixteenth.
+/// made of every hard number below 2^28, in the quick form of every sixteenth.
 pub fn run(judge: &mut Judge, quick: bool) {
     let (low, high) = if quick {
         (1 << 14, 2000)

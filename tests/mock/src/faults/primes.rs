@@ -68,7 +68,7 @@ pub fn to_last_square(call: &Call, reply: Reply) -> Reply {
 
 pub fn unbounded(call: &Call, reply: Reply) -> Reply {
     asks(call, reply, |p| {
-        p >= 11 && p % 2 == 1 && divided(p, divisors())
+        p >= 11 && p % 2 == 1 && undivided(p, divisors())
     })
 }
 
@@ -78,7 +78,7 @@ pub fn unbounded(call: &Call, reply: Reply) -> Reply {
 const LAST: u64 = 16381;
 
 /// Whether none of these divides p, up to the first with a square above p.
-fn divided(p: u64, mut divisors: impl Iterator<Item = u64>) -> bool {
+fn undivided(p: u64, mut divisors: impl Iterator<Item = u64>) -> bool {
     let found = divisors.find(|&q| q * q > p || p.is_multiple_of(q));
     found.is_none_or(|q| q * q > p)
 }
@@ -86,12 +86,12 @@ fn divided(p: u64, mut divisors: impl Iterator<Item = u64>) -> bool {
 /// An odd p is tried with other divisors.
 fn tries<D: Iterator<Item = u64>>(call: &Call, reply: Reply, divisors: fn(u64) -> D) -> Reply {
     asks(call, reply, |p| {
-        in_range(p) && p % 2 == 1 && divided(p, divisors(p))
+        in_range(p) && p % 2 == 1 && undivided(p, divisors(p))
     })
 }
 
 pub fn untried_2(call: &Call, reply: Reply) -> Reply {
-    asks(call, reply, |p| in_range(p) && divided(p, divisors()))
+    asks(call, reply, |p| in_range(p) && undivided(p, divisors()))
 }
 
 pub fn left_out(call: &Call, reply: Reply) -> Reply {
@@ -143,7 +143,7 @@ pub fn root_less_1(call: &Call, reply: Reply) -> Reply {
     })
 }
 
-/// Of the quotients by 16111 the largest below 2^28, which is prime, is not found.
+/// Of the numbers below 2^28 the largest multiple of 16111, whose quotient is prime, is taken for one too.
 pub fn bound_less_1(call: &Call, reply: Reply) -> Reply {
     tries(call, reply, |p| {
         divisors().filter(move |&q| q != 16111 || p / q < (VALUE_LIMIT - 1) / q)
