@@ -11,7 +11,8 @@ use crate::clock::{self, column, Samples, Stat, Value};
 use crate::table::{spread, Table};
 use crate::{entries, ROUNDS, SAMPLE};
 
-/// Primes of all sizes up to the largest permitted one, on both sides of 2^20, where the last run of divisors begins, then a multiple of 3 and the square of the largest divisor that is ever tried.
+/// Primes of all sizes up to the largest permitted one, on both sides of 2^20, where the last run of divisors begins, then a multiple of 3 and the square of
+/// the largest divisor that is ever tried.
 const NUMBERS: [u32; 10] = [
     11,
     1009,
