@@ -1,5 +1,5 @@
--- Primes, and that the integers modulo a prime are a field: every element but zero has an inverse, a product is zero only if a factor is, and so
--- Euclid's lemma.
+-- Primes, which divisors up to the root decide, and that the integers modulo a prime are a field: every element but zero has an inverse, a product is zero
+-- only if a factor is, and so Euclid's lemma.
 -- The inverse of a is found from that of r = p % a, as −(p / a) · r⁻¹: a well-founded descent, with no greatest common divisor.
 -- Assumes nothing.
 use mathlib.Core.Path.{_≡_, refl, sym, _∙_, ap, ap₂, subst}
