@@ -16,6 +16,7 @@ pub mod curve;
 pub mod field;
 pub mod generate;
 pub mod marked;
+pub mod mistakes;
 pub mod poly;
 pub mod primes;
 pub mod random;

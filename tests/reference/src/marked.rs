@@ -1,6 +1,6 @@
 //! The rows of "The marked sheets and their neighbours" in document 01, and
 //! the output that it prints. Every expectation is copied from there; where it
-//! prints a g but no N, N is taken from R2.
+//! prints a g but no N, N is taken from R2. The parts of N are document 02's.
 
 use crate::call::{point_number, Call, Reply};
 use crate::field::Field;
@@ -20,6 +20,9 @@ pub const PRINTED: [&str; 14] = [
     "100003f1", "20000001", "30000003", "40000109", "5000036d", "60000003", "7000002e", "800003da",
     "80000001", "900003b5", "900002a6", "900003c3", "90000001", "f0000000",
 ];
+
+/// Request E5: the parts of N for the first question.
+pub const PARTS: [[u64; 4]; 3] = [[891, 676, 825, 3], [46, 1007, 138, 1003], [12, 4, 0, 4]];
 
 /// Coefficients from the constant term up, of any sign.
 fn certificate(values: [u64; 7], g: &[i64], n: &[i64]) -> Certificate {

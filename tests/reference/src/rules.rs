@@ -1,5 +1,5 @@
 //! Rules R1 to R3 of document 01, and the power sums and the expansion at
-//! infinity that it prints beside them.
+//! infinity that it prints beside them. N is summed in the order of request E5.
 
 use crate::field::Field;
 use crate::poly::Poly;
@@ -20,17 +20,26 @@ pub fn r1(g: &Poly, d: usize, claimed_sigma: u64) -> bool {
     g.degree() == Some(d) && g.at(d) == 1 && sigma(g, d) == claimed_sigma
 }
 
-/// R2: the N of a domain, a degree, a sigma and a g.
-pub fn r2(a: u64, b: u64, l: u64, sigma: u64, g: &Poly) -> Poly {
+/// The terms of source 001's formula (13) times D = g^2, in its order: the one with
+/// lx - sigma, the one with D'/D = 2g'/g, and the one with its derivative, which is
+/// 2(gg'' - g'^2)/g^2. Each carries the sign with which it joins the sum.
+pub fn parts(a: u64, b: u64, l: u64, sigma: u64, g: &Poly) -> [Poly; 3] {
     let field = g.field();
     let (g1, g2) = (g.derivative(), g.derivative().derivative());
     let line = Poly::new(field, vec![field.neg(sigma), l % field.p()]);
     let slope = Poly::new(field, vec![a, 0, field.of(3)]);
-    let first = line.mul(&g.square());
-    let second = slope.mul(g).mul(&g1).scale(field.of(2));
     let bend = g.mul(&g2).sub(&g1.square());
-    let third = cubic(field, a, b).mul(&bend).scale(field.of(4));
-    first.sub(&second).sub(&third)
+    [
+        line.mul(&g.square()),
+        slope.mul(g).mul(&g1).scale(field.of(-2)),
+        cubic(field, a, b).mul(&bend).scale(field.of(-4)),
+    ]
+}
+
+/// R2: the N of a domain, a degree, a sigma and a g.
+pub fn r2(a: u64, b: u64, l: u64, sigma: u64, g: &Poly) -> Poly {
+    let [first, second, third] = parts(a, b, l, sigma, g);
+    first.add(&second).add(&third)
 }
 
 /// The polynomials of R3 that do not depend on the codomain, so that one g can
