@@ -7,6 +7,7 @@ pub mod document;
 pub mod hostile;
 pub mod lengths;
 pub mod limits;
+pub mod numerator;
 pub mod points;
 pub mod primes;
 pub mod search;
@@ -91,10 +92,11 @@ fn by_generation(quick: bool) -> Vec<Group> {
         })
     };
     let mut groups: Vec<Group> = certificates::primes(quick).into_iter().map(over).collect();
-    let others: [(&str, WithQuick); 8] = [
+    let others: [(&str, WithQuick); 9] = [
         ("certificates, least primes", certificates::least_primes),
         ("certificates, composed", certificates::composed),
         ("damage", damage::run),
+        ("numerator", numerator::run),
         ("almost, all degrees", almost::large),
         ("almost, small fields", almost::small),
         ("almost, deep", almost::deep),

@@ -1,6 +1,7 @@
 //! Deliberate faults, one at a time: each is a program that breaks document 01
 //! in one way and keeps it otherwise. The comparison must find every one.
 
+mod numerator;
 mod primes;
 
 use std::sync::OnceLock;
@@ -81,6 +82,30 @@ pub const FAULTS: &[(&str, Fault)] = &[
     ("room-above-392", Fault::Input(room_above_392)),
     ("sigma-once", Fault::Output(sigma_once)),
     ("r2-not-asked", Fault::Output(r2_not_asked)),
+    ("second-part-plus", Fault::Output(numerator::second_plus)),
+    (
+        "third-part-2-for-4",
+        Fault::Output(numerator::third_2_for_4),
+    ),
+    ("third-part-moved", Fault::Output(numerator::third_moved)),
+    ("third-part-wraps", Fault::Output(numerator::third_wraps)),
+    ("parts-exchanged", Fault::Output(numerator::exchanged)),
+    (
+        "second-part-plus-passes",
+        Fault::Output(numerator::second_plus_passes),
+    ),
+    (
+        "third-part-2-for-4-passes",
+        Fault::Output(numerator::third_2_for_4_passes),
+    ),
+    (
+        "third-part-moved-passes",
+        Fault::Output(numerator::third_moved_passes),
+    ),
+    (
+        "parts-exchanged-passes",
+        Fault::Output(numerator::exchanged_passes),
+    ),
     ("r3-not-asked", Fault::Output(r3_not_asked)),
     ("r3-to-degree-2l", Fault::Output(r3_to_degree_2l)),
     ("r3-highest-only", Fault::Output(r3_highest_only)),

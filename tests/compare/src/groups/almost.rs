@@ -87,7 +87,7 @@ pub fn large(judge: &mut Judge, quick: bool) {
 
 /// Powers of one linear factor and multiples of a power of x, which make many
 /// coefficients of R3 vanish, the largest coefficients, and random ones.
-fn shapes(random: &mut Random, field: Field, d: usize) -> Vec<Poly> {
+pub fn shapes(random: &mut Random, field: Field, d: usize) -> Vec<Poly> {
     let root = random.below(field.p());
     let some = random_monic(random, field, d - d / 2);
     let mut high = vec![0; d / 2];
