@@ -53,6 +53,7 @@ fn by_document(quick: bool) -> Vec<Group> {
         group("degrees", limits::degrees),
         group("primes", move |judge| primes::run(judge, quick)),
         group("points", points::run),
+        group("numerator", move |judge| numerator::run(judge, quick)),
     ]
 }
 
@@ -92,11 +93,10 @@ fn by_generation(quick: bool) -> Vec<Group> {
         })
     };
     let mut groups: Vec<Group> = certificates::primes(quick).into_iter().map(over).collect();
-    let others: [(&str, WithQuick); 9] = [
+    let others: [(&str, WithQuick); 8] = [
         ("certificates, least primes", certificates::least_primes),
         ("certificates, composed", certificates::composed),
         ("damage", damage::run),
-        ("numerator", numerator::run),
         ("almost, all degrees", almost::large),
         ("almost, small fields", almost::small),
         ("almost, deep", almost::deep),
