@@ -43,7 +43,6 @@ fn numbers_of_pari() {
 }
 
 /// A polynomial over the integers; nothing is reduced before the end.
-#[derive(Clone)]
 struct Integers(Vec<i128>);
 
 impl Integers {
