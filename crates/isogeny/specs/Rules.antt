@@ -1,7 +1,7 @@
 -- Document 01's rules R1 to R3 for g and N, over any commutative ring, and the image of a point. A polynomial is the sequence of its coefficients, the
 -- constant term first; sums, products and powers are those of the ring of such sequences, and ∂ is the derivative.
 -- Assumes nothing.
-use mathlib.Core.Path.{_≡_}
+use mathlib.Core.Path.{_≡_, refl}
 use mathlib.Core.Logic.{_≢_}
 use Prim.Native.Nat.{ℕ, suc, _+_, _*_, _-_}
 use Rattle.ring.specs.Ring.{CRing, cast, pow}
@@ -59,6 +59,21 @@ module _ (R : CRing) (q : Question R) where
   -- R2: N = (ℓx − σ)g² − 2(3x² + A)gg′ − 4f(gg″ − g′²)
   unfoldable pub N : Seq R → Seq R
   N g = (# ℓ ⊗ x ⊖ κ σ) ⊗ g ^ 2 ⊖ # 2 ⊗ (# 3 ⊗ x ^ 2 ⊕ κ A) ⊗ g ⊗ ∂ R g ⊖ # 4 ⊗ f ⊗ (g ⊗ ∂ R (∂ R g) ⊖ ∂ R g ^ 2)
+
+  -- its three terms, signs included, in the order of source document 001's formula (13): the part of ℓx − σ, the part of the first logarithmic derivative
+  -- D′/D, and the part of the second one, (D′/D)′, each times D = g²
+  unfoldable pub linear-part : Seq R → Seq R
+  linear-part g = (# ℓ ⊗ x ⊖ κ σ) ⊗ g ^ 2
+
+  unfoldable pub first-logarithmic-part : Seq R → Seq R
+  first-logarithmic-part g = neg (# 2 ⊗ (# 3 ⊗ x ^ 2 ⊕ κ A) ⊗ g ⊗ ∂ R g)
+
+  unfoldable pub second-logarithmic-part : Seq R → Seq R
+  second-logarithmic-part g = neg (# 4 ⊗ f ⊗ (g ⊗ ∂ R (∂ R g) ⊖ ∂ R g ^ 2))
+
+  pub N-parts : (g : Seq R) → N g ≡ linear-part g ⊕ first-logarithmic-part g ⊕ second-logarithmic-part g
+  unfolding N linear-part first-logarithmic-part second-logarithmic-part
+  N-parts g = refl
 
   -- R3: f(N′g − 2Ng′)² = N³ + ÃNg⁴ + B̃g⁶, each coefficient on the left equal to the one on the right
   unfoldable pub W : Seq R → Seq R → Seq R

@@ -5,13 +5,14 @@ use mathlib.Core.Logic.{_↔_}
 use mathlib.Core.Path.{_≡_, sym, _∙_, ap, ap₂}
 use Prim.Native.Nat.{ℕ, _+_, _≤_}
 use Rattle.ring.specs.Ring.{CRing, cast, pow}
-use Rattle.ring.specs.Identity.{solve6}
-use Rattle.ring.specs.Identity.Ex.{num, _:+_, _:-_, _:*_, _:^_}
-use Rattle.series.specs.Series.{Series, Seq, const, ∂, ∂-add, ∂-leibniz}
+use Rattle.ring.specs.Identity.{solve1, solve2, solve3, solve4, solve6}
+use Rattle.ring.specs.Identity.Ex.{num, :1, _:+_, _:-_, _:*_, :-_, _:^_}
+use Rattle.ring.specs.Derivation.{d-quotient}
+use Rattle.series.specs.Series.{Series, Seq, const, ∂, ∂-leibniz, ∂-leibniz-twice, Formal}
 use Rattle.series.specs.Degree.{Poly, Monic, leading, leading-regular, monic-mul, monic-poly, regular-cancel}
 use Rattle.series.specs.Indeterminate.{ind}
 use Rattle.series.specs.Reversal.{rev-sub}
-use Rattle.isogeny.specs.Rules.{Question, ℓ, f, N, R1, R3}
+use Rattle.isogeny.specs.Rules.{Question, ℓ, f, N, linear-part, first-logarithmic-part, second-logarithmic-part, N-parts, R1, R3}
 use Rattle.isogeny.specs.Expansion.{PowerSums, power-sums}
 use Rattle.isogeny.specs.Kernel.{codomain-A, codomain-B}
 use Rattle.isogeny.specs.Velu.{sigma, velu-A, velu-B}
@@ -39,6 +40,13 @@ module _ (R : CRing) (q : Question R) where
   abbrev x : Seq R
   x = ind R
 
+  -- ℓx − σ, and 3x² + A
+  abbrev line : Seq R
+  line = # (ℓ R q) ⊗ x ⊖ κ σ
+
+  abbrev quadratic : Seq R
+  quadratic = # 3 ⊗ pow (Series R) x 2 ⊕ κ A
+
   -- The σ of R1 is that of (12).
   pub source-sigma : 1 ≤ d → (g : Seq R) → R1 R q g → σ ≡ sigma R d (g ⊗ g)
   unfolding sigma
@@ -61,26 +69,79 @@ module _ (R : CRing) (q : Question R) where
 
   -- ── (13)
 
-  -- N/D = ℓx − σ − (3x² + A)(D′/D) − 2f(D′/D)′, times D²
-  unfoldable pub Formula13 : Seq R → Seq R → Type 0
-  Formula13 D n =
-      n ⊗ D ≡ (# (ℓ R q) ⊗ x ⊖ κ σ) ⊗ D ⊗ D ⊖ (# 3 ⊗ pow (Series R) x 2 ⊕ κ A) ⊗ ∂ R D ⊗ D ⊖ # 2 ⊗ f R q ⊗ (∂ R (∂ R D) ⊗ D ⊖ ∂ R D ⊗ ∂ R D)
+  -- N/D = ℓx − σ − (3x² + A)(D′/D) − 2f(D′/D)′ as it is printed, where m is N/D and h is D′/D
+  unfoldable pub Printed13 : Seq R → Seq R → Type 0
+  Printed13 m h = m ≡ line ⊖ quadratic ⊗ h ⊖ # 2 ⊗ f R q ⊗ ∂ R h
 
-  -- R2's N satisfies it, whatever g is,
+  -- the same times D²
+  unfoldable pub Formula13 : Seq R → Seq R → Type 0
+  Formula13 D n = n ⊗ D ≡ line ⊗ D ⊗ D ⊖ quadratic ⊗ ∂ R D ⊗ D ⊖ # 2 ⊗ f R q ⊗ (∂ R (∂ R D) ⊗ D ⊖ ∂ R D ⊗ ∂ R D)
+
+  -- Where D has an inverse i, so that both quotients are there, the one says what the other does.
+  module _ (D i n : Seq R) (inverse : D ⊗ i ≡ Series R .𝟙) where
+    abbrev h : Seq R
+    h = ∂ R D ⊗ i
+
+    times-D : h ⊗ D ≡ ∂ R D
+    times-D =
+        solve3 (Series R) (λ D i s. s :* i :* D) (λ D i s. s :* (D :* i)) tt D i (∂ R D) ∙ ap (λ y. ∂ R D ⊗ y) inverse ∙ Series R .mul-one (∂ R D)
+
+    slope-times-D² : ∂ R h ⊗ (D ⊗ D) ≡ ∂ R (∂ R D) ⊗ D ⊖ ∂ R D ⊗ ∂ R D
+    slope-times-D² = d-quotient (Series R) (Formal R) (∂ R D) D h times-D
+
+    cleared : (line ⊖ quadratic ⊗ h ⊖ # 2 ⊗ f R q ⊗ ∂ R h) ⊗ (D ⊗ D)
+        ≡ line ⊗ D ⊗ D ⊖ quadratic ⊗ ∂ R D ⊗ D ⊖ # 2 ⊗ f R q ⊗ (∂ R (∂ R D) ⊗ D ⊖ ∂ R D ⊗ ∂ R D)
+    cleared =
+        solve6 (Series R) (λ l s f h h′ D. (l :- s :* h :- num 2 :* f :* h′) :* (D :* D))
+        (λ l s f h h′ D. l :* D :* D :- s :* (h :* D) :* D :- num 2 :* f :* (h′ :* (D :* D))) tt line quadratic (f R q) h (∂ R h) D
+        ∙ ap₂ (λ a b. line ⊗ D ⊗ D ⊖ quadratic ⊗ a ⊗ D ⊖ # 2 ⊗ f R q ⊗ b) times-D slope-times-D²
+
+    -- m D² i² = m
+    divided : (m : Seq R) → m ⊗ (D ⊗ D) ⊗ (i ⊗ i) ≡ m
+    divided m =
+        solve3 (Series R) (λ m D i. m :* (D :* D) :* (i :* i)) (λ m D i. m :* ((D :* i) :* (D :* i))) tt m D i ∙ ap (λ y. m ⊗ (y ⊗ y)) inverse
+        ∙ solve1 (Series R) (λ m. m :* (:1 :* :1)) (λ m. m) tt m
+
+    quotient-times-D² : n ⊗ i ⊗ (D ⊗ D) ≡ n ⊗ D
+    quotient-times-D² =
+        solve3 (Series R) (λ n D i. n :* i :* (D :* D)) (λ n D i. n :* D :* (D :* i)) tt n D i ∙ ap (λ y. n ⊗ D ⊗ y) inverse ∙ Series R .mul-one (n ⊗ D)
+
+    pub printed-13 : Printed13 (n ⊗ i) h ↔ Formula13 D n
+    unfolding Printed13 Formula13
+    printed-13 = (
+      λ e. sym quotient-times-D² ∙ ap (λ m. m ⊗ (D ⊗ D)) e ∙ cleared,
+      λ e. sym (divided (n ⊗ i)) ∙ ap (λ m. m ⊗ (i ⊗ i)) (quotient-times-D² ∙ e ∙ sym cleared) ∙ divided _,
+    )
+
+  -- R2's parts times D are the terms on the right, with D = g², each part its own:
+  module _ (g : Seq R) where
+    pub linear-13 : linear-part R q g ⊗ (g ⊗ g) ≡ line ⊗ (g ⊗ g) ⊗ (g ⊗ g)
+    unfolding linear-part
+    linear-13 = solve2 (Series R) (λ l g. l :* g :^ 2 :* (g :* g)) (λ l g. l :* (g :* g) :* (g :* g)) tt line g
+
+    pub first-logarithmic-13 : first-logarithmic-part R q g ⊗ (g ⊗ g) ≡ neg (quadratic ⊗ ∂ R (g ⊗ g) ⊗ (g ⊗ g))
+    unfolding first-logarithmic-part
+    first-logarithmic-13 =
+        solve3 (Series R) (λ s g g′. :- (num 2 :* s :* g :* g′) :* (g :* g)) (λ s g g′. :- (s :* (g′ :* g :+ g :* g′) :* (g :* g))) tt quadratic g (∂ R g)
+        ∙ sym (ap (λ s. neg (quadratic ⊗ s ⊗ (g ⊗ g))) (∂-leibniz R g g))
+
+    pub second-logarithmic-13 : second-logarithmic-part R q g ⊗ (g ⊗ g)
+        ≡ neg (# 2 ⊗ f R q ⊗ (∂ R (∂ R (g ⊗ g)) ⊗ (g ⊗ g) ⊖ ∂ R (g ⊗ g) ⊗ ∂ R (g ⊗ g)))
+    unfolding second-logarithmic-part
+    second-logarithmic-13 =
+        solve4 (Series R) (λ f g g′ g″. :- (num 4 :* f :* (g :* g″ :- g′ :^ 2)) :* (g :* g))
+        (λ f g g′ g″. :- (num 2 :* f :* ((g″ :* g :+ g′ :* g′ :+ (g′ :* g′ :+ g :* g″)) :* (g :* g) :- (g′ :* g :+ g :* g′) :* (g′ :* g :+ g :* g′)))) tt
+        (f R q) g (∂ R g) (∂ R (∂ R g))
+        ∙ sym (ap₂ (λ s t. neg (# 2 ⊗ f R q ⊗ (t ⊗ (g ⊗ g) ⊖ s ⊗ s))) (∂-leibniz R g g) (∂-leibniz-twice R g g))
+
+  -- so R2's N satisfies it, whatever g is,
   pub formula-13 : (g : Seq R) → Formula13 (g ⊗ g) (N R q g)
-  unfolding Formula13 N
+  unfolding Formula13
   formula-13 g =
-      solve6 (Series R)
-      (λ l s f g g′ g″. (l :* g :^ 2 :- num 2 :* s :* g :* g′ :- num 4 :* f :* (g :* g″ :- g′ :^ 2)) :* (g :* g))
-      (λ l s f g g′ g″. l :* (g :* g) :* (g :* g) :- s :* (g′ :* g :+ g :* g′) :* (g :* g)
-      :- num 2 :* f :* ((g″ :* g :+ g′ :* g′ :+ (g′ :* g′ :+ g :* g″)) :* (g :* g) :- (g′ :* g :+ g :* g′) :* (g′ :* g :+ g :* g′))) tt
-      (# (ℓ R q) ⊗ x ⊖ κ σ) (# 3 ⊗ pow (Series R) x 2 ⊕ κ A) (f R q) g (∂ R g) (∂ R (∂ R g))
-      ∙ sym (ap₂
-      (λ s t. (# (ℓ R q) ⊗ x ⊖ κ σ) ⊗ (g ⊗ g) ⊗ (g ⊗ g) ⊖ (# 3 ⊗ pow (Series R) x 2 ⊕ κ A) ⊗ s ⊗ (g ⊗ g) ⊖ # 2 ⊗ f R q ⊗ (t ⊗ (g ⊗ g) ⊖ s ⊗ s))
-      (∂-leibniz R g g) twice)
-    where
-      twice : ∂ R (∂ R (g ⊗ g)) ≡ ∂ R (∂ R g) ⊗ g ⊕ ∂ R g ⊗ ∂ R g ⊕ (∂ R g ⊗ ∂ R g ⊕ g ⊗ ∂ R (∂ R g))
-      twice = ap (∂ R) (∂-leibniz R g g) ∙ ∂-add R _ _ ∙ ap₂ _⊕_ (∂-leibniz R (∂ R g) g) (∂-leibniz R g (∂ R g))
+      ap (λ n. n ⊗ (g ⊗ g)) (N-parts R q g)
+      ∙ solve4 (Series R) (λ a b c D. (a :+ b :+ c) :* D) (λ a b c D. a :* D :+ b :* D :+ c :* D) tt
+      (linear-part R q g) (first-logarithmic-part R q g) (second-logarithmic-part R q g) (g ⊗ g)
+      ∙ ap₂ _⊕_ (ap₂ _⊕_ (linear-13 g) (first-logarithmic-13 g)) (second-logarithmic-13 g)
 
   -- and, for a g with R1, no other polynomial does: (13) is R2.
   pub formula-13-is : 1 ≤ d → (g : Seq R) → R1 R q g → (n : Seq R) → Poly R n → Formula13 (g ⊗ g) n ↔ (n ≡ N R q g)

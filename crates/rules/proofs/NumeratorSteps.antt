@@ -1,45 +1,104 @@
--- What the slices hold after a run of calls: each call's result is a whole polynomial where the slice is long enough, and the polynomials are those of
--- R2.
+-- What the sums of words say of coefficients: each part of N by its coefficients, the products that the parts are made of, and N as the sum of its parts.
 -- Assumes nothing.
-use mathlib.Core.Path.{_≡_, refl, sym, _∙_, ap, ap₂}
+use mathlib.Core.Path.{_≡_, sym, _∙_, ap, ap₂}
 use mathlib.Core.List.{List}
 use Prim.Native.Nat.{ℕ, suc, _+_, _*_, _-_, _≤_, _<_}
 use native.Mathlib.Decide.{decLt}
 use native.Mathlib.Omega.{arith}
 use lib.ListN.{length, getD}
+use Rattle.ring.specs.Ring
 use Rattle.ring.specs.Ring.{cast}
-use Rattle.ring.specs.Identity.{solve3}
-use Rattle.ring.specs.Identity.Ex.{num, :0, _:+_, _:*_, :-_}
-use Rattle.series.specs.Series.{conv, ∂, ∂-at}
+use Rattle.ring.specs.Identity.{solve2}
+use Rattle.ring.specs.Identity.Ex.{_:*_, :-_}
+use Rattle.series.specs.Series.{Seq, conv, negs, ∂, ∂-at}
+use Rattle.series.specs.Degree.{negs-below}
 use Rattle.zmod.specs.Zmod.{Zmod, mk, plus, minus, times, mk-add, mk-mul, mk-combination, cast-mk}
-use Rattle.zmod.specs.Residues.{Residue, Reduced, poly, poly-at, poly-past, Residues, residue-same, residues-same}
-use Rattle.isogeny.specs.Rules.{N}
+use Rattle.zmod.specs.Residues.{Residue, Reduced, poly, poly-at, poly-past, Residues, residue-same}
+use Rattle.isogeny.specs.Rules.{N, f, linear-part, first-logarithmic-part, second-logarithmic-part, N-parts}
 use Rattle.sheet.specs.declared.Values.{Values}
 use Rattle.sheet.specs.Values.{half, question}
-use Rattle.rules.specs.Degrees.{below-∂}
-use Rattle.rules.specs.Numerator.{shifted, shifted-low, shifted-high, lowered, lowered-at, lowered-below, bent, joined, joined-at, N-is}
 use Rattle.sheet.specs.Ready.{Ready, degree-half}
+use Rattle.rules.specs.Degrees.{below-∂}
+use Rattle.rules.specs.Numerator.{
+  shifted,
+  shifted-low,
+  shifted-high,
+  minus-slope,
+  minus-bend,
+  bent,
+  slope-is,
+  bend-is,
+  bent-below,
+  line,
+  quadratic,
+  line-at,
+  quadratic-at,
+  cubic-at,
+  linear-is,
+  first-is,
+  second-is,
+}
 use Rattle.rules.specs.Words.{Whole, whole, whole-same, from-derivative, from-product}
+use Rattle.rules.specs.Products.{Products}
 
 module _ (p : ℕ) where
-  -- a coefficient of −2(s′ − 4t), from 2(i + 1)(−s_(i+1)) + 8t_i
-  pub lower-is : (s t : List ℕ) (i a x r : ℕ) → Residue p (minus p (mk p (getD s (i + 1) 0))) a → x ≡ 2 * (i + 1) * a + 8 * getD t i 0 + 0 * 0
-      → Residue p (mk p x) r → Residue p (lowered (Zmod p) (∂ (Zmod p) (poly p s)) (poly p t) i) r
-  lower-is s t i a x r ha e =
-      residue-same
-      (ap (mk p) e ∙ mk-combination p (2 * (i + 1)) a 8 (getD t i 0) 0 0
-      ∙ ap₂ (plus p)
-      (ap₂ (plus p)
-      (ap₂ (times p) (mk-mul p 2 (i + 1) ∙ ap₂ (times p) (sym (cast-mk p 2)) (ap (mk p) (omega arith) ∙ sym (cast-mk p (suc i))))
-      (ha .class ∙ ap (minus p) (sym (poly-at p s (i + 1)) ∙ ap (poly p s) (omega arith))))
-      (ap₂ (times p) (sym (cast-mk p 8)) (sym (poly-at p t i))))
-      refl
-      ∙ solve3 (Zmod p) (λ c a t. num 2 :* c :* :- a :+ num 8 :* t :+ :0 :* :0) (λ c a t. :- num 2 :* (c :* a :+ :- num 4 :* t)) tt (cast (Zmod p) (suc i))
-      (poly p s (suc i)) (poly p t i)
-      ∙ ap (λ y. times p (minus p (cast (Zmod p) 2)) (plus p y (times p (minus p (cast (Zmod p) 4)) (poly p t i)))) (sym (∂-at (Zmod p) (poly p s) i))
-      ∙ sym (lowered-at (Zmod p) (∂ (Zmod p) (poly p s)) (poly p t) i))
+  -- ── the products
 
-  -- the word j places before k
+  -- a word above i, as the derivative's coefficient i has it
+  above : (s : List ℕ) (i : ℕ) → times p (mk p (i + 1)) (mk p (getD s (i + 1) 0)) ≡ ∂ (Zmod p) (poly p s) i
+  above s i =
+      ap₂ (times p) (ap (mk p) (omega arith) ∙ sym (cast-mk p (suc i))) (sym (poly-at p s (i + 1)) ∙ ap (poly p s) (omega arith))
+      ∙ sym (∂-at (Zmod p) (poly p s) i)
+
+  pub slope-at : (s : List ℕ) (i a r : ℕ) → Residue p (minus p (mk p (getD s (i + 1) 0))) a → Residue p (times p (mk p (i + 1)) (mk p a)) r
+      → Residue p (minus p (∂ (Zmod p) (poly p s) i)) r
+  slope-at s i a r h =
+      residue-same
+      (ap (times p (mk p (i + 1))) (h .class)
+      ∙ solve2 (Zmod p) (λ c a. c :* :- a) (λ c a. :- (c :* a)) tt (mk p (i + 1)) (mk p (getD s (i + 1) 0))
+      ∙ ap (minus p) (above s i))
+
+  -- l x + m y
+  pair : (l x m y : ℕ) → mk p (l * x + m * y + 0 * 0) ≡ plus p (times p (mk p l) (mk p x)) (times p (mk p m) (mk p y))
+  pair l x m y = ap (mk p) (omega arith) ∙ mk-add p (l * x) (m * y) ∙ ap₂ (plus p) (mk-mul p l x) (mk-mul p m y)
+
+  pub bend-at : (s t : List ℕ) (i x r : ℕ) → x ≡ 2 * (i + 1) * getD s (i + 1) 0 + 8 * getD t i 0 + 0 * 0 → Residue p (mk p x) r
+      → Residue p (bent (Zmod p) (poly p s) (poly p t) i) r
+  bend-at s t i x r e =
+      residue-same
+      (ap (mk p) e ∙ pair (2 * (i + 1)) (getD s (i + 1) 0) 8 (getD t i 0)
+      ∙ ap₂ (plus p)
+      (ap (λ y. times p y (mk p (getD s (i + 1) 0))) (mk-mul p 2 (i + 1)) ∙ Zmod p .mul-assoc (mk p 2) (mk p (i + 1)) (mk p (getD s (i + 1) 0))
+      ∙ ap₂ (times p) (sym (cast-mk p 2)) (above s i))
+      (ap₂ (times p) (sym (cast-mk p 8)) (sym (poly-at p t i))))
+
+  -- the five calls that form them
+  pub products-steps : (g square slope h hh bend : List ℕ) → length square + 1 ≡ 2 * length g → length square ≡ length slope + 1
+      → length g ≡ length h + 1 → length hh + 1 ≡ 2 * length h → length slope ≡ length bend + 1 → length bend ≡ length hh
+      → Residues p (conv (Zmod p) (poly p g) (poly p g)) square → Residues p (negs (Zmod p) (∂ (Zmod p) (poly p square))) slope
+      → Residues p (∂ (Zmod p) (poly p g)) h → Residues p (conv (Zmod p) (poly p h) (poly p h)) hh
+      → Residues p (bent (Zmod p) (poly p slope) (poly p hh)) bend → Products p (poly p g) square slope bend
+  products-steps g square slope h hh bend l₁ l₂ l₃ l₄ l₅ l₆ r₁ r₂ r₃ r₄ r₅ = record { square-is = square-whole; slope-is = slope-whole; bend-is = bend-whole }
+    where
+      square-whole : Whole p (conv (Zmod p) (poly p g) (poly p g)) square
+      square-whole = from-product p g g square (omega arith) r₁
+
+      slope-whole : Whole p (minus-slope (Zmod p) (poly p g)) slope
+      slope-whole =
+          whole-same (ap (λ a. negs (Zmod p) (∂ (Zmod p) a)) (square-whole .same) ∙ slope-is (Zmod p) (poly p g))
+          (whole r₂ (negs-below (Zmod p) (length slope) _ (below-∂ (Zmod p) (poly p square) (omega arith) (poly-past p square))))
+
+      tangent² : poly p hh ≡ conv (Zmod p) (∂ (Zmod p) (poly p g)) (∂ (Zmod p) (poly p g))
+      tangent² = from-product p h h hh (omega arith) r₄ .same ∙ ap (λ a. conv (Zmod p) a a) (from-derivative p g h (omega arith) r₃ .same)
+
+      bend-whole : Whole p (minus-bend (Zmod p) (poly p g)) bend
+      bend-whole =
+          whole-same (ap₂ (bent (Zmod p)) (slope-whole .same) tangent² ∙ bend-is (Zmod p) (poly p g))
+          (whole r₅ (bent-below (Zmod p) (length bend) (poly p slope) (poly p hh) (λ i l. poly-past p slope i (omega arith))
+          (λ i l. poly-past p hh i (omega arith))))
+
+  -- ── the word j places before k
+
   module _ (a : List ℕ) (j k r : ℕ) (low : k < j → r ≡ 0) (high : j ≤ k → r ≡ getD a (k - j) 0) where
     pub back-is : mk p r ≡ shifted (Zmod p) j (poly p a) k
     back-is = go (decLt k j)
@@ -55,48 +114,43 @@ module _ (p : ℕ) where
         go (yes l) = omega (arith, low l)
         go (no l) = omega (arith, high (omega arith), h (k - j))
 
-  pub bend-steps : (g s h hh o : List ℕ) → length g ≡ length h + 1 → length hh + 1 ≡ 2 * length h → length s ≡ length o + 1 → length o ≡ length hh
-      → Residues p (∂ (Zmod p) (poly p g)) h → Residues p (conv (Zmod p) (poly p h) (poly p h)) hh
-      → Residues p (lowered (Zmod p) (∂ (Zmod p) (poly p s)) (poly p hh)) o → Whole p (bent (Zmod p) (poly p g) (poly p s)) o
-  unfolding bent
-  bend-steps g s h hh o l₁ l₂ l₃ l₄ r₁ r₂ r₃ =
-      whole-same
-      (ap (lowered (Zmod p) (∂ (Zmod p) (poly p s))) (from-product p h h hh (omega arith) r₂ .same ∙ ap (λ a. conv (Zmod p) a a)
-      (from-derivative p g h (omega arith) r₁ .same)))
-      (whole r₃ (lowered-below (Zmod p) (length o) (∂ (Zmod p) (poly p s)) (poly p hh) (below-∂ (Zmod p) (poly p s) (omega arith) (poly-past p s))
-      (λ i k. poly-past p hh i (omega arith))))
+-- ── the parts
 
 module _ (v : Values) where
   abbrev p : ℕ
   p = v .p
 
-  -- a coefficient of (ℓx − σ)s − (3x² + A)t + f e: m, n and o are −σ, −A and −3
-  pub join-is : Ready v → (s t e : List ℕ) (k m n o s₁ t₂ e₁ e₃ x y w r : ℕ) → Residue p (minus p (mk p (v .sigma))) m → Residue p (minus p (mk p (v .a))) n
-      → mk p o ≡ minus p (cast (Zmod p) 3) → mk p s₁ ≡ shifted (Zmod p) 1 (poly p s) k → mk p t₂ ≡ shifted (Zmod p) 2 (poly p t) k
-      → mk p e₁ ≡ shifted (Zmod p) 1 (poly p e) k → mk p e₃ ≡ shifted (Zmod p) 3 (poly p e) k
-      → x ≡ v .degree * s₁ + m * getD s k 0 + n * getD t k 0 → y ≡ o * t₂ + v .a * e₁ + v .b * getD e k 0 → w ≡ e₃
-      → Residue p (mk p (x + y + w)) r → Residue p (joined (Zmod p) (question v) (poly p s) (poly p t) (poly p e) k) r
-  join-is ready s t e k m n o s₁ t₂ e₁ e₃ x y w r hm hn ho hs₁ ht₂ he₁ he₃ ex ey ew =
-      residue-same
-      (mk-add p (x + y) w
-      ∙ ap₂ (plus p)
-      (mk-add p x y
-      ∙ ap₂ (plus p)
-      (ap (mk p) ex ∙ mk-combination p (v .degree) s₁ m (getD s k 0) n (getD t k 0)
-      ∙ ap₂ (plus p)
-      (ap₂ (plus p) (ap₂ (times p) (ap (mk p) (degree-half v ready) ∙ sym (cast-mk p (2 * half v + 1))) hs₁) (ap₂ (times p) (hm .class) (sym (poly-at p s k))))
-      (ap₂ (times p) (hn .class) (sym (poly-at p t k))))
-      (ap (mk p) ey ∙ mk-combination p o t₂ (v .a) e₁ (v .b) (getD e k 0)
-      ∙ ap₂ (plus p) (ap₂ (plus p) (ap₂ (times p) ho ht₂) (ap (times p (mk p (v .a))) he₁)) (ap (times p (mk p (v .b))) (sym (poly-at p e k)))))
-      (ap (mk p) ew ∙ he₃)
-      ∙ sym (joined-at (Zmod p) (question v) (poly p s) (poly p t) (poly p e) k))
+  pub linear-step : Ready v → (square : List ℕ) (k m s₁ x : ℕ) → Residue p (minus p (mk p (v .sigma))) m → mk p s₁ ≡ shifted (Zmod p) 1 (poly p square) k
+      → x ≡ v .degree * s₁ + m * getD square k 0 + 0 * 0 → (g : Seq (Zmod p)) → poly p square ≡ conv (Zmod p) g g
+      → mk p x ≡ linear-part (Zmod p) (question v) g k
+  linear-step ready square k m s₁ x hm h₁ e g is =
+      ap (mk p) e ∙ pair p (v .degree) s₁ m (getD square k 0)
+      ∙ ap₂ (plus p) (ap₂ (times p) (ap (mk p) (degree-half v ready) ∙ sym (cast-mk p (2 * half v + 1))) h₁)
+      (ap₂ (times p) (hm .class) (sym (poly-at p square k)))
+      ∙ sym (line-at (Zmod p) (question v) (poly p square) k) ∙ ap (λ a. conv (Zmod p) (line (Zmod p) (question v)) a k) is
+      ∙ ap (λ a. a k) (linear-is (Zmod p) (question v) g)
 
-  pub numerator-steps : (g s t e out : List ℕ) → length s + 1 ≡ 2 * length g → length s ≡ length t + 1
-      → Residues p (conv (Zmod p) (poly p g) (poly p g)) s → Residues p (∂ (Zmod p) (poly p s)) t → Whole p (bent (Zmod p) (poly p g) (poly p t)) e
-      → Residues p (joined (Zmod p) (question v) (poly p s) (poly p t) (poly p e)) out → Residues p (N (Zmod p) (question v) (poly p g)) out
-  numerator-steps g s t e out l₁ l₂ r₁ r₂ w r =
-      residues-same
-      (ap (joined (Zmod p) (question v) (poly p s) (poly p t)) (w .same)
-      ∙ ap (λ b. joined (Zmod p) (question v) (poly p s) b (bent (Zmod p) (poly p g) b)) (from-derivative p s t (omega arith) r₂ .same)
-      ∙ ap (λ a. joined (Zmod p) (question v) a (∂ (Zmod p) a) (bent (Zmod p) (poly p g) (∂ (Zmod p) a))) (from-product p g g s (omega arith) r₁ .same)
-      ∙ N-is (Zmod p) (question v) (poly p g)) r
+  pub first-step : (slope : List ℕ) (k s₂ x : ℕ) → mk p s₂ ≡ shifted (Zmod p) 2 (poly p slope) k → x ≡ 3 * s₂ + v .a * getD slope k 0 + 0 * 0
+      → (g : Seq (Zmod p)) → poly p slope ≡ minus-slope (Zmod p) g → mk p x ≡ first-logarithmic-part (Zmod p) (question v) g k
+  first-step slope k s₂ x h₂ e g is =
+      ap (mk p) e ∙ pair p 3 s₂ (v .a) (getD slope k 0)
+      ∙ ap₂ (plus p) (ap₂ (times p) (sym (cast-mk p 3)) h₂) (ap (times p (mk p (v .a))) (sym (poly-at p slope k)))
+      ∙ sym (quadratic-at (Zmod p) (question v) (poly p slope) k) ∙ ap (λ a. conv (Zmod p) (quadratic (Zmod p) (question v)) a k) is
+      ∙ ap (λ a. a k) (first-is (Zmod p) (question v) g)
+
+  pub second-step : (bend : List ℕ) (k b₃ b₁ x : ℕ) → mk p b₃ ≡ shifted (Zmod p) 3 (poly p bend) k → mk p b₁ ≡ shifted (Zmod p) 1 (poly p bend) k
+      → x ≡ 1 * b₃ + v .a * b₁ + v .b * getD bend k 0
+      → (g : Seq (Zmod p)) → poly p bend ≡ minus-bend (Zmod p) g → mk p x ≡ second-logarithmic-part (Zmod p) (question v) g k
+  second-step bend k b₃ b₁ x h₃ h₁ e g is =
+      ap (mk p) e ∙ mk-combination p 1 b₃ (v .a) b₁ (v .b) (getD bend k 0)
+      ∙ ap₂ (plus p) (ap₂ (plus p) (Ring.one-mul (Zmod p) (mk p b₃) ∙ h₃) (ap (times p (mk p (v .a))) h₁)) (ap (times p (mk p (v .b))) (sym (poly-at p bend k)))
+      ∙ sym (cubic-at (Zmod p) (question v) (poly p bend) k) ∙ ap (λ a. conv (Zmod p) (f (Zmod p) (question v)) a k) is
+      ∙ ap (λ a. a k) (second-is (Zmod p) (question v) g)
+
+  pub sum-step : (g : Seq (Zmod p)) (k l m n r : ℕ) → mk p l ≡ linear-part (Zmod p) (question v) g k
+      → mk p m ≡ first-logarithmic-part (Zmod p) (question v) g k → mk p n ≡ second-logarithmic-part (Zmod p) (question v) g k
+      → Residue p (mk p (l + (m + n))) r → Residue p (N (Zmod p) (question v) g k) r
+  sum-step g k l m n r hl hm hn =
+      residue-same
+      (mk-add p l (m + n) ∙ ap₂ (plus p) hl (mk-add p m n ∙ ap₂ (plus p) hm hn) ∙ sym (Zmod p .add-assoc _ _ _)
+      ∙ ap (λ a. a k) (sym (N-parts (Zmod p) (question v) g)))

@@ -1,3 +1,4 @@
 pub mod Degrees
 pub mod Numerator
 pub mod Words
+pub mod Products

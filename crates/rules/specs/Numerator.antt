@@ -1,18 +1,34 @@
--- N of R2 from two products. With G = g²: G′ = 2gg′ and G″ − 4g′² = 2(gg″ − g′²), so N = (ℓx − σ)G − (3x² + A)G′ − 2f(G″ − 4g′²).
--- N has at most ℓ + 1 coefficients.
+-- The parts of N, from g², −2gg′ and −4(gg″ − g′²): as polynomials, by their coefficients, and how long they are. Two squares give these three: with
+-- s = −(g²)′, which is −2gg′, the last one is 2s′ + 8g′².
 -- Assumes nothing.
 use mathlib.Core.Path.{_≡_, refl, sym, _∙_, ap, ap₂, subst, fun-ext}
 use Prim.Native.Nat.{ℕ, zero, suc, _+_, _*_, _-_, _≤_, _<_}
 use native.Mathlib.Omega.{arith}
 use Rattle.ring.specs.Ring
-use Rattle.ring.specs.Ring.{CRing, cast, pow}
-use Rattle.ring.specs.Identity.{solve6, solve8}
+use Rattle.ring.specs.Ring.{CRing, cast, pow, pow-zero, pow-suc}
+use Rattle.ring.specs.Derivation.{d-neg}
+use Rattle.ring.specs.Identity.{solve2, solve3, solve4}
 use Rattle.ring.specs.Identity.Ex.{num, _:+_, _:-_, _:*_, :-_, _:^_}
-use Rattle.series.specs.Series.{Series, Seq, conv, scaled, const, head-then, ∂, ∂-add, ∂-leibniz, conv-const, conv-scalar}
-use Rattle.series.specs.Degree.{Below, sums-below}
+use Rattle.series.specs.Series.{
+  Series,
+  Seq,
+  conv,
+  sums,
+  negs,
+  scaled,
+  const,
+  head-then,
+  ∂,
+  ∂-leibniz,
+  ∂-leibniz-twice,
+  Formal,
+  conv-const,
+  conv-scalar,
+}
+use Rattle.series.specs.Degree.{Below, sums-below, negs-below, scaled-below}
 use Rattle.series.specs.Indeterminate.{ind, cast-series, conv-cast, conv-ind}
 use Rattle.series.specs.Reversal.{r-add, r-neg, r-mul, r-pow, r-up, r-const, r-cast, r-ind}
-use Rattle.isogeny.specs.Rules.{Question, ℓ, f, N}
+use Rattle.isogeny.specs.Rules.{Question, ℓ, f, N, linear-part, first-logarithmic-part, second-logarithmic-part, N-parts}
 use Rattle.rules.specs.Degrees.{below-∂, below-conv}
 
 module _ (R : CRing) where
@@ -33,12 +49,9 @@ module _ (R : CRing) where
   scaled-minus m n a e =
       conv-scalar R m a ∙ ap (λ c. c ⊗ a) (ap (const R) e ∙ const-neg (cast R n) ∙ ap neg (sym (cast-series R n)))
 
-  -- a coefficient of −c a, of −n a, and of x^j a
+  -- a coefficient of −c a, and of x^j a
   const-minus-at : (c : R .Car) (a : Seq R) (i : ℕ) → (neg (const R c) ⊗ a) i ≡ R .mul (R .neg c) (a i)
   const-minus-at c a i = ap (λ b. conv R b a i) (sym (const-neg c)) ∙ conv-const R (R .neg c) a i
-
-  minus-at : (n : ℕ) (a : Seq R) (i : ℕ) → (neg (cast (Series R) n) ⊗ a) i ≡ R .mul (R .neg (cast R n)) (a i)
-  minus-at n a i = ap (λ b. (neg b ⊗ a) i) (cast-series R n) ∙ const-minus-at (cast R n) a i
 
   unfoldable pub shifted : ℕ → Seq R → Seq R
   shifted zero a = a
@@ -56,27 +69,46 @@ module _ (R : CRing) where
   shifted-high (suc j) zero a l = absurd (omega arith)
   shifted-high (suc j) (suc k) a l = shifted-high j k a (omega arith) ∙ ap a (omega arith)
 
-  -- ── −2(G″ − 4g′²), from G″ and g′², and from g and G′
+  power-ind : (j : ℕ) (a : Seq R) → pow (Series R) (ind R) j ⊗ a ≡ shifted j a
+  unfolding shifted
+  power-ind zero a = ap (λ c. c ⊗ a) (pow-zero (Series R) (ind R)) ∙ Ring.one-mul (Series R) a
+  power-ind (suc j) a =
+      ap (λ c. c ⊗ a) (pow-suc (Series R) (ind R) j) ∙ Series R .mul-assoc (ind R) (pow (Series R) (ind R) j) a ∙ ap (ind R ⊗_) (power-ind j a)
+      ∙ conv-ind R (shifted j a)
 
-  unfoldable pub lowered : Seq R → Seq R → Seq R
-  lowered s t = neg (cast (Series R) 2) ⊗ (s ⊕ neg (cast (Series R) 4) ⊗ t)
+  -- ── the two products beside g²
 
-  pub lowered-at : (s t : Seq R) (i : ℕ) → lowered s t i ≡ R .mul (R .neg (cast R 2)) (R .add (s i) (R .mul (R .neg (cast R 4)) (t i)))
-  unfolding lowered
-  lowered-at s t i = minus-at 2 (s ⊕ neg (cast (Series R) 4) ⊗ t) i ∙ ap (λ y. R .mul (R .neg (cast R 2)) (R .add (s i) y)) (minus-at 4 t i)
+  unfoldable pub minus-slope : Seq R → Seq R
+  minus-slope g = neg (cast (Series R) 2) ⊗ g ⊗ ∂ R g
 
-  pub lowered-below : (n : ℕ) (s t : Seq R) → Below R n s → Below R n t → Below R n (lowered s t)
-  unfolding lowered
-  lowered-below n s t h k =
-      below-conv R 1 n (neg (cast (Series R) 2)) _ (omega arith) (r-neg R (r-cast R 2) .below)
-      (sums-below R _ s _ h (below-conv R 1 n (neg (cast (Series R) 4)) t (omega arith) (r-neg R (r-cast R 4) .below) k))
+  unfoldable pub minus-bend : Seq R → Seq R
+  minus-bend g = neg (cast (Series R) 4) ⊗ (g ⊗ ∂ R (∂ R g) ⊕ neg (pow (Series R) (∂ R g) 2))
 
-  unfoldable pub bent : Seq R → Seq R → Seq R
-  bent g s = lowered (∂ R s) (∂ R g ⊗ ∂ R g)
+  -- 2s′ + 8t
+  abbrev pub bent : Seq R → Seq R → Seq R
+  bent s t = sums R (scaled R (cast R 2) (∂ R s)) (scaled R (cast R 8) t)
 
-  -- G″
-  twice : (g : Seq R) → ∂ R (∂ R (g ⊗ g)) ≡ ∂ R (∂ R g) ⊗ g ⊕ ∂ R g ⊗ ∂ R g ⊕ (∂ R g ⊗ ∂ R g ⊕ g ⊗ ∂ R (∂ R g))
-  twice g = ap (∂ R) (∂-leibniz R g g) ∙ ∂-add R _ _ ∙ ap₂ _⊕_ (∂-leibniz R (∂ R g) g) (∂-leibniz R g (∂ R g))
+  pub slope-is : (g : Seq R) → negs R (∂ R (g ⊗ g)) ≡ minus-slope g
+  unfolding minus-slope
+  slope-is g =
+      ap neg (∂-leibniz R g g) ∙ solve2 (Series R) (λ g g′. :- (g′ :* g :+ g :* g′)) (λ g g′. :- num 2 :* g :* g′) tt g (∂ R g)
+
+  -- n times a
+  scaled-cast : (n : ℕ) (a : Seq R) → scaled R (cast R n) a ≡ cast (Series R) n ⊗ a
+  scaled-cast n a = conv-scalar R (cast R n) a ∙ ap (λ c. c ⊗ a) (sym (cast-series R n))
+
+  pub bend-is : (g : Seq R) → bent (minus-slope g) (∂ R g ⊗ ∂ R g) ≡ minus-bend g
+  unfolding minus-bend
+  bend-is g =
+      ap₂ _⊕_ (scaled-cast 2 (∂ R (minus-slope g))) (scaled-cast 8 (∂ R g ⊗ ∂ R g))
+      ∙ ap (λ s. cast (Series R) 2 ⊗ s ⊕ cast (Series R) 8 ⊗ (∂ R g ⊗ ∂ R g))
+      (ap (∂ R) (sym (slope-is g)) ∙ d-neg (Series R) (Formal R) (∂ R (g ⊗ g)) ∙ ap neg (∂-leibniz-twice R g g))
+      ∙ solve3 (Series R) (λ g g′ g″. num 2 :* :- (g″ :* g :+ g′ :* g′ :+ (g′ :* g′ :+ g :* g″)) :+ num 8 :* (g′ :* g′))
+      (λ g g′ g″. :- num 4 :* (g :* g″ :- g′ :^ 2)) tt g (∂ R g) (∂ R (∂ R g))
+
+  pub bent-below : (n : ℕ) (s t : Seq R) → Below R (suc n) s → Below R n t → Below R n (bent s t)
+  bent-below n s t hs ht =
+      sums-below R n _ _ (scaled-below R n (cast R 2) (∂ R s) (below-∂ R s (omega arith) hs)) (scaled-below R n (cast R 8) t ht)
 
 module _ (R : CRing) (q : Question R) where
   open Question q using (A, B, d, σ)
@@ -101,49 +133,51 @@ module _ (R : CRing) (q : Question R) where
   abbrev x : Seq R
   x = ind R
 
-  -- ℓx − σ, and −(3x² + A)
+  -- ── the factors, and a coefficient of their multiples
+
   unfoldable pub line : Seq R
   line = # (ℓ R q) ⊗ x ⊖ κ σ
 
-  unfoldable pub slope : Seq R
-  slope = neg (# 3 ⊗ x ^ 2 ⊕ κ A)
+  unfoldable pub quadratic : Seq R
+  quadratic = # 3 ⊗ x ^ 2 ⊕ κ A
 
-  -- (ℓx − σ)G − (3x² + A)G′ + f e
-  unfoldable pub joined : Seq R → Seq R → Seq R → Seq R
-  joined s t e = line ⊗ s ⊕ slope ⊗ t ⊕ f R q ⊗ e
+  pub line-at : (s : Seq R) (k : ℕ) → (line ⊗ s) k ≡ R .add (R .mul (cast R (ℓ R q)) (shifted R 1 s k)) (R .mul (R .neg σ) (s k))
+  unfolding line
+  line-at s k =
+      ap (λ (a : Seq R). a k) (solve4 (Series R) (λ l x σ s. (l :* x :- σ) :* s) (λ l x σ s. l :* (x :^ 1 :* s) :+ :- σ :* s) tt (# (ℓ R q)) x (κ σ) s)
+      ∙ ap₂ (R .add) (conv-cast R (ℓ R q) (x ^ 1 ⊗ s) k ∙ ap (λ a. R .mul (cast R (ℓ R q)) (a k)) (power-ind R 1 s)) (const-minus-at R σ s k)
 
-  -- by its coefficients
-  pub joined-at : (s t e : Seq R) (k : ℕ) → joined s t e k
-      ≡ R .add (R .add (R .add (R .add (R .mul (cast R (ℓ R q)) (shifted R 1 s k)) (R .mul (R .neg σ) (s k))) (R .mul (R .neg A) (t k)))
-      (R .add (R .add (R .mul (R .neg (cast R 3)) (shifted R 2 t k)) (R .mul A (shifted R 1 e k))) (R .mul B (e k)))) (shifted R 3 e k)
-  unfolding joined line slope f shifted
-  joined-at s t e k =
+  pub quadratic-at : (s : Seq R) (k : ℕ) → (quadratic ⊗ s) k ≡ R .add (R .mul (cast R 3) (shifted R 2 s k)) (R .mul A (s k))
+  unfolding quadratic
+  quadratic-at s k =
+      ap (λ (a : Seq R). a k) (solve3 (Series R) (λ x A s. (num 3 :* x :^ 2 :+ A) :* s) (λ x A s. num 3 :* (x :^ 2 :* s) :+ A :* s) tt x (κ A) s)
+      ∙ ap₂ (R .add) (conv-cast R 3 (x ^ 2 ⊗ s) k ∙ ap (λ a. R .mul (cast R 3) (a k)) (power-ind R 2 s)) (conv-const R A s k)
+
+  pub cubic-at : (s : Seq R) (k : ℕ) → (f R q ⊗ s) k ≡ R .add (R .add (shifted R 3 s k) (R .mul A (shifted R 1 s k))) (R .mul B (s k))
+  unfolding f
+  cubic-at s k =
       ap (λ (a : Seq R). a k)
-      (solve8 (Series R)
-      (λ l x σ s A t B e. (l :* x :- σ) :* s :+ :- (num 3 :* x :^ 2 :+ A) :* t :+ (x :^ 3 :+ A :* x :+ B) :* e)
-      (λ l x σ s A t B e. l :* (x :* s) :+ :- σ :* s :+ :- A :* t :+ (:- num 3 :* (x :* (x :* t)) :+ A :* (x :* e) :+ B :* e) :+ x :* (x :* (x :* e))) tt
-      (# (ℓ R q)) x (κ σ) s (κ A) t (κ B) e)
+      (solve4 (Series R) (λ x A B s. (x :^ 3 :+ A :* x :+ B) :* s) (λ x A B s. x :^ 3 :* s :+ A :* (x :^ 1 :* s) :+ B :* s) tt x (κ A) (κ B) s)
       ∙ ap₂ (R .add)
-      (ap₂ (R .add)
-      (ap₂ (R .add)
-      (ap₂ (R .add) (conv-cast R (ℓ R q) (x ⊗ s) k ∙ ap (λ a. R .mul (cast R (ℓ R q)) (a k)) (conv-ind R s)) (const-minus-at R σ s k))
-      (const-minus-at R A t k))
-      (ap₂ (R .add)
-      (ap₂ (R .add)
-      (minus-at R 3 (x ⊗ (x ⊗ t)) k ∙ ap (λ a. R .mul (R .neg (cast R 3)) (a k)) (conv-ind R (x ⊗ t) ∙ ap (head-then R (R .𝟘)) (conv-ind R t)))
-      (conv-const R A (x ⊗ e) k ∙ ap (λ a. R .mul A (a k)) (conv-ind R e)))
-      (conv-const R B e k)))
-      (ap (λ a. a k) (conv-ind R (x ⊗ (x ⊗ e)) ∙ ap (head-then R (R .𝟘)) (conv-ind R (x ⊗ e) ∙ ap (head-then R (R .𝟘)) (conv-ind R e))))
+      (ap₂ (R .add) (ap (λ a. a k) (power-ind R 3 s)) (conv-const R A (x ^ 1 ⊗ s) k ∙ ap (λ a. R .mul A (a k)) (power-ind R 1 s)))
+      (conv-const R B s k)
 
-  pub N-is : (g : Seq R) → joined (g ⊗ g) (∂ R (g ⊗ g)) (bent R g (∂ R (g ⊗ g))) ≡ N R q g
-  unfolding joined line slope bent lowered N
-  N-is g =
-      ap₂ (λ s t. line ⊗ (g ⊗ g) ⊕ slope ⊗ s ⊕ f R q ⊗ (neg (# 2) ⊗ (t ⊕ neg (# 4) ⊗ (∂ R g ⊗ ∂ R g)))) (∂-leibniz R g g) (twice R g)
-      ∙ solve6 (Series R)
-      (λ l s f g g′ g″. l :* (g :* g) :+ :- s :* (g′ :* g :+ g :* g′) :+ f :*
-      (:- num 2 :* (g″ :* g :+ g′ :* g′ :+ (g′ :* g′ :+ g :* g″) :+ :- num 4 :* (g′ :* g′))))
-      (λ l s f g g′ g″. l :* g :^ 2 :- num 2 :* s :* g :* g′ :- num 4 :* f :* (g :* g″ :- g′ :^ 2)) tt
-      (# (ℓ R q) ⊗ x ⊖ κ σ) (# 3 ⊗ x ^ 2 ⊕ κ A) (f R q) g (∂ R g) (∂ R (∂ R g))
+  -- ── the parts
+
+  pub linear-is : (g : Seq R) → line ⊗ (g ⊗ g) ≡ linear-part R q g
+  unfolding line linear-part
+  linear-is g = solve2 (Series R) (λ l g. l :* (g :* g)) (λ l g. l :* g :^ 2) tt (# (ℓ R q) ⊗ x ⊖ κ σ) g
+
+  pub first-is : (g : Seq R) → quadratic ⊗ minus-slope R g ≡ first-logarithmic-part R q g
+  unfolding quadratic minus-slope first-logarithmic-part
+  first-is g =
+      solve3 (Series R) (λ s g g′. s :* (:- num 2 :* g :* g′)) (λ s g g′. :- (num 2 :* s :* g :* g′)) tt (# 3 ⊗ x ^ 2 ⊕ κ A) g (∂ R g)
+
+  pub second-is : (g : Seq R) → f R q ⊗ minus-bend R g ≡ second-logarithmic-part R q g
+  unfolding minus-bend second-logarithmic-part
+  second-is g =
+      solve4 (Series R) (λ f g g′ g″. f :* (:- num 4 :* (g :* g″ :- g′ :^ 2))) (λ f g g′ g″. :- (num 4 :* f :* (g :* g″ :- g′ :^ 2))) tt
+      (f R q) g (∂ R g) (∂ R (∂ R g))
 
   -- ── degrees
 
@@ -151,31 +185,31 @@ module _ (R : CRing) (q : Question R) where
   unfolding line
   line-below = r-add R (r-mul R (r-cast R (ℓ R q)) (r-ind R)) (r-neg R (r-up R (r-const R σ))) .below
 
-  pub slope-below : Below R 3 slope
-  unfolding slope
-  slope-below = r-neg R (r-add R (r-mul R (r-cast R 3) (r-pow R (r-ind R) 2)) (r-up R (r-up R (r-const R A)))) .below
+  pub quadratic-below : Below R 3 quadratic
+  unfolding quadratic
+  quadratic-below = r-add R (r-mul R (r-cast R 3) (r-pow R (r-ind R) 2)) (r-up R (r-up R (r-const R A))) .below
 
   pub f-below : Below R 4 (f R q)
   unfolding f
   f-below =
       r-add R (r-add R (r-pow R (r-ind R) 3) (r-up R (r-up R (r-mul R (r-const R A) (r-ind R))))) (r-up R (r-up R (r-up R (r-const R B)))) .below
 
-  pub bent-below : (g s : Seq R) → Below R (suc d) g → Below R (2 * d) s → Below R (2 * d - 1) (bent R g s)
-  unfolding bent
-  bent-below g s hg hs =
-      lowered-below R (2 * d - 1) (∂ R s) (∂ R g ⊗ ∂ R g) (below-∂ R s (omega arith) hs)
-      (below-conv R d d (∂ R g) (∂ R g) (omega arith) (below-∂ R g (omega arith) hg) (below-∂ R g (omega arith) hg))
-
   pub N-below : (g : Seq R) → 1 ≤ d → Below R (suc d) g → Below R (2 * d + 2) (N R q g)
-  unfolding joined
-  N-below g pos h = subst (Below R (2 * d + 2)) (N-is g)
+  N-below g pos h = subst (Below R (2 * d + 2))
+      (ap₂ _⊕_ (ap₂ _⊕_ (linear-is g) (first-is g)) (second-is g) ∙ sym (N-parts R q g))
       (sums-below R _ _ _
       (sums-below R _ _ _ (below-conv R 2 (2 * d + 1) line (g ⊗ g) (omega arith) line-below square-below)
-      (below-conv R 3 (2 * d) slope (∂ R (g ⊗ g)) (omega arith) slope-below slope-of))
-      (below-conv R 4 (2 * d - 1) (f R q) (bent R g (∂ R (g ⊗ g))) (omega arith) f-below (bent-below g (∂ R (g ⊗ g)) h slope-of)))
+      (below-conv R 3 (2 * d) quadratic (minus-slope R g) (omega arith) quadratic-below slope-below))
+      (below-conv R 4 (2 * d - 1) (f R q) (minus-bend R g) (omega arith) f-below bend-below))
     where
       square-below : Below R (2 * d + 1) (g ⊗ g)
       square-below = below-conv R (suc d) (suc d) g g (omega arith) h h
 
-      slope-of : Below R (2 * d) (∂ R (g ⊗ g))
-      slope-of = below-∂ R (g ⊗ g) (omega arith) square-below
+      slope-below : Below R (2 * d) (minus-slope R g)
+      slope-below = subst (Below R (2 * d)) (slope-is R g) (negs-below R (2 * d) _ (below-∂ R (g ⊗ g) (omega arith) square-below))
+
+      bend-below : Below R (2 * d - 1) (minus-bend R g)
+      bend-below =
+          subst (Below R (2 * d - 1)) (bend-is R g)
+          (bent-below R (2 * d - 1) (minus-slope R g) (∂ R g ⊗ ∂ R g) (λ i l. slope-below i (omega arith))
+          (below-conv R d d (∂ R g) (∂ R g) (omega arith) (below-∂ R g (omega arith) h) (below-∂ R g (omega arith) h)))

@@ -1,17 +1,18 @@
-// The rules R1 and R2 over slices of residues, for the values of a sheet: whether g meets R1, and the N that R2 gives. g has d + 1 words and N has
-// 2d + 2, the constant term first.
+// The rules R1 and R2 over slices of residues, for the values of a sheet: whether g meets R1, and the N that R2 gives, in three parts. g has d + 1
+// words and N has 2d + 2, the constant term first.
 ghost use mathlib.Core.Path.{_≡_};
 ghost use mathlib.Core.Logic.{_↔_};
 ghost use mathlib.Core.Bool.{true};
 ghost use Prim.Native.Nat.{_+_, _-_, _*_, _^_, _<_, _≤_};
 ghost use lib.ListN.{length, getD};
-ghost use Rattle.series.specs.Series.{∂};
+ghost use Rattle.series.specs.Series.{Seq, conv, negs, ∂};
 ghost use Rattle.zmod.specs.Zmod.{Zmod, mk, minus, times};
 ghost use Rattle.zmod.specs.Residues.{Residue, Reduced, poly, Residues};
-ghost use Rattle.isogeny.specs.Rules.{N, R1};
+ghost use Rattle.isogeny.specs.Rules.{N, linear-part, first-logarithmic-part, second-logarithmic-part, R1};
 ghost use Rattle.sheet.specs.Values.{half, question};
 ghost use Rattle.sheet.specs.Ready.{Ready, HoldsG, HoldsN};
-ghost use Rattle.rules.specs.Numerator.{lowered, joined};
+ghost use Rattle.rules.specs.Numerator.{minus-slope, minus-bend, bent};
+ghost use Rattle.rules.specs.Products.{Products};
 use sheet::Values;
 
 // ── R1
@@ -37,30 +38,98 @@ pub fn rule_one(v: Values, g: &[u32]) -> bool
 }
 
 // ── R2
+//
+// Formula (13) of source document 001, with D = g²:
+//
+//     N/D = ℓx - σ - (3x² + A)(D′/D) - 2(x³ + Ax + B)(D′/D)′
+//
+// Times D, sign and number included, the quotients are polynomials: -D′ is -2gg′, and -2D(D′/D)′ is -4(gg″ - g′²). `products` forms them and g², once;
+// ℓx - σ, 3x² + A and x³ + Ax + B times these are the three parts of N, and their sum is N.
 
-// The coefficient i of -2(s′ - 4t).
-fn lower(s: &[u32], t: &[u32], i: usize, p: u32) -> u32
-    requires { ⌜ (11 ≤ p) × (p ≤ 2 ^ 28) × (Reduced p (now s)) × (Reduced p (now t)) × (i < 2 ^ 16) ⌝ }
-    ensures { λ r. ⌜ Residue p (lowered (Zmod p) (∂ (Zmod p) (poly p (now (s .entry)))) (poly p (now (t .entry))) i) r ⌝ }
+// The coefficient i of -s′.
+fn slope_coefficient(s: &[u32], i: usize, p: u32) -> u32
+    requires { ⌜ (0 < p) × (Reduced p (now s)) × (i < 2 ^ 16) ⌝ }
+    ensures { λ r. ⌜ Residue p (minus p (∂ (Zmod p) (poly p (now (s .entry))) i)) r ⌝ }
 {
     let above = field::negate(poly::word(s, i + 1), p);
+    field::multiply((i as u32) + 1, above, p)
+}
+
+// out = -s′
+fn slope_of(s: &[u32], out: &mut [u32], p: u32)
+    requires { ⌜ (0 < p) × (Reduced p (now s)) × (length (now out) ≤ 255) ⌝ }
+    ensures { λ _. ⌜ Residues p (negs (Zmod p) (∂ (Zmod p) (poly p (now (s .entry))))) (now (out .exit)) ⌝ }
+{
+    let mut i = 0;
+    while i < out.len() {
+        out[i] = slope_coefficient(s, i, p);
+        i += 1;
+    }
+}
+
+// The coefficient i of 2s′ + 8t.
+fn bend_coefficient(s: &[u32], t: &[u32], i: usize, p: u32) -> u32
+    requires { ⌜ (0 < p) × (p ≤ 2 ^ 28) × (Reduced p (now s)) × (Reduced p (now t)) × (i < 2 ^ 16) ⌝ }
+    ensures { λ r. ⌜ Residue p (bent (Zmod p) (poly p (now (s .entry))) (poly p (now (t .entry))) i) r ⌝ }
+{
     let n = (i as u32) + 1;
+    let above = poly::word(s, i + 1);
     field::reduce(
         field::combination(2 * n, above, 8, poly::word(t, i), 0, 0),
         p,
     )
 }
 
-// out = -2(s′ - 4t)
-fn lower_all(s: &[u32], t: &[u32], out: &mut [u32], p: u32)
-    requires { ⌜ (11 ≤ p) × (p ≤ 2 ^ 28) × (Reduced p (now s)) × (Reduced p (now t)) × (length (now out) ≤ 255) ⌝ }
-    ensures { λ _. ⌜ Residues p (lowered (Zmod p) (∂ (Zmod p) (poly p (now (s .entry)))) (poly p (now (t .entry)))) (now (out .exit)) ⌝ }
+// out = 2s′ + 8t
+fn bend_of(s: &[u32], t: &[u32], out: &mut [u32], p: u32)
+    requires { ⌜ (0 < p) × (p ≤ 2 ^ 28) × (Reduced p (now s)) × (Reduced p (now t)) × (length (now out) ≤ 255) ⌝ }
+    ensures { λ _. ⌜ Residues p (bent (Zmod p) (poly p (now (s .entry))) (poly p (now (t .entry)))) (now (out .exit)) ⌝ }
 {
     let mut i = 0;
     while i < out.len() {
-        out[i] = lower(s, t, i, p);
+        out[i] = bend_coefficient(s, t, i, p);
         i += 1;
     }
+}
+
+// The same as `products`, with room for g′ and g′².
+fn products_in(
+    v: Values,
+    g: &[u32],
+    h: &mut [u32],
+    q: &mut [u32],
+    square: &mut [u32],
+    slope: &mut [u32],
+    bend: &mut [u32],
+)
+    requires { ⌜ (Ready v) × HoldsG v (now g) ⌝ }
+    requires { ⌜ (length (now h) ≡ half v) × (length (now q) ≡ 2 * half v - 1) ⌝ }
+    requires { ⌜ (length (now square) ≡ 2 * half v + 1) × (length (now slope) ≡ 2 * half v) × (length (now bend) ≡ 2 * half v - 1) ⌝ }
+    ensures { λ _. ⌜ Products (v .p) (poly (v .p) (now (g .entry))) (now (square .exit)) (now (slope .exit)) (now (bend .exit)) ⌝ }
+{
+    poly::square(g, square, v.p);
+    slope_of(square, slope, v.p);
+    poly::derivative(g, h, v.p);
+    poly::square(h, q, v.p);
+    bend_of(slope, q, bend, v.p);
+}
+
+// Room for a polynomial. (As the result of a call its words stay out of the callers' proofs.)
+fn blank() -> [u32; 255] {
+    [0; 255]
+}
+
+// g², -2gg′ and -4(gg″ - g′²), from two squares: with s = -(g²)′ the last one is 2s′ + 8g′².
+pub fn products(v: Values, g: &[u32], square: &mut [u32], slope: &mut [u32], bend: &mut [u32])
+    requires { ⌜ (Ready v) × HoldsG v (now g) ⌝ }
+    requires { ⌜ (length (now square) ≡ 2 * half v + 1) × (length (now slope) ≡ 2 * half v) × (length (now bend) ≡ 2 * half v - 1) ⌝ }
+    ensures { λ _. ⌜ Products (v .p) (poly (v .p) (now (g .entry))) (now (square .exit)) (now (slope .exit)) (now (bend .exit)) ⌝ }
+{
+    let d = g.len() - 1;
+    let k = 2 * d - 1;
+    let mut h = blank();
+    let mut q = blank();
+    products_in(v, g, &mut h[..d], &mut q[..k], square, slope, bend);
 }
 
 // The word j places before k, 0 where there is none.
@@ -70,74 +139,90 @@ fn back(a: &[u32], j: usize, k: usize) -> u32
     if k < j { 0 } else { poly::word(a, k - j) }
 }
 
-// The coefficient k of (ℓx - σ)s - (3x² + A)t + f e, with one remainder.
-fn join(v: Values, s: &[u32], t: &[u32], e: &[u32], k: usize) -> u32
-    requires { ⌜ (Ready v) × (Reduced (v .p) (now s)) × (Reduced (v .p) (now t)) × (Reduced (v .p) (now e)) ⌝ }
-    ensures { λ r. ⌜ Residue (v .p) (joined (Zmod (v .p)) (question v) (poly (v .p) (now (s .entry)))
-        (poly (v .p) (now (t .entry))) (poly (v .p) (now (e .entry))) k) r ⌝ }
+// The part of ℓx - σ: a number in the class of the coefficient k of (ℓx - σ)g², from g².
+pub fn linear_part(v: Values, square: &[u32], k: usize) -> u64
+    requires { ⌜ (Ready v) × (Reduced (v .p) (now square)) ⌝ }
+    ensures { λ r. ⌜ ((g : Seq (Zmod (v .p))) → poly (v .p) (now (square .entry)) ≡ conv (Zmod (v .p)) g g
+        → mk (v .p) r ≡ linear-part (Zmod (v .p)) (question v) g k) ⌝ }
+    ensures { λ r. ⌜ r < 2 ^ 62 ⌝ }
 {
-    let p = v.p;
-    let minus_sigma = field::negate(v.sigma, p);
-    let minus_a = field::negate(v.a, p);
-    let x = field::combination(
+    let minus_sigma = field::negate(v.sigma, v.p);
+    field::combination(
         v.degree,
-        back(s, 1, k),
+        back(square, 1, k),
         minus_sigma,
-        poly::word(s, k),
-        minus_a,
-        poly::word(t, k),
-    );
-    let y = field::combination(
-        p - 3,
-        back(t, 2, k),
-        v.a,
-        back(e, 1, k),
-        v.b,
-        poly::word(e, k),
-    );
-    field::reduce(x + y + field::wide(back(e, 3, k)), p)
+        poly::word(square, k),
+        0,
+        0,
+    )
 }
 
-// out = (ℓx - σ)s - (3x² + A)t + f e
-fn join_all(v: Values, s: &[u32], t: &[u32], e: &[u32], out: &mut [u32])
-    requires { ⌜ (Ready v) × (Reduced (v .p) (now s)) × (Reduced (v .p) (now t)) × (Reduced (v .p) (now e)) ⌝ }
-    ensures { λ _. ⌜ Residues (v .p) (joined (Zmod (v .p)) (question v) (poly (v .p) (now (s .entry)))
-        (poly (v .p) (now (t .entry))) (poly (v .p) (now (e .entry)))) (now (out .exit)) ⌝ }
+// The part of D′/D: the same of -2(3x² + A)gg′, from -2gg′.
+pub fn first_logarithmic_part(v: Values, slope: &[u32], k: usize) -> u64
+    requires { ⌜ (Ready v) × (Reduced (v .p) (now slope)) ⌝ }
+    ensures { λ r. ⌜ ((g : Seq (Zmod (v .p))) → poly (v .p) (now (slope .entry)) ≡ minus-slope (Zmod (v .p)) g
+        → mk (v .p) r ≡ first-logarithmic-part (Zmod (v .p)) (question v) g k) ⌝ }
+    ensures { λ r. ⌜ r < 2 ^ 62 ⌝ }
+{
+    field::combination(3, back(slope, 2, k), v.a, poly::word(slope, k), 0, 0)
+}
+
+// The part of (D′/D)′: the same of -4f(gg″ - g′²), from -4(gg″ - g′²).
+pub fn second_logarithmic_part(v: Values, bend: &[u32], k: usize) -> u64
+    requires { ⌜ (Ready v) × (Reduced (v .p) (now bend)) ⌝ }
+    ensures { λ r. ⌜ ((g : Seq (Zmod (v .p))) → poly (v .p) (now (bend .entry)) ≡ minus-bend (Zmod (v .p)) g
+        → mk (v .p) r ≡ second-logarithmic-part (Zmod (v .p)) (question v) g k) ⌝ }
+    ensures { λ r. ⌜ r < 2 ^ 62 ⌝ }
+{
+    field::combination(
+        1,
+        back(bend, 3, k),
+        v.a,
+        back(bend, 1, k),
+        v.b,
+        poly::word(bend, k),
+    )
+}
+
+// The coefficient k of N: the three parts, in the order of (13), and one remainder.
+fn coefficient(v: Values, square: &[u32], slope: &[u32], bend: &[u32], k: usize) -> u32
+    requires { ⌜ (Ready v) × (Reduced (v .p) (now square)) × (Reduced (v .p) (now slope)) × (Reduced (v .p) (now bend)) ⌝ }
+    ensures { λ r. ⌜ ((g : Seq (Zmod (v .p))) → Products (v .p) g (now (square .entry)) (now (slope .entry)) (now (bend .entry))
+        → Residue (v .p) (N (Zmod (v .p)) (question v) g k) r) ⌝ }
+{
+    let linear = linear_part(v, square, k);
+    let logarithmic = first_logarithmic_part(v, slope, k) + second_logarithmic_part(v, bend, k);
+    field::reduce(linear + logarithmic, v.p)
+}
+
+// out = N
+fn sum_of_parts(v: Values, square: &[u32], slope: &[u32], bend: &[u32], out: &mut [u32])
+    requires { ⌜ (Ready v) × (Reduced (v .p) (now square)) × (Reduced (v .p) (now slope)) × (Reduced (v .p) (now bend)) ⌝ }
+    ensures { λ _. ⌜ ((g : Seq (Zmod (v .p))) → Products (v .p) g (now (square .entry)) (now (slope .entry)) (now (bend .entry))
+        → Residues (v .p) (N (Zmod (v .p)) (question v) g) (now (out .exit))) ⌝ }
 {
     let mut k = 0;
     while k < out.len() {
-        out[k] = join(v, s, t, e, k);
+        out[k] = coefficient(v, square, slope, bend, k);
         k += 1;
     }
 }
 
-// The N that R2 gives, with room for g², (g²)′, g′, g′² and -2((g²)″ - 4g′²), in this order.
+// The N that R2 gives, with room for the products.
 fn numerator_in(
     v: Values,
     g: &[u32],
-    s: &mut [u32],
-    t: &mut [u32],
-    h: &mut [u32],
-    q: &mut [u32],
-    e: &mut [u32],
+    square: &mut [u32],
+    slope: &mut [u32],
+    bend: &mut [u32],
     out: &mut [u32],
 )
     requires { ⌜ (Ready v) × HoldsG v (now g) ⌝ }
-    requires { ⌜ (length (now s) ≡ 2 * half v + 1) × (length (now t) ≡ 2 * half v) × (length (now h) ≡ half v) ⌝ }
-    requires { ⌜ (length (now q) ≡ 2 * half v - 1) × (length (now e) ≡ 2 * half v - 1) ⌝ }
+    requires { ⌜ (length (now square) ≡ 2 * half v + 1) × (length (now slope) ≡ 2 * half v) × (length (now bend) ≡ 2 * half v - 1) ⌝ }
     ensures { λ _. ⌜ Residues (v .p) (N (Zmod (v .p)) (question v) (poly (v .p) (now (g .entry)))) (now (out .exit)) ⌝ }
 {
-    poly::square(g, s, v.p);
-    poly::derivative(s, t, v.p);
-    poly::derivative(g, h, v.p);
-    poly::square(h, q, v.p);
-    lower_all(t, q, e, v.p);
-    join_all(v, s, t, e, out);
-}
-
-// Room for a polynomial. (As the result of a call its words stay out of the callers' proofs.)
-fn blank() -> [u32; 255] {
-    [0; 255]
+    products(v, g, square, slope, bend);
+    sum_of_parts(v, square, slope, bend, out);
 }
 
 // The N that R2 gives.
@@ -150,19 +235,8 @@ pub fn numerator(v: Values, g: &[u32], out: &mut [u32])
     let i = 2 * d + 1;
     let j = 2 * d;
     let k = 2 * d - 1;
-    let mut s = blank();
-    let mut t = blank();
-    let mut h = blank();
-    let mut q = blank();
-    let mut e = blank();
-    numerator_in(
-        v,
-        g,
-        &mut s[..i],
-        &mut t[..j],
-        &mut h[..d],
-        &mut q[..k],
-        &mut e[..k],
-        out,
-    );
+    let mut square = blank();
+    let mut slope = blank();
+    let mut bend = blank();
+    numerator_in(v, g, &mut square[..i], &mut slope[..j], &mut bend[..k], out);
 }

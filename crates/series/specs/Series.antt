@@ -216,6 +216,11 @@ module _ (R : CRing) where
   unfolding ∂
   ∂-add a b = fun-ext λ n. mul-add _ _ _
 
+  -- (ab)″
+  pub ∂-leibniz-twice : (a b : Seq)
+      → ∂ (∂ (conv a b)) ≡ sums (sums (conv (∂ (∂ a)) b) (conv (∂ a) (∂ b))) (sums (conv (∂ a) (∂ b)) (conv a (∂ (∂ b))))
+  ∂-leibniz-twice a b = ap ∂ (∂-leibniz a b) ∙ ∂-add _ _ ∙ ap₂ sums (∂-leibniz (∂ a) b) (∂-leibniz a (∂ b))
+
   abbrev pub Formal : Derivation Series
   Formal = record { d = ∂; d-add = ∂-add; d-mul = ∂-leibniz }
 

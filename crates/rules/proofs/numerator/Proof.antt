@@ -5,6 +5,9 @@ use borrow.Author.Needs.{needs}
 use Rattle.rules.proofs.numerator.Statement.{statement}
 use Rattle.rules.proofs.numerator.Tie as tie
 
+abbrev start : tie.After-bend → tie.Start
+start c = c .before .before .before .before .before .before .before .before
+
 sub-d : tie.Need-sub-d
 sub-d c = search needs
 
@@ -32,45 +35,27 @@ blank-requires-2 c κs = search needs
 blank-requires-3 : tie.Need-blank-requires-3
 blank-requires-3 c κs = search needs
 
-blank-requires-4 : tie.Need-blank-requires-4
-blank-requires-4 c κs = search needs
-
-blank-requires-5 : tie.Need-blank-requires-5
-blank-requires-5 c κs = search needs
-
-array-borrow-prefix-s : tie.Need-array-borrow-prefix-s
-array-borrow-prefix-s c = search needs
+array-borrow-prefix-square : tie.Need-array-borrow-prefix-square
+array-borrow-prefix-square c = search needs
 
 slice-aggregate-numerator-in : tie.Need-slice-aggregate-numerator-in
 slice-aggregate-numerator-in c = simp length-take (omega arith)
 
-array-borrow-prefix-t : tie.Need-array-borrow-prefix-t
-array-borrow-prefix-t c = search needs
+array-borrow-prefix-slope : tie.Need-array-borrow-prefix-slope
+array-borrow-prefix-slope c = search needs
 
 slice-aggregate-numerator-in-2 : tie.Need-slice-aggregate-numerator-in-2
 slice-aggregate-numerator-in-2 c = simp length-take (omega arith)
 
-array-borrow-prefix-h : tie.Need-array-borrow-prefix-h
-array-borrow-prefix-h c = search needs
+array-borrow-prefix-bend : tie.Need-array-borrow-prefix-bend
+array-borrow-prefix-bend c = search needs
 
 slice-aggregate-numerator-in-3 : tie.Need-slice-aggregate-numerator-in-3
 slice-aggregate-numerator-in-3 c = simp length-take (omega arith)
 
-array-borrow-prefix-q : tie.Need-array-borrow-prefix-q
-array-borrow-prefix-q c = search needs
-
-slice-aggregate-numerator-in-4 : tie.Need-slice-aggregate-numerator-in-4
-slice-aggregate-numerator-in-4 c = simp length-take (omega arith)
-
-array-borrow-prefix-e : tie.Need-array-borrow-prefix-e
-array-borrow-prefix-e c = search needs
-
-slice-aggregate-numerator-in-5 : tie.Need-slice-aggregate-numerator-in-5
-slice-aggregate-numerator-in-5 c = simp length-take (omega arith)
-
 numerator-in-requires : tie.Need-numerator-in-requires
 numerator-in-requires c κs =
-    let pre = c .before .before .before .before .before .before .before .before .before .before .before .before .before .pre in
+    let pre = start (c .before) .pre in
     (pre .0, simp length-take (omega (arith, pre)))
 
 same-length : tie.Need-same-length
@@ -92,18 +77,12 @@ numerator-spec =
     blank-requires
     blank-requires-2
     blank-requires-3
-    blank-requires-4
-    blank-requires-5
-    array-borrow-prefix-s
+    array-borrow-prefix-square
     slice-aggregate-numerator-in
-    array-borrow-prefix-t
+    array-borrow-prefix-slope
     slice-aggregate-numerator-in-2
-    array-borrow-prefix-h
+    array-borrow-prefix-bend
     slice-aggregate-numerator-in-3
-    array-borrow-prefix-q
-    slice-aggregate-numerator-in-4
-    array-borrow-prefix-e
-    slice-aggregate-numerator-in-5
     numerator-in-requires
     same-length
     returns)

@@ -1,0 +1,101 @@
+-- `rules::products_in` meets its contract: g², −(g²)′, g′, g′² and 2s′ + 8g′² with s = −(g²)′ are formed in turn.
+-- Assumes nothing.
+use native.Mathlib.Omega.{arith}
+use borrow.Author.Needs.{needs}
+use Rattle.rules.proofs.NumeratorSteps.{products-steps}
+use Rattle.rules.proofs.products_in.Statement.{statement}
+use Rattle.rules.proofs.products_in.Tie as tie
+
+-- ── the places, each behind the call before it
+
+abbrev start : tie.After-square → tie.Start
+start c = c .before .before .before .before .before .before .before .before
+
+abbrev square : tie.After-slope-of → tie.After-square
+square c = c .before .before .before .before .before
+
+abbrev slope : tie.After-derivative → tie.After-slope-of
+slope c = c .before .before .before .before
+
+abbrev tangent : tie.After-square3 → tie.After-derivative
+tangent c = c .before .before .before .before .before
+
+abbrev tangent² : tie.After-bend-of → tie.After-square3
+tangent² c = c .before .before .before .before .before .before
+
+-- ── the needs
+
+square-requires : tie.Need-square-requires
+square-requires c κs = search needs
+
+slope-of-requires : tie.Need-slope-of-requires
+slope-of-requires c κs = search needs
+
+derivative-requires : tie.Need-derivative-requires
+derivative-requires c κs = search needs
+
+square-requires-2 : tie.Need-square-requires-2
+square-requires-2 c κs = search needs
+
+bend-of-requires : tie.Need-bend-of-requires
+bend-of-requires c κs =
+    let fourth = c .before .before .before .before .before in
+    let second = slope (tangent fourth) in
+    let s = start (square second) in (
+      omega (arith, s .pre .0 .0 .prime .least),
+      omega (arith, s .pre .0 .0 .prime),
+      second .slope-of .ensures .reduced,
+      fourth .square3 .ensures .reduced,
+      omega (arith, s .pre .0 .0 .degree, s .pre .1),
+    )
+
+same-length : tie.Need-same-length
+same-length c = search needs
+
+same-length-2 : tie.Need-same-length-2
+same-length-2 c = search needs
+
+same-length-3 : tie.Need-same-length-3
+same-length-3 c = search needs
+
+same-length-4 : tie.Need-same-length-4
+same-length-4 c = search needs
+
+same-length-5 : tie.Need-same-length-5
+same-length-5 c = search needs
+
+returns : tie.Need-returns
+returns c =
+    let fifth = c .before .before in
+    let fourth = tangent² fifth in
+    let third = tangent fourth in
+    let second = slope third in
+    let first = square second in
+    let begin = start first in
+    let ready = begin .pre .0 .0 in
+    let a = begin .args in
+    products-steps (a .v .p) (a .g .now) (first .square .last .1 .0) (second .slope-of .last .1 .0) (third .derivative .last .1 .0)
+    (fourth .square3 .last .1 .0) (fifth .bend-of .last .1 .1 .0)
+    (omega (arith, begin .pre, first .square .kept))
+    (omega (arith, begin .pre, first .square .kept, second .slope-of .kept))
+    (omega (arith, begin .pre, third .derivative .kept))
+    (omega (arith, begin .pre, ready .degree, fourth .square3 .kept, third .derivative .kept))
+    (omega (arith, begin .pre, ready .degree, second .slope-of .kept, fifth .bend-of .kept))
+    (omega (arith, begin .pre, fourth .square3 .kept, fifth .bend-of .kept))
+    (first .square .ensures) (second .slope-of .ensures) (third .derivative .ensures) (fourth .square3 .ensures) (fifth .bend-of .ensures)
+
+pub products-in-spec : {M : Type 1} → statement M
+products-in-spec =
+    tie.close
+    (tie.spec
+    square-requires
+    slope-of-requires
+    derivative-requires
+    square-requires-2
+    bend-of-requires
+    same-length
+    same-length-2
+    same-length-3
+    same-length-4
+    same-length-5
+    returns)
