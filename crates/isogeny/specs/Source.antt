@@ -27,9 +27,13 @@ module _ (R : CRing) (q : Question R) where
 
   infixl 65 _⊕_ _⊖_
   infixl 70 _⊗_
+  infixr 75 _^_
   infix 80 #_
   abbrev _⊖_ : Seq R → Seq R → Seq R
   a ⊖ b = a ⊕ neg b
+
+  abbrev _^_ : Seq R → ℕ → Seq R
+  a ^ n = pow (Series R) a n
 
   abbrev #_ : ℕ → Seq R
   # n = cast (Series R) n
@@ -39,13 +43,6 @@ module _ (R : CRing) (q : Question R) where
 
   abbrev x : Seq R
   x = ind R
-
-  -- ℓx − σ, and 3x² + A
-  abbrev line : Seq R
-  line = # (ℓ R q) ⊗ x ⊖ κ σ
-
-  abbrev quadratic : Seq R
-  quadratic = # 3 ⊗ pow (Series R) x 2 ⊕ κ A
 
   -- The σ of R1 is that of (12).
   pub source-sigma : 1 ≤ d → (g : Seq R) → R1 R q g → σ ≡ sigma R d (g ⊗ g)
@@ -71,11 +68,18 @@ module _ (R : CRing) (q : Question R) where
 
   -- N/D = ℓx − σ − (3x² + A)(D′/D) − 2f(D′/D)′ as it is printed, where m is N/D and h is D′/D
   unfoldable pub Printed13 : Seq R → Seq R → Type 0
-  Printed13 m h = m ≡ line ⊖ quadratic ⊗ h ⊖ # 2 ⊗ f R q ⊗ ∂ R h
+  Printed13 m h = m ≡ # (ℓ R q) ⊗ x ⊖ κ σ ⊖ (# 3 ⊗ x ^ 2 ⊕ κ A) ⊗ h ⊖ # 2 ⊗ f R q ⊗ ∂ R h
 
   -- the same times D²
   unfoldable pub Formula13 : Seq R → Seq R → Type 0
-  Formula13 D n = n ⊗ D ≡ line ⊗ D ⊗ D ⊖ quadratic ⊗ ∂ R D ⊗ D ⊖ # 2 ⊗ f R q ⊗ (∂ R (∂ R D) ⊗ D ⊖ ∂ R D ⊗ ∂ R D)
+  Formula13 D n =
+      n ⊗ D ≡ (# (ℓ R q) ⊗ x ⊖ κ σ) ⊗ D ⊗ D ⊖ (# 3 ⊗ x ^ 2 ⊕ κ A) ⊗ ∂ R D ⊗ D ⊖ # 2 ⊗ f R q ⊗ (∂ R (∂ R D) ⊗ D ⊖ ∂ R D ⊗ ∂ R D)
+
+  abbrev line : Seq R
+  line = # (ℓ R q) ⊗ x ⊖ κ σ
+
+  abbrev quadratic : Seq R
+  quadratic = # 3 ⊗ x ^ 2 ⊕ κ A
 
   -- Where D has an inverse i, so that both quotients are there, the one says what the other does.
   module _ (D i n : Seq R) (inverse : D ⊗ i ≡ Series R .𝟙) where

@@ -9,7 +9,7 @@ use lib.ListN.{length, getD}
 use Rattle.ring.specs.Ring
 use Rattle.ring.specs.Ring.{cast}
 use Rattle.ring.specs.Identity.{solve2}
-use Rattle.ring.specs.Identity.Ex.{_:*_, :-_}
+use Rattle.ring.specs.Identity.Ex.{:0, _:-_, _:*_, :-_}
 use Rattle.series.specs.Series.{Seq, conv, negs, ∂, ∂-at}
 use Rattle.series.specs.Degree.{negs-below}
 use Rattle.zmod.specs.Zmod.{Zmod, mk, plus, minus, times, mk-add, mk-mul, mk-combination, cast-mk}
@@ -50,12 +50,12 @@ module _ (p : ℕ) where
       ap₂ (times p) (ap (mk p) (omega arith) ∙ sym (cast-mk p (suc i))) (sym (poly-at p s (i + 1)) ∙ ap (poly p s) (omega arith))
       ∙ sym (∂-at (Zmod p) (poly p s) i)
 
-  pub slope-at : (s : List ℕ) (i a r : ℕ) → Residue p (minus p (mk p (getD s (i + 1) 0))) a → Residue p (times p (mk p (i + 1)) (mk p a)) r
-      → Residue p (minus p (∂ (Zmod p) (poly p s) i)) r
+  pub slope-at : (s : List ℕ) (i a r : ℕ) → Residue p (plus p (mk p 0) (minus p (mk p (getD s (i + 1) 0)))) a
+      → Residue p (times p (mk p (i + 1)) (mk p a)) r → Residue p (minus p (∂ (Zmod p) (poly p s) i)) r
   slope-at s i a r h =
       residue-same
       (ap (times p (mk p (i + 1))) (h .class)
-      ∙ solve2 (Zmod p) (λ c a. c :* :- a) (λ c a. :- (c :* a)) tt (mk p (i + 1)) (mk p (getD s (i + 1) 0))
+      ∙ solve2 (Zmod p) (λ c a. c :* (:0 :- a)) (λ c a. :- (c :* a)) tt (mk p (i + 1)) (mk p (getD s (i + 1) 0))
       ∙ ap (minus p) (above s i))
 
   -- l x + m y

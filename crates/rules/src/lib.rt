@@ -48,16 +48,16 @@ pub fn rule_one(v: Values, g: &[u32]) -> bool
 
 // The coefficient i of -s′.
 fn slope_coefficient(s: &[u32], i: usize, p: u32) -> u32
-    requires { ⌜ (0 < p) × (Reduced p (now s)) × (i < 2 ^ 16) ⌝ }
+    requires { ⌜ (0 < p) × (p ≤ 2 ^ 28) × (Reduced p (now s)) × (i < 2 ^ 16) ⌝ }
     ensures { λ r. ⌜ Residue p (minus p (∂ (Zmod p) (poly p (now (s .entry))) i)) r ⌝ }
 {
-    let above = field::negate(poly::word(s, i + 1), p);
-    field::multiply((i as u32) + 1, above, p)
+    let less = field::subtract(0, poly::word(s, i + 1), p);
+    field::multiply((i as u32) + 1, less, p)
 }
 
 // out = -s′
 fn slope_of(s: &[u32], out: &mut [u32], p: u32)
-    requires { ⌜ (0 < p) × (Reduced p (now s)) × (length (now out) ≤ 255) ⌝ }
+    requires { ⌜ (0 < p) × (p ≤ 2 ^ 28) × (Reduced p (now s)) × (length (now out) ≤ 255) ⌝ }
     ensures { λ _. ⌜ Residues p (negs (Zmod p) (∂ (Zmod p) (poly p (now (s .entry))))) (now (out .exit)) ⌝ }
 {
     let mut i = 0;

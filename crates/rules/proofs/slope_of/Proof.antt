@@ -25,7 +25,7 @@ loop-holds c = stored-none _ _
 slope-coefficient-requires : tie.Need-slope-coefficient-requires Inv-loop μ-loop
 slope-coefficient-requires c κs =
     let s = start (c .before) in
-    (s .pre .0, s .pre .1, omega (arith, c .before .loop .inv .same-length, s .pre))
+    (s .pre .0, s .pre .1, s .pre .2, omega (arith, c .before .loop .inv .same-length, s .pre))
 
 mul-out : tie.Need-mul-out Inv-loop μ-loop
 mul-out c = search needs
