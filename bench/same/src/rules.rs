@@ -153,35 +153,44 @@ fn derivative(a: &[u32], out: &mut [u32], p: u32) {
     }
 }
 
-/// N = (lx - sigma)s - (3x² + A)t + f e with s = g², t = s', e = -2(t' - 4g'²), one remainder for each coefficient.
+/// The parts of N in the order of formula (13): (lx - sigma) g², (3x² + A)(-2gg') and f (-4(gg'' - g'²)), each a sum before any remainder.
+#[inline(always)]
+fn linear_part(v: Values, square: &[u32], k: usize) -> u64 {
+    mul(v.degree, back(square, 1, k)) + mul(neg(v.sigma, v.p), word(square, k))
+}
+
+#[inline(always)]
+fn first_logarithmic_part(v: Values, slope: &[u32], k: usize) -> u64 {
+    mul(3, back(slope, 2, k)) + mul(v.a, word(slope, k))
+}
+
+#[inline(always)]
+fn second_logarithmic_part(v: Values, bend: &[u32], k: usize) -> u64 {
+    u64::from(back(bend, 3, k)) + mul(v.a, back(bend, 1, k)) + mul(v.b, word(bend, k))
+}
+
+/// N as the sum of its parts, with one remainder for each coefficient.
 pub fn numerator(v: Values, g: &[u32], out: &mut [u32]) {
     let p = v.p;
     let d = g.len() - 1;
     let (mut s, mut t, mut e) = ([0u32; 255], [0u32; 255], [0u32; 255]);
-    let (mut slope, mut squared) = ([0u32; 255], [0u32; 255]);
-    let (s, t, e) = (&mut s[..2 * d + 1], &mut t[..2 * d], &mut e[..2 * d - 1]);
-    let (slope, squared) = (&mut slope[..d], &mut squared[..2 * d - 1]);
-    square(g, s, p);
-    derivative(s, t, p);
-    derivative(g, slope, p);
-    square(slope, squared, p);
-    for k in 0..e.len() {
-        let above = neg(word(t, k + 1), p);
-        put(
-            e,
-            k,
-            rem(mul(2 * (k as u32 + 1), above) + mul(8, word(squared, k)), p),
-        );
+    let (mut h, mut q) = ([0u32; 255], [0u32; 255]);
+    let (square_of_g, slope, bend) = (&mut s[..2 * d + 1], &mut t[..2 * d], &mut e[..2 * d - 1]);
+    let (h, q) = (&mut h[..d], &mut q[..2 * d - 1]);
+    square(g, square_of_g, p);
+    for k in 0..slope.len() {
+        let less = neg(word(square_of_g, k + 1), p);
+        put(slope, k, times(k as u32 + 1, less, p));
     }
-    let (less_a, less_sigma) = (neg(v.a, p), neg(v.sigma, p));
+    derivative(g, h, p);
+    square(h, q, p);
+    for k in 0..bend.len() {
+        let sum = mul(2 * (k as u32 + 1), word(slope, k + 1)) + mul(8, word(q, k));
+        put(bend, k, rem(sum, p));
+    }
     for k in 0..out.len() {
-        let sum = mul(v.degree, back(s, 1, k))
-            + mul(less_sigma, word(s, k))
-            + mul(less_a, word(t, k))
-            + mul(p - 3, back(t, 2, k))
-            + mul(v.a, back(e, 1, k))
-            + mul(v.b, word(e, k))
-            + u64::from(back(e, 3, k));
+        let sum = linear_part(v, square_of_g, k)
+            + (first_logarithmic_part(v, slope, k) + second_logarithmic_part(v, bend, k));
         put(out, k, rem(sum, p));
     }
 }

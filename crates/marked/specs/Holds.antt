@@ -9,6 +9,7 @@ use native.Mathlib.Omega.{arith}
 use lib.Dec.{T, eqb, eqb→eq, leb, leb→le, ltb, ltb→lt}
 use lib.ListN.{length, getD, drop}
 use Rattle.ring.specs.Test.{both, both-left, both-right}
+use Rattle.series.specs.Series.{Seq}
 use Rattle.zmod.specs.Zmod.{Elt, Zmod, mk, mk-eq}
 use Rattle.zmod.specs.Prime.{prime-pos}
 use Rattle.zmod.specs.Residues.{poly, poly-at}
@@ -33,6 +34,10 @@ use Rattle.promises.specs.Answer.{SolveRight, KernelRight, PushRight, Certifica
 use Rattle.marked.specs.Tests.{every, Every, every-yes, same-list, same-list-yes, below, below-yes}
 use Rattle.marked.specs.Rules.{
   numerator,
+  parts-tests,
+  linear-by-computing,
+  first-by-computing,
+  second-by-computing,
   R1-test,
   R1-by-computing,
   R2-test,
@@ -56,8 +61,8 @@ use Rattle.marked.specs.Rules.{
 }
 use Rattle.marked.specs.Sheets.{asked-test, asked-by-computing, prime-by-computing, least-by-computing}
 use Rattle.marked.specs.NoCodomain.{candidate, no-codomain}
-use Rattle.marked.specs.Row.{Row, Claim, question-words, kernel-words, count, filled}
-use Rattle.marked.specs.Row.Row.{solves, unsolved, pushes, kernel, no-kernel, refused, refused-though}
+use Rattle.marked.specs.Row.{Row, Claim, Listed, question-words, kernel-words, count, filled}
+use Rattle.marked.specs.Row.Row.{solves, unsolved, pushes, kernel, no-kernel, refused, refused-though, parts}
 
 -- ── a certificate in the buffer: the values v, g and n of a row against those that are read from the sheet
 
@@ -329,6 +334,30 @@ module _ (v : Values) (g₀ : List ℕ) where
 abbrev though-tests : Values → List ℕ → List ℕ → ℕ → List Bool
 though-tests v g n k = every (refused-tests (certificate v g n) k) ∷ ltb 0 (v .p) ∷ R3-test v g n ∷ []
 
+-- a list has as many numbers, each below p
+abbrev listed-tests : ℕ → ℕ → List ℕ → List Bool
+listed-tests p count xs = eqb (length xs) count ∷ below p xs ∷ []
+
+listed : (p : ℕ) (a : Seq (Zmod p)) (count : ℕ) (xs : List ℕ) → 0 < p → Every (listed-tests p count xs) → poly p xs ≡ a → Listed p a count xs
+listed p a count xs pos t e = record { all = eqb→eq (length xs) count (t 0); reduced = below-yes p pos xs (t 1); same = e }
+
+abbrev part-tests : Values → List ℕ → List ℕ → List ℕ → List ℕ → List Bool
+part-tests v g l m n =
+    ltb 0 (v .p) ∷ every (parts-tests v g l m n) ∷ every (listed-tests (v .p) (2 * half v + 2) l) ∷ every (listed-tests (v .p) (2 * half v + 2) m)
+    ∷ every (listed-tests (v .p) (2 * half v + 2) n) ∷ []
+
+parts-hold : (v : Values) (g l m n : List ℕ) → Every (part-tests v g l m n) → Claim (parts v g l m n)
+unfolding Claim
+parts-hold v g l m n t =
+    let p : ℕ = v .p in
+    let size : ℕ = 2 * half v + 2 in
+    let pos : 0 < p = ltb→lt 0 p (t 0) in
+    let same : Every (parts-tests v g l m n) = every-yes (parts-tests v g l m n) (t 1) in (
+      listed p _ size l pos (every-yes (listed-tests p size l) (t 2)) (linear-by-computing v g pos l (same 0)),
+      listed p _ size m pos (every-yes (listed-tests p size m) (t 3)) (first-by-computing v g pos m (same 1)),
+      listed p _ size n pos (every-yes (listed-tests p size n) (t 4)) (second-by-computing v g pos n (same 2)),
+    )
+
 abbrev pub test : Row → Bool
 test (solves v g n) = solve-test v g n
 test (unsolved v k) = unsolved-test v k
@@ -337,6 +366,7 @@ test (kernel v g n) = every (codomain-tests v g n)
 test (no-kernel v g k) = every (no-kernel-tests v g k)
 test (refused v g n k) = every (refused-tests (certificate v g n) k)
 test (refused-though v g n k) = every (though-tests v g n k)
+test (parts v g l m n) = every (part-tests v g l m n)
 
 pub row-holds : (r : Row) → T (test r) → Claim r
 unfolding Claim
@@ -351,3 +381,4 @@ row-holds (refused-though v g n k) t =
       refused-by-computing (certificate v g n) k (every-yes (refused-tests (certificate v g n) k) (s 0)),
       R3-by-computing v g n (ltb→lt 0 (v .p) (s 1)) (s 2),
     )
+row-holds (parts v g l m n) t = parts-hold v g l m n (every-yes (part-tests v g l m n) t)

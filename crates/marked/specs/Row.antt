@@ -2,11 +2,13 @@
 -- terms of what the services have to answer.
 -- Assumes nothing.
 use mathlib.Core.List.{List, [], _∷_, _++_, map}
-use Prim.Native.Nat.{ℕ}
+use mathlib.Core.Path.{_≡_}
+use Prim.Native.Nat.{ℕ, _+_, _*_}
 use lib.ListN.{length, drop}
 use Rattle.zmod.specs.Zmod.{Zmod}
-use Rattle.zmod.specs.Residues.{poly}
-use Rattle.isogeny.specs.Rules.{R3}
+use Rattle.series.specs.Series.{Seq}
+use Rattle.zmod.specs.Residues.{Reduced, poly}
+use Rattle.isogeny.specs.Rules.{linear-part, first-logarithmic-part, second-logarithmic-part, R3}
 use Rattle.sheet.specs.declared.Values.{Values}
 use Rattle.sheet.specs.Word.{word}
 use Rattle.sheet.specs.Form.{certificateWords}
@@ -39,6 +41,8 @@ pub data Row : Type 0 where
   refused : Values → List ℕ → List ℕ → ℕ → Row
   -- the same, though R3 holds
   refused-though : Values → List ℕ → List ℕ → ℕ → Row
+  -- R2's N for g has these three parts, in the order of source document 001's formula (13)
+  parts : Values → List ℕ → List ℕ → List ℕ → List ℕ → Row
 
 -- ── the words
 
@@ -58,6 +62,12 @@ filled v g n before = certificate v g n ++ drop (count v) before
 
 -- ── what a row says, for every buffer that is large enough
 
+-- the count coefficients of a, each below p, and there are no others
+pub record Listed (p : ℕ) (a : Seq (Zmod p)) (count : ℕ) (xs : List ℕ) : Type 0 where
+  pub all : length xs ≡ count
+  pub reduced : Reduced p xs
+  pub same : poly p xs ≡ a
+
 unfoldable pub Claim : Row → Type 0
 Claim (solves v g n) =
     (before : List ℕ) → Room (length before) → SolveRight (question-words v) before (filled v g n before) (written.Count (count v))
@@ -69,3 +79,7 @@ Claim (no-kernel v g k) = (before : List ℕ) → Room (length before) → Kerne
 Claim (refused v g n k) = CheckRight (certificate v g n) (verdict.Refused k)
 Claim (refused-though v g n k) =
     CheckRight (certificate v g n) (verdict.Refused k) × R3 (Zmod (v .p)) (question v) (poly (v .p) g) (poly (v .p) n)
+Claim (parts v g l m n) =
+    Listed (v .p) (linear-part (Zmod (v .p)) (question v) (poly (v .p) g)) (2 * half v + 2) l
+    × Listed (v .p) (first-logarithmic-part (Zmod (v .p)) (question v) (poly (v .p) g)) (2 * half v + 2) m
+    × Listed (v .p) (second-logarithmic-part (Zmod (v .p)) (question v) (poly (v .p) g)) (2 * half v + 2) n

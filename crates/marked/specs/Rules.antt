@@ -26,7 +26,22 @@ use Rattle.zmod.specs.Residues.{poly, poly-at, poly-past}
 use Rattle.zmod.specs.Calculation.{calc, calc-at, lists, deriv, same, same-yes, same-no, horner, horner-is, mk-neg, poly-const, poly-ind, poly-deriv, poly-cons}
 use Rattle.zmod.specs.Calculation.Stand.{none, _and_}
 use Rattle.isogeny.specs.Curve.{discriminant, Nonsingular, OnCurve}
-use Rattle.isogeny.specs.Rules.{N, f, W, left, right, R1, R3, Meets, g-at, W-at, Image}
+use Rattle.isogeny.specs.Rules.{
+  N,
+  linear-part,
+  first-logarithmic-part,
+  second-logarithmic-part,
+  f,
+  W,
+  left,
+  right,
+  R1,
+  R3,
+  Meets,
+  g-at,
+  W-at,
+  Image,
+}
 use Rattle.sheet.specs.declared.Values.{Values}
 use Rattle.sheet.specs.Values.{question, half}
 
@@ -70,6 +85,16 @@ abbrev :f : Ex
 
 abbrev :N : ℕ → Ex
 :N d = (num (2 * d + 1) :* :x :- :σ) :* :g :^ 2 :- num 2 :* (num 3 :* :x :^ 2 :+ :A) :* :g :* :g′ :- num 4 :* :f :* (:g :* :g″ :- :g′ :^ 2)
+
+-- its terms, in this order
+abbrev :linear : ℕ → Ex
+:linear d = (num (2 * d + 1) :* :x :- :σ) :* :g :^ 2
+
+abbrev :first : Ex
+:first = :- (num 2 :* (num 3 :* :x :^ 2 :+ :A) :* :g :* :g′)
+
+abbrev :second : Ex
+:second = :- (num 4 :* :f :* (:g :* :g″ :- :g′ :^ 2))
 
 abbrev :W : Ex
 :W = :n′ :* :g :- num 2 :* :n :* :g′
@@ -124,6 +149,28 @@ module _ (v : Values) (g n : List ℕ) (pos : 0 < v .p) where
 
   pub R2-refuted : T (not (R2-test v g n)) → poly (v .p) n ≡ N (Zmod (v .p)) (question v) (poly (v .p) g) → ⊥
   R2-refuted t e = same-no pos n (numerator v g) t (e ∙ sym (numerator-is v g pos))
+
+-- ── the parts of R2: whether lists hold them
+
+abbrev pub parts-tests : Values → List ℕ → List ℕ → List ℕ → List ℕ → List Bool
+parts-tests v g l m n =
+    same (v .p) l (by-computing v g [] (:linear (half v))) ∷ same (v .p) m (by-computing v g [] :first) ∷ same (v .p) n (by-computing v g [] :second) ∷ []
+
+module _ (v : Values) (g : List ℕ) (pos : 0 < v .p) where
+  pub linear-by-computing : (l : List ℕ) → T (same (v .p) l (by-computing v g [] (:linear (half v))))
+      → poly (v .p) l ≡ linear-part (Zmod (v .p)) (question v) (poly (v .p) g)
+  unfolding linear-part
+  linear-by-computing l t = same-yes pos l (by-computing v g [] (:linear (half v))) t ∙ computed v g [] pos (:linear (half v))
+
+  pub first-by-computing : (m : List ℕ) → T (same (v .p) m (by-computing v g [] :first))
+      → poly (v .p) m ≡ first-logarithmic-part (Zmod (v .p)) (question v) (poly (v .p) g)
+  unfolding first-logarithmic-part
+  first-by-computing m t = same-yes pos m (by-computing v g [] :first) t ∙ computed v g [] pos :first
+
+  pub second-by-computing : (n : List ℕ) → T (same (v .p) n (by-computing v g [] :second))
+      → poly (v .p) n ≡ second-logarithmic-part (Zmod (v .p)) (question v) (poly (v .p) g)
+  unfolding second-logarithmic-part f
+  second-by-computing n t = same-yes pos n (by-computing v g [] :second) t ∙ computed v g [] pos :second
 
 -- ── R3
 

@@ -1,5 +1,5 @@
--- Document 01's marked sheets (◆ there) as one table, with one neighbour that is not marked there, and the one theorem that covers it: every row holds,
--- from the rules, by computing.
+-- Document 01's marked sheets (◆ there) as one table, with one neighbour that is not marked there and document 02's case of E5, and the one theorem that
+-- covers it: every row holds, from the rules, by computing.
 -- Assumes nothing.
 use mathlib.Core.Bool.{Bool, true}
 use mathlib.Core.List.{List, [], _∷_}
@@ -11,7 +11,7 @@ use Rattle.promises.specs.declared.Point.the-variants as point
 use Rattle.promises.specs.declared.Image.the-variants as image
 use Rattle.marked.specs.Rules.{numerator}
 use Rattle.marked.specs.Row.{Row, Q, Claim}
-use Rattle.marked.specs.Row.Row.{solves, unsolved, pushes, kernel, no-kernel, refused, refused-though}
+use Rattle.marked.specs.Row.Row.{solves, unsolved, pushes, kernel, no-kernel, refused, refused-though, parts}
 use Rattle.marked.specs.Holds.{test, row-holds}
 
 -- the first marked question, over 1009: g = x − 23, N = x³ + 963x² + 678x + 949
@@ -62,6 +62,8 @@ rows =
     ∷ refused-though (Q 11 0 1 0 1 3 2) (10 ∷ 1 ∷ []) (0 ∷ 1 ∷ 9 ∷ 1 ∷ []) 9
     -- g = x with R2's N, to a wrong codomain
     ∷ refused (Q 11 0 1 0 7 3 0) x x³+4 10
+    -- document 02, E5: the parts of the first one's N
+    ∷ parts first first-g (891 ∷ 676 ∷ 825 ∷ 3 ∷ []) (46 ∷ 1007 ∷ 138 ∷ 1003 ∷ []) (12 ∷ 4 ∷ 0 ∷ 4 ∷ [])
     ∷ []
 
 -- a property of every row

@@ -1,0 +1,43 @@
+-- The parts of N in three lists, and document 01's first marked sheet, for which they are printed.
+-- Assumes nothing.
+use mathlib.Core.Path.{refl}
+use mathlib.Core.List.{List, [], _∷_}
+use Prim.Native.Nat.{ℕ, zero, suc, _<_}
+use lib.Dec.{lit<, lit≤}
+use lib.ListN.{getD}
+use Rattle.series.specs.Series.{Seq}
+use Rattle.zmod.specs.Zmod.{Zmod}
+use Rattle.zmod.specs.Residues.{Residues}
+use Rattle.zmod.specs.Calculation.{prime-yes}
+use Rattle.isogeny.specs.Rules.{linear-part, first-logarithmic-part, second-logarithmic-part}
+use Rattle.sheet.specs.declared.Values.{Values}
+use Rattle.sheet.specs.Values.{question}
+use Rattle.sheet.specs.Ready.{Ready, HoldsG}
+
+-- the residues of the first coefficients of each, as many as its list is long
+pub record Parts (v : Values) (g : Seq (Zmod (v .p))) (l m n : List ℕ) : Type 0 where
+  pub linear : Residues (v .p) (linear-part (Zmod (v .p)) (question v) g) l
+  pub first : Residues (v .p) (first-logarithmic-part (Zmod (v .p)) (question v) g) m
+  pub second : Residues (v .p) (second-logarithmic-part (Zmod (v .p)) (question v) g) n
+
+-- (1, 3) to (265, 877) over 1009, ℓ = 3, σ = 46, and g = x − 23
+abbrev pub marked : Values
+marked = record { p = 1009; a = 1; b = 3; atilde = 265; btilde = 877; degree = 3; sigma = 46 }
+
+abbrev pub marked-g : List ℕ
+marked-g = 986 ∷ 1 ∷ []
+
+pub marked-ready : Ready marked
+marked-ready = record {
+  prime = record { prime = prime-yes 1009 tt; least = lit≤ tt; most = lit< tt };
+  degree = record { odd = refl; least = lit≤ tt; most = lit≤ tt; small = lit< tt };
+  below = record { a = lit< tt; b = lit< tt; atilde = lit< tt; btilde = lit< tt; sigma = lit< tt };
+}
+
+pub marked-holds : HoldsG marked marked-g
+marked-holds = record { count = refl; reduced = below }
+  where
+    below : (i : ℕ) → getD marked-g i 0 < 1009
+    below zero = lit< tt
+    below (suc zero) = lit< tt
+    below (suc (suc i)) = lit< tt
