@@ -1,18 +1,19 @@
 -- The parts of N in three lists, and document 01's first marked sheet, for which they are printed.
 -- Assumes nothing.
-use mathlib.Core.Path.{refl}
+use mathlib.Core.Path.{_≡_, refl}
 use mathlib.Core.List.{List, [], _∷_}
 use Prim.Native.Nat.{ℕ, zero, suc, _<_}
 use lib.Dec.{lit<, lit≤}
-use lib.ListN.{getD}
+use lib.ListN.{length, getD}
 use Rattle.series.specs.Series.{Seq}
 use Rattle.zmod.specs.Zmod.{Zmod}
-use Rattle.zmod.specs.Residues.{Residues}
+use Rattle.zmod.specs.Residues.{poly, Residues}
 use Rattle.zmod.specs.Calculation.{prime-yes}
 use Rattle.isogeny.specs.Rules.{linear-part, first-logarithmic-part, second-logarithmic-part}
 use Rattle.sheet.specs.declared.Values.{Values}
 use Rattle.sheet.specs.Values.{question}
 use Rattle.sheet.specs.Ready.{Ready, HoldsG}
+use Rattle.text.specs.Text.{hexLines}
 
 -- the residues of the first coefficients of each, as many as its list is long
 pub record Parts (v : Values) (g : Seq (Zmod (v .p))) (l m n : List ℕ) : Type 0 where
@@ -26,6 +27,17 @@ marked = record { p = 1009; a = 1; b = 3; atilde = 265; btilde = 877; degree = 3
 
 abbrev pub marked-g : List ℕ
 marked-g = 986 ∷ 1 ∷ []
+
+-- what is printed: a line for each of the four coefficients of each part
+pub record PartsText (linear first second : List ℕ) : Type 0 where
+  pub l : List ℕ
+  pub m : List ℕ
+  pub n : List ℕ
+  pub parts : Parts marked (poly (marked .p) marked-g) l m n
+  pub four : (length l ≡ 4) × (length m ≡ 4) × (length n ≡ 4)
+  pub lines : (linear ≡ hexLines l) × (first ≡ hexLines m) × (second ≡ hexLines n)
+
+-- ── what the functions of `rules` ask of the sheet
 
 pub marked-ready : Ready marked
 marked-ready = record {

@@ -4,10 +4,11 @@ ghost use mathlib.Core.Path.{_≡_};
 ghost use lib.ListN.{length};
 ghost use Rattle.series.specs.Series.{Seq};
 ghost use Rattle.zmod.specs.Zmod.{Zmod};
-ghost use Rattle.zmod.specs.Residues.{Reduced, poly};
+ghost use Rattle.zmod.specs.Residues.{Reduced};
 ghost use Rattle.sheet.specs.Ready.{Ready};
 ghost use Rattle.rules.specs.Products.{Products};
-ghost use Rattle.parts.specs.Parts.{marked, marked-g, Parts};
+ghost use Rattle.text.specs.Text.{hexLines};
+ghost use Rattle.parts.specs.Parts.{Parts, PartsText};
 use sheet::Values;
 
 // The residues of all coefficients that the three slices have room for.
@@ -34,22 +35,23 @@ fn fill(
     }
 }
 
-fn print_part(part: &[u32])
+// The lines of one part.
+fn lines(part: &[u32]) -> [u8; 36]
     requires { ⌜ length (now part) ≡ 4 ⌝ }
+    ensures { λ r. ⌜ r ≡ hexLines (now (part .entry)) ⌝ }
 {
     let mut text = [0u8; 36];
     text::word_lines(part, &mut text);
-    console::write(&text);
+    text
 }
 
-// The one place that prints. What it asks has `main` proved to hand over nothing but the parts.
-fn print(linear: &[u32], first: &[u32], second: &[u32])
-    requires { ⌜ (length (now linear) ≡ 4) × (length (now first) ≡ 4) × (length (now second) ≡ 4) ⌝ }
-    requires { ⌜ Parts marked (poly (marked .p) marked-g) (now linear) (now first) (now second) ⌝ }
+// The one place that prints. What it asks has `main` proved to hand over nothing but the lines of the three parts, in this order.
+fn print(linear: &[u8], first: &[u8], second: &[u8])
+    requires { ⌜ PartsText (now linear) (now first) (now second) ⌝ }
 {
-    print_part(linear);
-    print_part(first);
-    print_part(second);
+    console::write(linear);
+    console::write(first);
+    console::write(second);
 }
 
 fn main() {
@@ -79,5 +81,8 @@ fn main() {
         &mut first,
         &mut second,
     );
-    print(&linear, &first, &second);
+    let one = lines(&linear);
+    let two = lines(&first);
+    let three = lines(&second);
+    print(&one, &two, &three);
 }

@@ -10,8 +10,8 @@ use Rattle.parts.proofs.main.Tie as tie
 abbrev formed : tie.After-second → tie.After-products
 formed c = c .before .before .before .before .before .before .before .before .before
 
-abbrev filled : tie.After-second3 → tie.After-fill
-filled c = c .before .before .before .before .before .before
+abbrev filled : tie.After-lines → tie.After-fill
+filled c = c .before .before .before .before .before
 
 -- ── the needs
 
@@ -53,6 +53,24 @@ fill-requires c κs =
     let hold = formed c .products .ensures in
     ((marked-ready, hold .square-is .reduced, hold .slope-is .reduced, hold .bend-is .reduced), (refl, refl))
 
+slice-aggregate-lines : tie.Need-slice-aggregate-lines
+slice-aggregate-lines c = search needs
+
+lines-requires : tie.Need-lines-requires
+lines-requires c κs = search needs
+
+slice-aggregate-lines-2 : tie.Need-slice-aggregate-lines-2
+slice-aggregate-lines-2 c = search needs
+
+lines-requires-2 : tie.Need-lines-requires-2
+lines-requires-2 c κs = search needs
+
+slice-aggregate-lines-3 : tie.Need-slice-aggregate-lines-3
+slice-aggregate-lines-3 c = search needs
+
+lines-requires-3 : tie.Need-lines-requires-3
+lines-requires-3 c κs = search needs
+
 slice-aggregate-print : tie.Need-slice-aggregate-print
 slice-aggregate-print c = search needs
 
@@ -64,8 +82,18 @@ slice-aggregate-print-3 c = search needs
 
 print-requires : tie.Need-print-requires
 print-requires c κs =
-    let after = filled c in
-    (search needs, after .fill .ensures _ (formed (after .before) .products .ensures))
+    let three = c .before .before .before in
+    let two = three .before .before in
+    let one = two .before .before in
+    let after = filled one in
+    record {
+      l = _;
+      m = _;
+      n = _;
+      parts = after .fill .ensures _ (formed (after .before) .products .ensures);
+      four = (after .fill .kept .1 .1 .1 .1 .0, after .fill .kept .1 .1 .1 .1 .1 .0, after .fill .kept .1 .1 .1 .1 .1 .1 .0);
+      lines = (one .lines .ensures, two .lines2 .ensures, three .lines3 .ensures);
+    }
 
 returns : tie.Need-returns
 returns c = search needs
@@ -86,6 +114,12 @@ main-spec =
     slice-aggregate-fill-5
     slice-aggregate-fill-6
     fill-requires
+    slice-aggregate-lines
+    lines-requires
+    slice-aggregate-lines-2
+    lines-requires-2
+    slice-aggregate-lines-3
+    lines-requires-3
     slice-aggregate-print
     slice-aggregate-print-2
     slice-aggregate-print-3
