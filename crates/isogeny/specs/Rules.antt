@@ -60,8 +60,8 @@ module _ (R : CRing) (q : Question R) where
   unfoldable pub N : Seq R → Seq R
   N g = (# ℓ ⊗ x ⊖ κ σ) ⊗ g ^ 2 ⊖ # 2 ⊗ (# 3 ⊗ x ^ 2 ⊕ κ A) ⊗ g ⊗ ∂ R g ⊖ # 4 ⊗ f ⊗ (g ⊗ ∂ R (∂ R g) ⊖ ∂ R g ^ 2)
 
-  -- its three terms, signs included, in the order of source document 001's formula (13): the part of ℓx − σ, the part of the first logarithmic derivative
-  -- D′/D, and the part of the second one, (D′/D)′, each times D = g²
+  -- its three terms, signs included. With D = g² they are those of source document 001's formula (13), N/D = ℓx − σ − (3x² + A)(D′/D) − 2f(D′/D)′, times D:
+  -- the part of ℓx − σ, that of the first logarithmic derivative D′/D, and that of the second one, (D′/D)′
   unfoldable pub linear-part : Seq R → Seq R
   linear-part g = (# ℓ ⊗ x ⊖ κ σ) ⊗ g ^ 2
 

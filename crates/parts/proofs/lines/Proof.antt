@@ -1,7 +1,7 @@
 -- `parts::lines` meets its contract: four lines of nine characters are the whole text. Assumes nothing.
 use mathlib.Core.Path.{_∙_, ap}
 use mathlib.Core.List.{List, _++_, append-nil}
-use Prim.Native.Nat.{ℕ}
+use Prim.Native.Nat.{ℕ, _≤_}
 use native.Mathlib.Omega.{arith}
 use borrow.Author.Needs.{needs}
 use lib.ListN.{drop-of-length-le}
@@ -21,9 +21,8 @@ returns c =
     let call = c .before .word-lines in
     let start = c .before .before .before .before in
     let part = start .args .part .now in
-    call .ensures .bytes
-    ∙ ap (λ (l : List ℕ). hexLines part ++ l) (drop-of-length-le _ {i = call .result} (omega (arith, call .ensures .count-is, length-hex-lines part, start .pre)))
-    ∙ append-nil (hexLines part)
+    let whole : 36 ≤ call .result = omega (arith, call .ensures .count-is, length-hex-lines part, start .pre) in
+    call .ensures .bytes ∙ ap (λ (l : List ℕ). hexLines part ++ l) (drop-of-length-le _ {i = call .result} whole) ∙ append-nil (hexLines part)
 
 pub lines-spec : {M : Type 1} → statement M
 lines-spec = tie.close (tie.spec slice-aggregate-word-lines word-lines-requires returns)
