@@ -1,5 +1,5 @@
--- Document 01's rules R1 to R3 for g and N, over any commutative ring, and the image of a point. A polynomial is the sequence of its coefficients, the
--- constant term first; sums, products and powers are those of the ring of such sequences, and ∂ is the derivative.
+-- Document 01's rules R1 to R3 for g and N, over any commutative ring, the three terms of R2 by themselves, and the image of a point. A polynomial is
+-- the sequence of its coefficients, the constant term first; sums, products and powers are those of the ring of such sequences, and ∂ is the derivative.
 -- Assumes nothing.
 use mathlib.Core.Path.{_≡_, refl}
 use mathlib.Core.Logic.{_≢_}

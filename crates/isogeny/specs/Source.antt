@@ -1,5 +1,5 @@
 -- Source document 001's own formulas beside document 01's rules, over any commutative ring, with D = g²: Vélu's codomain from the first coefficients of D
--- (defined in `Velu`) is the one that R3 leaves, and formula (13) is R2. One page to cite.
+-- (defined in `Velu`) is the one that R3 leaves, and formula (13), as printed and times D², is R2, term by term. One page to cite.
 -- Assumes nothing.
 use mathlib.Core.Logic.{_↔_}
 use mathlib.Core.Path.{_≡_, sym, _∙_, ap, ap₂}
@@ -75,13 +75,15 @@ module _ (R : CRing) (q : Question R) where
   Formula13 D n =
       n ⊗ D ≡ (# (ℓ R q) ⊗ x ⊖ κ σ) ⊗ D ⊗ D ⊖ (# 3 ⊗ x ^ 2 ⊕ κ A) ⊗ ∂ R D ⊗ D ⊖ # 2 ⊗ f R q ⊗ (∂ R (∂ R D) ⊗ D ⊖ ∂ R D ⊗ ∂ R D)
 
-  abbrev line : Seq R
+  -- its two other factors beside f
+  abbrev pub line : Seq R
   line = # (ℓ R q) ⊗ x ⊖ κ σ
 
-  abbrev quadratic : Seq R
+  abbrev pub quadratic : Seq R
   quadratic = # 3 ⊗ x ^ 2 ⊕ κ A
 
-  -- Where D has an inverse i, so that both quotients are there, the one says what the other does.
+  -- Where D has an inverse i, so that both quotients are there, the one says what the other does. (A series has one where its constant term has one, so
+  -- g = x, for one, has a `Formula13` alone.)
   module _ (D i n : Seq R) (inverse : D ⊗ i ≡ Series R .𝟙) where
     abbrev h : Seq R
     h = ∂ R D ⊗ i
@@ -147,7 +149,18 @@ module _ (R : CRing) (q : Question R) where
       (linear-part R q g) (first-logarithmic-part R q g) (second-logarithmic-part R q g) (g ⊗ g)
       ∙ ap₂ _⊕_ (ap₂ _⊕_ (linear-13 g) (first-logarithmic-13 g)) (second-logarithmic-13 g)
 
-  -- and, for a g with R1, no other polynomial does: (13) is R2.
+  -- and no other series satisfies (13) as printed, where D = g² has an inverse:
+  pub printed-13-is : (g i n : Seq R) → g ⊗ g ⊗ i ≡ Series R .𝟙 → Printed13 (n ⊗ i) (∂ R (g ⊗ g) ⊗ i) ↔ (n ≡ N R q g)
+  unfolding Formula13
+  printed-13-is g i n inverse = (
+    λ e. sym (back n) ∙ ap (λ m. m ⊗ i) (printed-13 (g ⊗ g) i n inverse .0 e ∙ sym (formula-13 g)) ∙ back (N R q g),
+    λ e. printed-13 (g ⊗ g) i n inverse .1 (ap (λ m. m ⊗ (g ⊗ g)) e ∙ formula-13 g),
+  )
+    where
+      back : (m : Seq R) → m ⊗ (g ⊗ g) ⊗ i ≡ m
+      back m = Series R .mul-assoc m (g ⊗ g) i ∙ ap (λ y. m ⊗ y) inverse ∙ Series R .mul-one m
+
+  -- nor, for a g with R1, any other polynomial times D²: (13) is R2.
   pub formula-13-is : 1 ≤ d → (g : Seq R) → R1 R q g → (n : Seq R) → Poly R n → Formula13 (g ⊗ g) n ↔ (n ≡ N R q g)
   unfolding Formula13
   formula-13-is d≥1 g r1 n polynomial = (there, λ e. ap (λ m. m ⊗ (g ⊗ g)) e ∙ formula-13 g)

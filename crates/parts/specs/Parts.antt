@@ -1,13 +1,13 @@
 -- The parts of N in three lists, and document 01's first marked sheet, for which they are printed.
 -- Assumes nothing.
-use mathlib.Core.Path.{_≡_, refl}
+use mathlib.Core.Path.{_≡_, refl, sym, _∙_, ap}
 use mathlib.Core.List.{List, [], _∷_}
 use Prim.Native.Nat.{ℕ, zero, suc, _<_}
 use lib.Dec.{lit<, lit≤}
 use lib.ListN.{length, getD}
 use Rattle.series.specs.Series.{Seq}
 use Rattle.zmod.specs.Zmod.{Zmod}
-use Rattle.zmod.specs.Residues.{poly, Residues}
+use Rattle.zmod.specs.Residues.{poly, Residues, residues-unique}
 use Rattle.zmod.specs.Calculation.{prime-yes}
 use Rattle.isogeny.specs.Rules.{linear-part, first-logarithmic-part, second-logarithmic-part}
 use Rattle.sheet.specs.declared.Values.{Values}
@@ -36,6 +36,18 @@ pub record PartsText (linear first second : List ℕ) : Type 0 where
   pub parts : Parts marked (poly (marked .p) marked-g) l m n
   pub four : (length l ≡ 4) × (length m ≡ 4) × (length n ≡ 4)
   pub lines : (linear ≡ hexLines l) × (first ≡ hexLines m) × (second ≡ hexLines n)
+
+-- it is one
+pub parts-text-unique : (a b c a′ b′ c′ : List ℕ) → PartsText a b c → PartsText a′ b′ c′ → (a ≡ a′) × (b ≡ b′) × (c ≡ c′)
+parts-text-unique a b c a′ b′ c′ h k = (
+  alike _ (h .parts .linear) (k .parts .linear) (h .four .0) (k .four .0) (h .lines .0) (k .lines .0),
+  alike _ (h .parts .first) (k .parts .first) (h .four .1) (k .four .1) (h .lines .1) (k .lines .1),
+  alike _ (h .parts .second) (k .parts .second) (h .four .2) (k .four .2) (h .lines .2) (k .lines .2),
+)
+  where
+    alike : {l m s t : List ℕ} (a : Seq (Zmod 1009)) → Residues 1009 a l → Residues 1009 a m → length l ≡ 4 → length m ≡ 4 → s ≡ hexLines l → t ≡ hexLines m
+        → s ≡ t
+    alike a hl hm four four′ e e′ = e ∙ ap hexLines (residues-unique (four ∙ sym four′) hl hm) ∙ sym e′
 
 -- ── what the functions of `rules` ask of the sheet
 

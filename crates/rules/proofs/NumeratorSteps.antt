@@ -7,7 +7,6 @@ use native.Mathlib.Decide.{decLt}
 use native.Mathlib.Omega.{arith}
 use lib.ListN.{length, getD}
 use Rattle.ring.specs.Ring
-use Rattle.ring.specs.Ring.{cast}
 use Rattle.ring.specs.Identity.{solve2}
 use Rattle.ring.specs.Identity.Ex.{:0, _:-_, _:*_, :-_}
 use Rattle.series.specs.Series.{Seq, conv, negs, ∂, ∂-at}
@@ -15,6 +14,7 @@ use Rattle.series.specs.Degree.{negs-below}
 use Rattle.zmod.specs.Zmod.{Zmod, mk, plus, minus, times, mk-add, mk-mul, mk-combination, cast-mk}
 use Rattle.zmod.specs.Residues.{Residue, Reduced, poly, poly-at, poly-past, Residues, residue-same}
 use Rattle.isogeny.specs.Rules.{N, f, linear-part, first-logarithmic-part, second-logarithmic-part, N-parts}
+use Rattle.isogeny.specs.Source.{line, quadratic}
 use Rattle.sheet.specs.declared.Values.{Values}
 use Rattle.sheet.specs.Values.{half, question}
 use Rattle.sheet.specs.Ready.{Ready, degree-half}
@@ -25,12 +25,10 @@ use Rattle.rules.specs.Numerator.{
   shifted-high,
   minus-slope,
   minus-bend,
-  bent,
-  slope-is,
-  bend-is,
-  bent-below,
-  line,
-  quadratic,
+  bend-from,
+  slope-of-square,
+  bend-of-slope,
+  bend-from-below,
   line-at,
   quadratic-at,
   cubic-at,
@@ -63,7 +61,7 @@ module _ (p : ℕ) where
   pair l x m y = ap (mk p) (omega arith) ∙ mk-add p (l * x) (m * y) ∙ ap₂ (plus p) (mk-mul p l x) (mk-mul p m y)
 
   pub bend-at : (s t : List ℕ) (i x r : ℕ) → x ≡ 2 * (i + 1) * getD s (i + 1) 0 + 8 * getD t i 0 + 0 * 0 → Residue p (mk p x) r
-      → Residue p (bent (Zmod p) (poly p s) (poly p t) i) r
+      → Residue p (bend-from (Zmod p) (poly p s) (poly p t) i) r
   bend-at s t i x r e =
       residue-same
       (ap (mk p) e ∙ pair (2 * (i + 1)) (getD s (i + 1) 0) 8 (getD t i 0)
@@ -77,7 +75,7 @@ module _ (p : ℕ) where
       → length g ≡ length h + 1 → length hh + 1 ≡ 2 * length h → length slope ≡ length bend + 1 → length bend ≡ length hh
       → Residues p (conv (Zmod p) (poly p g) (poly p g)) square → Residues p (negs (Zmod p) (∂ (Zmod p) (poly p square))) slope
       → Residues p (∂ (Zmod p) (poly p g)) h → Residues p (conv (Zmod p) (poly p h) (poly p h)) hh
-      → Residues p (bent (Zmod p) (poly p slope) (poly p hh)) bend → Products p (poly p g) square slope bend
+      → Residues p (bend-from (Zmod p) (poly p slope) (poly p hh)) bend → Products p (poly p g) square slope bend
   products-steps g square slope h hh bend l₁ l₂ l₃ l₄ l₅ l₆ r₁ r₂ r₃ r₄ r₅ = record { square-is = square-whole; slope-is = slope-whole; bend-is = bend-whole }
     where
       square-whole : Whole p (conv (Zmod p) (poly p g) (poly p g)) square
@@ -85,16 +83,16 @@ module _ (p : ℕ) where
 
       slope-whole : Whole p (minus-slope (Zmod p) (poly p g)) slope
       slope-whole =
-          whole-same (ap (λ a. negs (Zmod p) (∂ (Zmod p) a)) (square-whole .same) ∙ slope-is (Zmod p) (poly p g))
+          whole-same (ap (λ a. negs (Zmod p) (∂ (Zmod p) a)) (square-whole .same) ∙ slope-of-square (Zmod p) (poly p g))
           (whole r₂ (negs-below (Zmod p) (length slope) _ (below-∂ (Zmod p) (poly p square) (omega arith) (poly-past p square))))
 
-      tangent² : poly p hh ≡ conv (Zmod p) (∂ (Zmod p) (poly p g)) (∂ (Zmod p) (poly p g))
-      tangent² = from-product p h h hh (omega arith) r₄ .same ∙ ap (λ a. conv (Zmod p) a a) (from-derivative p g h (omega arith) r₃ .same)
+      derivative² : poly p hh ≡ conv (Zmod p) (∂ (Zmod p) (poly p g)) (∂ (Zmod p) (poly p g))
+      derivative² = from-product p h h hh (omega arith) r₄ .same ∙ ap (λ a. conv (Zmod p) a a) (from-derivative p g h (omega arith) r₃ .same)
 
       bend-whole : Whole p (minus-bend (Zmod p) (poly p g)) bend
       bend-whole =
-          whole-same (ap₂ (bent (Zmod p)) (slope-whole .same) tangent² ∙ bend-is (Zmod p) (poly p g))
-          (whole r₅ (bent-below (Zmod p) (length bend) (poly p slope) (poly p hh) (λ i l. poly-past p slope i (omega arith))
+          whole-same (ap₂ (bend-from (Zmod p)) (slope-whole .same) derivative² ∙ bend-of-slope (Zmod p) (poly p g))
+          (whole r₅ (bend-from-below (Zmod p) (length bend) (poly p slope) (poly p hh) (λ i l. poly-past p slope i (omega arith))
           (λ i l. poly-past p hh i (omega arith))))
 
   -- ── the word j places before k
@@ -149,8 +147,7 @@ module _ (v : Values) where
 
   pub sum-step : (g : Seq (Zmod p)) (k l m n r : ℕ) → mk p l ≡ linear-part (Zmod p) (question v) g k
       → mk p m ≡ first-logarithmic-part (Zmod p) (question v) g k → mk p n ≡ second-logarithmic-part (Zmod p) (question v) g k
-      → Residue p (mk p (l + (m + n))) r → Residue p (N (Zmod p) (question v) g k) r
+      → Residue p (mk p (l + m + n)) r → Residue p (N (Zmod p) (question v) g k) r
   sum-step g k l m n r hl hm hn =
       residue-same
-      (mk-add p l (m + n) ∙ ap₂ (plus p) hl (mk-add p m n ∙ ap₂ (plus p) hm hn) ∙ sym (Zmod p .add-assoc _ _ _)
-      ∙ ap (λ a. a k) (sym (N-parts (Zmod p) (question v) g)))
+      (mk-add p (l + m) n ∙ ap₂ (plus p) (mk-add p l m ∙ ap₂ (plus p) hl hm) hn ∙ ap (λ a. a k) (sym (N-parts (Zmod p) (question v) g)))

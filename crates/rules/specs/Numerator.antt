@@ -29,6 +29,7 @@ use Rattle.series.specs.Degree.{Below, sums-below, negs-below, scaled-below}
 use Rattle.series.specs.Indeterminate.{ind, cast-series, conv-cast, conv-ind}
 use Rattle.series.specs.Reversal.{r-add, r-neg, r-mul, r-pow, r-up, r-const, r-cast, r-ind}
 use Rattle.isogeny.specs.Rules.{Question, ℓ, f, N, linear-part, first-logarithmic-part, second-logarithmic-part, N-parts}
+use Rattle.isogeny.specs.Source.{line, quadratic}
 use Rattle.rules.specs.Degrees.{below-∂, below-conv}
 
 module _ (R : CRing) where
@@ -85,42 +86,39 @@ module _ (R : CRing) where
   minus-bend g = neg (cast (Series R) 4) ⊗ (g ⊗ ∂ R (∂ R g) ⊕ neg (pow (Series R) (∂ R g) 2))
 
   -- 2s′ + 8t
-  abbrev pub bent : Seq R → Seq R → Seq R
-  bent s t = sums R (scaled R (cast R 2) (∂ R s)) (scaled R (cast R 8) t)
+  abbrev pub bend-from : Seq R → Seq R → Seq R
+  bend-from s t = sums R (scaled R (cast R 2) (∂ R s)) (scaled R (cast R 8) t)
 
-  pub slope-is : (g : Seq R) → negs R (∂ R (g ⊗ g)) ≡ minus-slope g
+  pub slope-of-square : (g : Seq R) → negs R (∂ R (g ⊗ g)) ≡ minus-slope g
   unfolding minus-slope
-  slope-is g =
+  slope-of-square g =
       ap neg (∂-leibniz R g g) ∙ solve2 (Series R) (λ g g′. :- (g′ :* g :+ g :* g′)) (λ g g′. :- num 2 :* g :* g′) tt g (∂ R g)
 
   -- n times a
   scaled-cast : (n : ℕ) (a : Seq R) → scaled R (cast R n) a ≡ cast (Series R) n ⊗ a
   scaled-cast n a = conv-scalar R (cast R n) a ∙ ap (λ c. c ⊗ a) (sym (cast-series R n))
 
-  pub bend-is : (g : Seq R) → bent (minus-slope g) (∂ R g ⊗ ∂ R g) ≡ minus-bend g
+  pub bend-of-slope : (g : Seq R) → bend-from (minus-slope g) (∂ R g ⊗ ∂ R g) ≡ minus-bend g
   unfolding minus-bend
-  bend-is g =
+  bend-of-slope g =
       ap₂ _⊕_ (scaled-cast 2 (∂ R (minus-slope g))) (scaled-cast 8 (∂ R g ⊗ ∂ R g))
       ∙ ap (λ s. cast (Series R) 2 ⊗ s ⊕ cast (Series R) 8 ⊗ (∂ R g ⊗ ∂ R g))
-      (ap (∂ R) (sym (slope-is g)) ∙ d-neg (Series R) (Formal R) (∂ R (g ⊗ g)) ∙ ap neg (∂-leibniz-twice R g g))
+      (ap (∂ R) (sym (slope-of-square g)) ∙ d-neg (Series R) (Formal R) (∂ R (g ⊗ g)) ∙ ap neg (∂-leibniz-twice R g g))
       ∙ solve3 (Series R) (λ g g′ g″. num 2 :* :- (g″ :* g :+ g′ :* g′ :+ (g′ :* g′ :+ g :* g″)) :+ num 8 :* (g′ :* g′))
       (λ g g′ g″. :- num 4 :* (g :* g″ :- g′ :^ 2)) tt g (∂ R g) (∂ R (∂ R g))
 
-  pub bent-below : (n : ℕ) (s t : Seq R) → Below R (suc n) s → Below R n t → Below R n (bent s t)
-  bent-below n s t hs ht =
+  pub bend-from-below : (n : ℕ) (s t : Seq R) → Below R (suc n) s → Below R n t → Below R n (bend-from s t)
+  bend-from-below n s t hs ht =
       sums-below R n _ _ (scaled-below R n (cast R 2) (∂ R s) (below-∂ R s (omega arith) hs)) (scaled-below R n (cast R 8) t ht)
 
 module _ (R : CRing) (q : Question R) where
   open Question q using (A, B, d, σ)
   open CRing (Series R) using (add as _⊕_, mul as _⊗_, neg)
 
-  infixl 65 _⊕_ _⊖_
+  infixl 65 _⊕_
   infixl 70 _⊗_
   infixr 75 _^_
   infix 80 #_
-  abbrev _⊖_ : Seq R → Seq R → Seq R
-  a ⊖ b = a ⊕ neg b
-
   abbrev _^_ : Seq R → ℕ → Seq R
   a ^ n = pow (Series R) a n
 
@@ -133,22 +131,14 @@ module _ (R : CRing) (q : Question R) where
   abbrev x : Seq R
   x = ind R
 
-  -- ── the factors, and a coefficient of their multiples
+  -- ── a coefficient of a multiple of ℓx − σ, of 3x² + A and of f
 
-  unfoldable pub line : Seq R
-  line = # (ℓ R q) ⊗ x ⊖ κ σ
-
-  unfoldable pub quadratic : Seq R
-  quadratic = # 3 ⊗ x ^ 2 ⊕ κ A
-
-  pub line-at : (s : Seq R) (k : ℕ) → (line ⊗ s) k ≡ R .add (R .mul (cast R (ℓ R q)) (shifted R 1 s k)) (R .mul (R .neg σ) (s k))
-  unfolding line
+  pub line-at : (s : Seq R) (k : ℕ) → (line R q ⊗ s) k ≡ R .add (R .mul (cast R (ℓ R q)) (shifted R 1 s k)) (R .mul (R .neg σ) (s k))
   line-at s k =
       ap (λ (a : Seq R). a k) (solve4 (Series R) (λ l x σ s. (l :* x :- σ) :* s) (λ l x σ s. l :* (x :^ 1 :* s) :+ :- σ :* s) tt (# (ℓ R q)) x (κ σ) s)
       ∙ ap₂ (R .add) (conv-cast R (ℓ R q) (x ^ 1 ⊗ s) k ∙ ap (λ a. R .mul (cast R (ℓ R q)) (a k)) (power-ind R 1 s)) (const-minus-at R σ s k)
 
-  pub quadratic-at : (s : Seq R) (k : ℕ) → (quadratic ⊗ s) k ≡ R .add (R .mul (cast R 3) (shifted R 2 s k)) (R .mul A (s k))
-  unfolding quadratic
+  pub quadratic-at : (s : Seq R) (k : ℕ) → (quadratic R q ⊗ s) k ≡ R .add (R .mul (cast R 3) (shifted R 2 s k)) (R .mul A (s k))
   quadratic-at s k =
       ap (λ (a : Seq R). a k) (solve3 (Series R) (λ x A s. (num 3 :* x :^ 2 :+ A) :* s) (λ x A s. num 3 :* (x :^ 2 :* s) :+ A :* s) tt x (κ A) s)
       ∙ ap₂ (R .add) (conv-cast R 3 (x ^ 2 ⊗ s) k ∙ ap (λ a. R .mul (cast R 3) (a k)) (power-ind R 2 s)) (conv-const R A s k)
@@ -164,14 +154,14 @@ module _ (R : CRing) (q : Question R) where
 
   -- ── the parts
 
-  pub linear-is : (g : Seq R) → line ⊗ (g ⊗ g) ≡ linear-part R q g
-  unfolding line linear-part
-  linear-is g = solve2 (Series R) (λ l g. l :* (g :* g)) (λ l g. l :* g :^ 2) tt (# (ℓ R q) ⊗ x ⊖ κ σ) g
+  pub linear-is : (g : Seq R) → line R q ⊗ (g ⊗ g) ≡ linear-part R q g
+  unfolding linear-part
+  linear-is g = solve2 (Series R) (λ l g. l :* (g :* g)) (λ l g. l :* g :^ 2) tt (line R q) g
 
-  pub first-is : (g : Seq R) → quadratic ⊗ minus-slope R g ≡ first-logarithmic-part R q g
-  unfolding quadratic minus-slope first-logarithmic-part
+  pub first-is : (g : Seq R) → quadratic R q ⊗ minus-slope R g ≡ first-logarithmic-part R q g
+  unfolding minus-slope first-logarithmic-part
   first-is g =
-      solve3 (Series R) (λ s g g′. s :* (:- num 2 :* g :* g′)) (λ s g g′. :- (num 2 :* s :* g :* g′)) tt (# 3 ⊗ x ^ 2 ⊕ κ A) g (∂ R g)
+      solve3 (Series R) (λ s g g′. s :* (:- num 2 :* g :* g′)) (λ s g g′. :- (num 2 :* s :* g :* g′)) tt (quadratic R q) g (∂ R g)
 
   pub second-is : (g : Seq R) → f R q ⊗ minus-bend R g ≡ second-logarithmic-part R q g
   unfolding minus-bend second-logarithmic-part
@@ -181,12 +171,10 @@ module _ (R : CRing) (q : Question R) where
 
   -- ── degrees
 
-  pub line-below : Below R 2 line
-  unfolding line
+  pub line-below : Below R 2 (line R q)
   line-below = r-add R (r-mul R (r-cast R (ℓ R q)) (r-ind R)) (r-neg R (r-up R (r-const R σ))) .below
 
-  pub quadratic-below : Below R 3 quadratic
-  unfolding quadratic
+  pub quadratic-below : Below R 3 (quadratic R q)
   quadratic-below = r-add R (r-mul R (r-cast R 3) (r-pow R (r-ind R) 2)) (r-up R (r-up R (r-const R A))) .below
 
   pub f-below : Below R 4 (f R q)
@@ -198,18 +186,18 @@ module _ (R : CRing) (q : Question R) where
   N-below g pos h = subst (Below R (2 * d + 2))
       (ap₂ _⊕_ (ap₂ _⊕_ (linear-is g) (first-is g)) (second-is g) ∙ sym (N-parts R q g))
       (sums-below R _ _ _
-      (sums-below R _ _ _ (below-conv R 2 (2 * d + 1) line (g ⊗ g) (omega arith) line-below square-below)
-      (below-conv R 3 (2 * d) quadratic (minus-slope R g) (omega arith) quadratic-below slope-below))
+      (sums-below R _ _ _ (below-conv R 2 (2 * d + 1) (line R q) (g ⊗ g) (omega arith) line-below square-below)
+      (below-conv R 3 (2 * d) (quadratic R q) (minus-slope R g) (omega arith) quadratic-below slope-below))
       (below-conv R 4 (2 * d - 1) (f R q) (minus-bend R g) (omega arith) f-below bend-below))
     where
       square-below : Below R (2 * d + 1) (g ⊗ g)
       square-below = below-conv R (suc d) (suc d) g g (omega arith) h h
 
       slope-below : Below R (2 * d) (minus-slope R g)
-      slope-below = subst (Below R (2 * d)) (slope-is R g) (negs-below R (2 * d) _ (below-∂ R (g ⊗ g) (omega arith) square-below))
+      slope-below = subst (Below R (2 * d)) (slope-of-square R g) (negs-below R (2 * d) _ (below-∂ R (g ⊗ g) (omega arith) square-below))
 
       bend-below : Below R (2 * d - 1) (minus-bend R g)
       bend-below =
-          subst (Below R (2 * d - 1)) (bend-is R g)
-          (bent-below R (2 * d - 1) (minus-slope R g) (∂ R g ⊗ ∂ R g) (λ i l. slope-below i (omega arith))
+          subst (Below R (2 * d - 1)) (bend-of-slope R g)
+          (bend-from-below R (2 * d - 1) (minus-slope R g) (∂ R g ⊗ ∂ R g) (λ i l. slope-below i (omega arith))
           (below-conv R d d (∂ R g) (∂ R g) (omega arith) (below-∂ R g (omega arith) h) (below-∂ R g (omega arith) h)))

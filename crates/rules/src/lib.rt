@@ -10,8 +10,8 @@ ghost use Rattle.zmod.specs.Zmod.{Zmod, mk, minus, times};
 ghost use Rattle.zmod.specs.Residues.{Residue, Reduced, poly, Residues};
 ghost use Rattle.isogeny.specs.Rules.{N, linear-part, first-logarithmic-part, second-logarithmic-part, R1};
 ghost use Rattle.sheet.specs.Values.{half, question};
-ghost use Rattle.sheet.specs.Ready.{Ready, HoldsG, HoldsN};
-ghost use Rattle.rules.specs.Numerator.{minus-slope, minus-bend, bent};
+ghost use Rattle.sheet.specs.Ready.{Ready, HoldsG};
+ghost use Rattle.rules.specs.Numerator.{minus-slope, minus-bend, bend-from};
 ghost use Rattle.rules.specs.Products.{Products};
 use sheet::Values;
 
@@ -46,7 +46,7 @@ pub fn rule_one(v: Values, g: &[u32]) -> bool
 // Times D, sign and number included, the quotients are polynomials: -D′ is -2gg′, and -2D(D′/D)′ is -4(gg″ - g′²). `products` forms them and g², once;
 // ℓx - σ, 3x² + A and x³ + Ax + B times these are the three parts of N, and their sum is N.
 
-// The coefficient i of -s′.
+// The coefficient i of -s′. With s = g² this is where the second part gets its sign.
 fn slope_coefficient(s: &[u32], i: usize, p: u32) -> u32
     requires { ⌜ (0 < p) × (p ≤ 2 ^ 28) × (Reduced p (now s)) × (i < 2 ^ 16) ⌝ }
     ensures { λ r. ⌜ Residue p (minus p (∂ (Zmod p) (poly p (now (s .entry))) i)) r ⌝ }
@@ -70,7 +70,7 @@ fn slope_of(s: &[u32], out: &mut [u32], p: u32)
 // The coefficient i of 2s′ + 8t.
 fn bend_coefficient(s: &[u32], t: &[u32], i: usize, p: u32) -> u32
     requires { ⌜ (0 < p) × (p ≤ 2 ^ 28) × (Reduced p (now s)) × (Reduced p (now t)) × (i < 2 ^ 16) ⌝ }
-    ensures { λ r. ⌜ Residue p (bent (Zmod p) (poly p (now (s .entry))) (poly p (now (t .entry))) i) r ⌝ }
+    ensures { λ r. ⌜ Residue p (bend-from (Zmod p) (poly p (now (s .entry))) (poly p (now (t .entry))) i) r ⌝ }
 {
     let n = (i as u32) + 1;
     let above = poly::word(s, i + 1);
@@ -83,7 +83,7 @@ fn bend_coefficient(s: &[u32], t: &[u32], i: usize, p: u32) -> u32
 // out = 2s′ + 8t
 fn bend_of(s: &[u32], t: &[u32], out: &mut [u32], p: u32)
     requires { ⌜ (0 < p) × (p ≤ 2 ^ 28) × (Reduced p (now s)) × (Reduced p (now t)) × (length (now out) ≤ 255) ⌝ }
-    ensures { λ _. ⌜ Residues p (bent (Zmod p) (poly p (now (s .entry))) (poly p (now (t .entry)))) (now (out .exit)) ⌝ }
+    ensures { λ _. ⌜ Residues p (bend-from (Zmod p) (poly p (now (s .entry))) (poly p (now (t .entry)))) (now (out .exit)) ⌝ }
 {
     let mut i = 0;
     while i < out.len() {
@@ -191,8 +191,9 @@ fn coefficient(v: Values, square: &[u32], slope: &[u32], bend: &[u32], k: usize)
         → Residue (v .p) (N (Zmod (v .p)) (question v) g k) r) ⌝ }
 {
     let linear = linear_part(v, square, k);
-    let logarithmic = first_logarithmic_part(v, slope, k) + second_logarithmic_part(v, bend, k);
-    field::reduce(linear + logarithmic, v.p)
+    let first = first_logarithmic_part(v, slope, k);
+    let second = second_logarithmic_part(v, bend, k);
+    field::reduce(linear + first + second, v.p)
 }
 
 // out = N

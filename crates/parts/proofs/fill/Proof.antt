@@ -1,5 +1,5 @@
 -- `parts::fill` meets its contract. The invariant: of each part the coefficients before k are stored, whatever g has these products. Assumes nothing.
-use mathlib.Core.Path.{_≡_, refl, sym, _∙_}
+use mathlib.Core.Path.{_≡_, refl, _∙_}
 use Prim.Native.Nat.{_-_, _≤_, _<_}
 use native.Mathlib.Omega.{arith}
 use borrow.Author.Needs.{needs}

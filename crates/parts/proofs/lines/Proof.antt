@@ -10,6 +10,9 @@ use Rattle.text.specs.Lines.{length-hex-lines}
 use Rattle.parts.proofs.lines.Statement.{statement}
 use Rattle.parts.proofs.lines.Tie as tie
 
+abbrev start : tie.After-word-lines → tie.Start
+start c = c .before .before .before
+
 slice-aggregate-word-lines : tie.Need-slice-aggregate-word-lines
 slice-aggregate-word-lines c = search needs
 
@@ -19,9 +22,9 @@ word-lines-requires c κs = search needs
 returns : tie.Need-returns
 returns c =
     let call = c .before .word-lines in
-    let start = c .before .before .before .before in
-    let part = start .args .part .now in
-    let whole : 36 ≤ call .result = omega (arith, call .ensures .count-is, length-hex-lines part, start .pre) in
+    let s = start (c .before) in
+    let part = s .args .part .now in
+    let whole : 36 ≤ call .result = omega (arith, call .ensures .count-is, length-hex-lines part, s .pre) in
     call .ensures .bytes ∙ ap (λ (l : List ℕ). hexLines part ++ l) (drop-of-length-le _ {i = call .result} whole) ∙ append-nil (hexLines part)
 
 pub lines-spec : {M : Type 1} → statement M

@@ -13,6 +13,15 @@ formed c = c .before .before .before .before .before .before .before .before .be
 abbrev filled : tie.After-lines → tie.After-fill
 filled c = c .before .before .before .before .before
 
+abbrev first-lines : tie.After-lines2 → tie.After-lines
+first-lines c = c .before .before
+
+abbrev second-lines : tie.After-lines3 → tie.After-lines2
+second-lines c = c .before .before
+
+abbrev third-lines : tie.After-three → tie.After-lines3
+third-lines c = c .before .before .before
+
 -- ── the needs
 
 slice-aggregate-products : tie.Need-slice-aggregate-products
@@ -82,9 +91,9 @@ slice-aggregate-print-3 c = search needs
 
 print-requires : tie.Need-print-requires
 print-requires c κs =
-    let three = c .before .before .before in
-    let two = three .before .before in
-    let one = two .before .before in
+    let three = third-lines c in
+    let two = second-lines three in
+    let one = first-lines two in
     let after = filled one in
     record {
       l = _;

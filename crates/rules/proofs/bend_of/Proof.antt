@@ -6,12 +6,12 @@ use lib.ListN.{length}
 use Rattle.zmod.specs.Zmod.{Zmod}
 use Rattle.zmod.specs.Residues.{poly}
 use Rattle.poly.specs.Stored.{Stored, Of, stored-none, stored-more, stored-all}
-use Rattle.rules.specs.Numerator.{bent}
+use Rattle.rules.specs.Numerator.{bend-from}
 use Rattle.rules.proofs.bend_of.Statement.{statement}
 use Rattle.rules.proofs.bend_of.Tie as tie
 
 abbrev Inv-loop : tie.InvT-loop
-Inv-loop s t out₀ p i₀ out i = Stored (Of p (bent (Zmod p) (poly p s) (poly p t))) out₀ out i
+Inv-loop s t out₀ p i₀ out i = Stored (Of p (bend-from (Zmod p) (poly p s) (poly p t))) out₀ out i
 
 abbrev μ-loop : tie.MeasureT-loop
 μ-loop s t out₀ p i₀ out i = length out₀ - i

@@ -10,6 +10,9 @@ use Rattle.rules.proofs.linear_part.Tie as tie
 abbrev start : tie.After-negate → tie.Start
 start c = c .before .before
 
+abbrev negated : tie.After-word → tie.After-negate
+negated c = c .before .before
+
 negate-requires : tie.Need-negate-requires
 negate-requires c κs = search needs
 
@@ -21,7 +24,7 @@ word-requires c κs = search needs
 
 combination-requires : tie.Need-combination-requires
 combination-requires c κs =
-    let s = start (c .before .before) in
+    let s = start (negated c) in
     let a = s .args in
     let b = c .before .back in
     let low : b .result < a .v .p =
@@ -33,7 +36,7 @@ returns : tie.Need-returns
 returns c =
     let word = c .before in
     let back = word .before .back in
-    let negate = word .before .before in
+    let negate = negated word in
     let s = start negate in
     let a = s .args in (
       linear-step (a .v) (s .pre .0) (a .square .now) (a .k) (negate .negate .result) (back .result) (c .combination .result) (negate .negate .ensures)

@@ -8,6 +8,9 @@ use Rattle.rules.proofs.products.Tie as tie
 abbrev start : tie.After-q → tie.Start
 start c = c .before .before .before .before .before .before .before .before
 
+abbrev lent : tie.After-products-in-arg3 → tie.After-q
+lent c = c .before .before .before
+
 sub-d : tie.Need-sub-d
 sub-d c = search needs
 
@@ -37,7 +40,7 @@ slice-aggregate-products-in-2 c = simp length-take (omega arith)
 
 products-in-requires : tie.Need-products-in-requires
 products-in-requires c κs =
-    let pre = start (c .before .before .before) .pre in
+    let pre = start (lent c) .pre in
     (pre .0, simp length-take (omega (arith, pre)))
 
 same-length : tie.Need-same-length

@@ -17,11 +17,11 @@ square c = c .before .before .before .before .before
 abbrev slope : tie.After-derivative → tie.After-slope-of
 slope c = c .before .before .before .before
 
-abbrev tangent : tie.After-square3 → tie.After-derivative
-tangent c = c .before .before .before .before .before
+abbrev derivative : tie.After-square3 → tie.After-derivative
+derivative c = c .before .before .before .before .before
 
-abbrev tangent² : tie.After-bend-of → tie.After-square3
-tangent² c = c .before .before .before .before .before .before
+abbrev derivative² : tie.After-bend-of-arg3 → tie.After-square3
+derivative² c = c .before .before .before .before .before
 
 -- ── the needs
 
@@ -39,8 +39,8 @@ square-requires-2 c κs = search needs
 
 bend-of-requires : tie.Need-bend-of-requires
 bend-of-requires c κs =
-    let fourth = c .before .before .before .before .before in
-    let second = slope (tangent fourth) in
+    let fourth = derivative² c in
+    let second = slope (derivative fourth) in
     let s = start (square second) in (
       omega (arith, s .pre .0 .0 .prime .least),
       omega (arith, s .pre .0 .0 .prime),
@@ -67,8 +67,8 @@ same-length-5 c = search needs
 returns : tie.Need-returns
 returns c =
     let fifth = c .before .before in
-    let fourth = tangent² fifth in
-    let third = tangent fourth in
+    let fourth = derivative² (fifth .before) in
+    let third = derivative fourth in
     let second = slope third in
     let first = square second in
     let begin = start first in

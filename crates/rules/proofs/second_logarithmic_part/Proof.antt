@@ -10,6 +10,9 @@ use Rattle.rules.proofs.second_logarithmic_part.Tie as tie
 abbrev start : tie.After-back2 → tie.Start
 start c = c .before .before .before
 
+abbrev cubed : tie.After-word → tie.After-back
+cubed c = c .before .before
+
 back-requires : tie.Need-back-requires
 back-requires c κs = search needs
 
@@ -25,7 +28,7 @@ combination-requires c κs =
     let a = s .args in
     let p = a .v .p in
     let b₁ = c .before .back2 in
-    let b₃ = c .before .before .back in
+    let b₃ = cubed c .back in
     let low₁ : b₁ .result < p = back-below p (a .bend .now) 1 (a .k) (b₁ .result) (b₁ .ensures .0) (b₁ .ensures .1) (omega arith) (s .pre .1) in
     let low₃ : b₃ .result < p = back-below p (a .bend .now) 3 (a .k) (b₃ .result) (b₃ .ensures .0) (b₃ .ensures .1) (omega arith) (s .pre .1) in
     omega (arith, low₁, low₃, c .word .ensures, s .pre .1 (a .k))
@@ -34,7 +37,7 @@ returns : tie.Need-returns
 returns c =
     let word = c .before in
     let b₁ = word .before .back2 in
-    let b₃ = word .before .before .back in
+    let b₃ = cubed word .back in
     let a = start (word .before) .args in
     let p = a .v .p in (
       second-step (a .v) (a .bend .now) (a .k) (b₃ .result) (b₁ .result) (c .combination .result)
