@@ -1,5 +1,5 @@
--- A table of document 01's marked sheets: a row is a sheet, by the numbers that the document lists, with what it says of it; `Claim` states the row in
--- terms of what the services have to answer.
+-- A table of document 01's marked sheets, and of document 02's cases: a row is a sheet, by the numbers that the document lists, with what it says of it;
+-- `Claim` states the row in terms of what the services have to answer, or of R2's terms.
 -- Assumes nothing.
 use mathlib.Core.List.{List, [], _∷_, _++_, map}
 use mathlib.Core.Path.{_≡_}
@@ -60,7 +60,7 @@ count v = certificateWords (half v)
 abbrev pub filled : Values → List ℕ → List ℕ → List ℕ → List ℕ
 filled v g n before = certificate v g n ++ drop (count v) before
 
--- ── what a row says, for every buffer that is large enough
+-- ── what a row says, for every buffer that is large enough where one is lent
 
 -- the count coefficients of a, each below p, and there are no others
 pub record Listed (p : ℕ) (a : Seq (Zmod p)) (count : ℕ) (xs : List ℕ) : Type 0 where

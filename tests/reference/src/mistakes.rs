@@ -47,7 +47,7 @@ pub const ALL: [Mistake; 29] = [
     |n| n.with_line(|q| (q.l, q.field().div(q.sigma, 2))),
     |n| n.with_line(|q| (q.l, q.field().neg(q.sigma))),
     // A or B left out.
-    |n| n.with_slope([0, 0, 3]),
+    |n| n.with_quadratic([0, 0, 3]),
     |n| n.with_cubic(0, n.question.b),
     |n| n.with_cubic(n.question.a, 0),
     // gg'' alone, g'^2 alone, and their sum in the place of the difference.
@@ -68,9 +68,9 @@ pub fn third_halved(n: &Worked) -> Poly {
 /// f times gg', and 3x^2 + A times gg'' - g'^2.
 pub fn exchanged(n: &Worked) -> Poly {
     let k = n.g.field();
-    let slope = Poly::new(k, vec![n.question.a, 0, 3]);
+    let quadratic = Poly::new(k, vec![n.question.a, 0, 3]);
     let second = n.cubic().mul(&n.with_first).scale(k.of(-2));
-    let third = slope.mul(&n.bend()).scale(k.of(-4));
+    let third = quadratic.mul(&n.bend()).scale(k.of(-4));
     n.parts[0].add(&second).add(&third)
 }
 
@@ -152,10 +152,10 @@ impl<'a> Worked<'a> {
     }
 
     /// The second part with another polynomial than 3x^2 + A.
-    fn with_slope(&self, slope: [u64; 3]) -> Poly {
+    fn with_quadratic(&self, quadratic: [u64; 3]) -> Poly {
         let k = self.g.field();
-        let slope = Poly::new(k, slope.to_vec());
-        self.replaced(1, &slope.mul(&self.with_first).scale(k.of(-2)))
+        let quadratic = Poly::new(k, quadratic.to_vec());
+        self.replaced(1, &quadratic.mul(&self.with_first).scale(k.of(-2)))
     }
 
     fn with_third(&self, cubic: &Poly, bend: &Poly) -> Poly {

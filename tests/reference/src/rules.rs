@@ -27,11 +27,11 @@ pub fn parts(a: u64, b: u64, l: u64, sigma: u64, g: &Poly) -> [Poly; 3] {
     let field = g.field();
     let (g1, g2) = (g.derivative(), g.derivative().derivative());
     let line = Poly::new(field, vec![field.neg(sigma), l % field.p()]);
-    let slope = Poly::new(field, vec![a, 0, field.of(3)]);
+    let quadratic = Poly::new(field, vec![a, 0, field.of(3)]);
     let bend = g.mul(&g2).sub(&g1.square());
     [
         line.mul(&g.square()),
-        slope.mul(g).mul(&g1).scale(field.of(-2)),
+        quadratic.mul(g).mul(&g1).scale(field.of(-2)),
         cubic(field, a, b).mul(&bend).scale(field.of(-4)),
     ]
 }

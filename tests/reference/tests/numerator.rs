@@ -84,14 +84,14 @@ impl Integers {
 /// R2 has the first of these, less the second, less the third.
 fn terms_of_r2(a: u64, b: u64, l: u64, sigma: u64, g: &Poly) -> [Integers; 3] {
     let line = Integers(vec![-i128::from(sigma), i128::from(l)]);
-    let twice_slope = Integers(vec![2 * i128::from(a), 0, 6]);
+    let twice_quadratic = Integers(vec![2 * i128::from(a), 0, 6]);
     let four_f = Integers(vec![4 * i128::from(b), 4 * i128::from(a), 0, 4]);
     let g = Integers::of(g.coefficients());
     let g1 = g.derivative();
     let g2 = g1.derivative();
     [
         line.times(&g).times(&g),
-        twice_slope.times(&g).times(&g1),
+        twice_quadratic.times(&g).times(&g1),
         four_f.times(&g.times(&g2).minus(&g1.times(&g1))),
     ]
 }

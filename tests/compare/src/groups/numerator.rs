@@ -23,7 +23,7 @@ const PRIMES: [u64; 5] = [11, 13, 1009, 65521, LARGEST_PRIME];
 /// certificates that pass.
 pub fn run(judge: &mut Judge, quick: bool) {
     let mut random = Random::new(53);
-    let mut wrong = 0;
+    let mut met = Met::default();
     for p in PRIMES {
         let degrees = degrees(p);
         let rounds = if quick { 1 } else { 128 / degrees.len() };
@@ -31,27 +31,33 @@ pub fn run(judge: &mut Judge, quick: bool) {
         let degrees = degrees.into_iter().rev();
         for l in degrees.step_by(if quick { 42 } else { 1 }) {
             for _ in 0..rounds {
-                wrong += any(judge, &mut random, p, l);
+                any(judge, &mut random, p, l, &mut met);
             }
         }
     }
     for certificate in document::samples().iter().chain([&marked::smallest()]) {
         let (g, _) = certificate.polynomials();
-        wrong += claims(judge, &mut random, &certificate.question, &g);
+        claims(judge, &mut random, &certificate.question, &g, &mut met);
     }
-    judge.note(format!("{wrong} sheets with a wrong N"));
+    assert!(met.each.iter().all(|&n| n > 0), "a mistake without a sheet");
+    judge.note(format!("{} sheets with a wrong N", met.wrong));
 }
 
-/// Any g, and g of special shape, over three curves; how many sheets are wrong.
-fn any(judge: &mut Judge, random: &mut Random, p: u64, l: u64) -> usize {
-    let mut wrong = 0;
+/// How many sheets have a wrong N, and how many each mistake made wrong.
+#[derive(Default)]
+struct Met {
+    wrong: usize,
+    each: [usize; mistakes::ALL.len()],
+}
+
+/// Any g, and g of special shape, over three curves.
+fn any(judge: &mut Judge, random: &mut Random, p: u64, l: u64, met: &mut Met) {
     for curve in curves(random, p) {
         for g in shapes(random, curve.field, sheet::half(l)) {
             let question = question(random, &curve, l, &g);
-            wrong += claims(judge, random, &question, &g);
+            claims(judge, random, &question, &g, met);
         }
     }
-    wrong
 }
 
 /// Any curve, the one with the largest values, and one without A or without B.
@@ -77,8 +83,8 @@ fn question(random: &mut Random, curve: &Curve, l: u64, g: &Poly) -> Question {
     Question::of([p, curve.a, curve.b, codomain.a, codomain.b, l, sigma])
 }
 
-/// Sheets with this g and the N that is right or almost; how many of them are wrong.
-fn claims(judge: &mut Judge, random: &mut Random, question: &Question, g: &Poly) -> usize {
+/// Sheets with this g and the N that is right or almost.
+fn claims(judge: &mut Judge, random: &mut Random, question: &Question, g: &Poly, met: &mut Met) {
     let worked = Worked::new(question, g);
     let right = worked.right();
     let words = |n: &[u64]| {
@@ -92,6 +98,9 @@ fn claims(judge: &mut Judge, random: &mut Random, question: &Question, g: &Poly)
     // 10 for most, 0 where R3 holds.
     judge.agrees(&Call::check(&words(&right)));
     let mut wrong = mistakes::ALL.map(|mistake| worked.wrong(mistake)).to_vec();
+    for (count, n) in met.each.iter_mut().zip(&wrong) {
+        *count += usize::from(*n != right);
+    }
     for place in [0, random.index(right.len()), right.len() - 1] {
         let mut one_more = right.clone();
         one_more[place] = (one_more[place] + 1) % question.p;
@@ -103,5 +112,5 @@ fn claims(judge: &mut Judge, random: &mut Random, question: &Question, g: &Poly)
     }
     let some = random.pick(&wrong);
     judge.refuses(&Call::push(&words(some), INFINITY), 9);
-    wrong.len()
+    met.wrong += wrong.len();
 }
