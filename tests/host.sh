@@ -55,7 +55,7 @@ toolchain=$(rt version | head -n 1)
 [ "$toolchain" = "$SAGEPLIERS_TOOLCHAIN" ] || fail "TOOLCHAIN says $SAGEPLIERS_TOOLCHAIN, and rt is $toolchain"
 
 step "the scripts of the repository"
-shellcheck -x -P SCRIPTDIR .ci/run .ci/tests bench/run bench/check.sh host/*.sh tests/*.sh || fail "shellcheck"
+shellcheck -x -P SCRIPTDIR .ci/run .ci/tests bench/run bench/pair bench/check.sh host/*.sh tests/*.sh || fail "shellcheck"
 shellcheck -s bash host/sagepliers.bash || fail "shellcheck"
 
 step "plain, without a warning"

@@ -2,11 +2,12 @@
 
 use std::fmt::Write;
 
-use crate::clock::{Stat, Value};
+use common::clock::{Stat, Value};
+use common::inputs;
+use common::table::{short, spread, Table};
+
 use crate::counts;
-use crate::inputs;
 use crate::primes::Primes;
-use crate::table::{short, spread, Table};
 use crate::{Row, DOT, ROUNDS};
 
 const SERVICES: [&str; 4] = ["check", "solve", "kernel", "push"];

@@ -1,49 +1,13 @@
 //! The C entries of the library, the check with FLINT, and FLINT's and PARI's tests of a prime, each in a safe function.
 
+common::entries!("");
+
 extern "C" {
-    fn sagepliers_check(bytes: *const u8, count: usize) -> u32;
-    fn sagepliers_push(bytes: *const u8, count: usize, point: u64) -> u64;
-    fn sagepliers_solve(sheet: *const u32, words: usize, answer: *mut u32, room: usize) -> u64;
-    fn sagepliers_kernel(sheet: *const u32, words: usize, answer: *mut u32, room: usize) -> u64;
     fn sagepliers_name(p: u32, a: u32, b: u32) -> u64;
     fn flint_check(values: *const u32, g: *const u32, n: *const u32) -> u32;
     fn n_is_prime(n: u64) -> i32;
     fn pari_init_opts(stack: usize, prime: u64, options: u64);
     fn uisprime(n: u64) -> i32;
-}
-
-pub fn check(bytes: &[u8]) -> u32 {
-    // SAFETY: the slice is readable for its length.
-    unsafe { sagepliers_check(bytes.as_ptr(), bytes.len()) }
-}
-
-pub fn push(bytes: &[u8], point: u64) -> u64 {
-    // SAFETY: as for check.
-    unsafe { sagepliers_push(bytes.as_ptr(), bytes.len(), point) }
-}
-
-pub fn solve(sheet: &[u32], answer: &mut [u32]) -> u64 {
-    // SAFETY: the two slices do not overlap, one is readable, one writable.
-    unsafe {
-        sagepliers_solve(
-            sheet.as_ptr(),
-            sheet.len(),
-            answer.as_mut_ptr(),
-            answer.len(),
-        )
-    }
-}
-
-pub fn kernel(sheet: &[u32], answer: &mut [u32]) -> u64 {
-    // SAFETY: as for solve.
-    unsafe {
-        sagepliers_kernel(
-            sheet.as_ptr(),
-            sheet.len(),
-            answer.as_mut_ptr(),
-            answer.len(),
-        )
-    }
 }
 
 /// R1 to R3 of a certificate that has been read: p, A, B, A~, B~, l, sigma, then g and N.

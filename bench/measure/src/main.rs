@@ -2,28 +2,25 @@
 //! prints the ratios and writes the document. Arguments: the document, a file with lines on the machine, the versions and the list of sheets, a file with
 //! remarks, the folder of the list.
 
-mod clock;
 mod counts;
 mod document;
 mod entries;
-mod inputs;
 mod pari;
 mod primes;
-mod table;
 
 use std::hint::black_box;
 use std::path::Path;
 use std::process::ExitCode;
 
-use clock::{Column, Samples};
-use inputs::Input;
+use common::clock::{self, Column, Samples};
+use common::inputs::{self, Input};
+use common::ROOM;
 use pari::Pari;
 
 pub const ROUNDS: usize = 41;
 /// Microseconds of a sample.
 const SAMPLE: f64 = 1_500.0;
 pub const DOT: usize = 256;
-const ROOM: usize = 392;
 
 /// The samples for one prime and one degree.
 pub struct Row {

@@ -5,10 +5,10 @@ use std::fmt::Write;
 use std::hint::black_box;
 use std::path::Path;
 
+use common::clock::{self, column, Samples, Stat, Value};
+use common::table::{spread, Table};
 use reference::sheet;
 
-use crate::clock::{self, column, Samples, Stat, Value};
-use crate::table::{spread, Table};
 use crate::{entries, ROUNDS, SAMPLE};
 
 /// Primes of all sizes up to the largest permitted one, on both sides of 2^20, where the last run of divisors begins, then a multiple of 3 and the square of

@@ -73,20 +73,38 @@ pub fn column<'a, T>(name: &'static str, mut call: impl FnMut() -> T + 'a) -> Co
     (name, Box::new(again))
 }
 
-/// Runs the columns; each sample lasts about `sample` microseconds.
-pub fn run(mut columns: Vec<Column>, rounds: usize, sample: f64) -> Samples {
+/// How many calls of each column take about `sample` microseconds.
+pub fn counts(columns: &mut [Column], sample: f64) -> Vec<usize> {
     // The first calls warm up, the next ones tell the time.
-    let counts: Vec<usize> = columns
-        .iter_mut()
-        .map(|(_, call)| {
-            call(8);
-            (sample / call(8) * 8.0).ceil().clamp(1.0, 1e6) as usize
-        })
-        .collect();
+    let count = |(_, call): &mut Column| {
+        call(8);
+        (sample / call(8) * 8.0).ceil().clamp(1.0, 1e6) as usize
+    };
+    columns.iter_mut().map(count).collect()
+}
+
+/// Runs the columns in the order that they have; each sample lasts about `sample` microseconds.
+pub fn run(mut columns: Vec<Column>, rounds: usize, sample: f64) -> Samples {
+    let counts = counts(&mut columns, sample);
+    let order: Vec<usize> = (0..columns.len()).collect();
+    run_in_turns(columns, &counts, &[&order], rounds)
+}
+
+/// Runs the columns with so many calls each. A round takes the orders one after the other and adds up the time of each column.
+pub fn run_in_turns(
+    mut columns: Vec<Column>,
+    counts: &[usize],
+    orders: &[&[usize]],
+    rounds: usize,
+) -> Samples {
     let mut times = vec![Vec::new(); columns.len()];
     for _ in 0..rounds {
-        for (i, (_, call)) in columns.iter_mut().enumerate() {
-            times[i].push(call(counts[i]) / counts[i] as f64);
+        let mut sums = vec![0.0; columns.len()];
+        for &i in orders.iter().copied().flatten() {
+            sums[i] += columns[i].1(counts[i]);
+        }
+        for (i, sum) in sums.into_iter().enumerate() {
+            times[i].push(sum / (counts[i] * orders.len()) as f64);
         }
     }
     let names = columns.iter().map(|&(name, _)| name).collect();
