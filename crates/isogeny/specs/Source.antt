@@ -149,18 +149,7 @@ module _ (R : CRing) (q : Question R) where
       (linear-part R q g) (first-logarithmic-part R q g) (second-logarithmic-part R q g) (g ⊗ g)
       ∙ ap₂ _⊕_ (ap₂ _⊕_ (linear-13 g) (first-logarithmic-13 g)) (second-logarithmic-13 g)
 
-  -- and no other series satisfies (13) as printed, where D = g² has an inverse:
-  pub printed-13-is : (g i n : Seq R) → g ⊗ g ⊗ i ≡ Series R .𝟙 → Printed13 (n ⊗ i) (∂ R (g ⊗ g) ⊗ i) ↔ (n ≡ N R q g)
-  unfolding Formula13
-  printed-13-is g i n inverse = (
-    λ e. sym (back n) ∙ ap (λ m. m ⊗ i) (printed-13 (g ⊗ g) i n inverse .0 e ∙ sym (formula-13 g)) ∙ back (N R q g),
-    λ e. printed-13 (g ⊗ g) i n inverse .1 (ap (λ m. m ⊗ (g ⊗ g)) e ∙ formula-13 g),
-  )
-    where
-      back : (m : Seq R) → m ⊗ (g ⊗ g) ⊗ i ≡ m
-      back m = Series R .mul-assoc m (g ⊗ g) i ∙ ap (λ y. m ⊗ y) inverse ∙ Series R .mul-one m
-
-  -- nor, for a g with R1, any other polynomial times D²: (13) is R2.
+  -- and, for a g with R1, no other polynomial does: (13) is R2.
   pub formula-13-is : 1 ≤ d → (g : Seq R) → R1 R q g → (n : Seq R) → Poly R n → Formula13 (g ⊗ g) n ↔ (n ≡ N R q g)
   unfolding Formula13
   formula-13-is d≥1 g r1 n polynomial = (there, λ e. ap (λ m. m ⊗ (g ⊗ g)) e ∙ formula-13 g)
@@ -176,3 +165,14 @@ module _ (R : CRing) (q : Question R) where
           regular-cancel R (g ⊗ g) n (N R q g) (leading-regular R (d + d) (g ⊗ g) (leading R (d + d) (g ⊗ g) square)) polynomial
           (monic-poly R (ℓ R q) (N R q g) (N-monic R q d≥1 g r1))
           (Series R .mul-comm (g ⊗ g) n ∙ h ∙ sym (formula-13 g) ∙ Series R .mul-comm (N R q g) (g ⊗ g))
+
+  -- The same of (13) as printed, where D has an inverse, among all series.
+  pub printed-13-is : (g i n : Seq R) → g ⊗ g ⊗ i ≡ Series R .𝟙 → Printed13 (n ⊗ i) (∂ R (g ⊗ g) ⊗ i) ↔ (n ≡ N R q g)
+  unfolding Formula13
+  printed-13-is g i n inverse = (
+    λ e. sym (back n) ∙ ap (λ m. m ⊗ i) (printed-13 (g ⊗ g) i n inverse .0 e ∙ sym (formula-13 g)) ∙ back (N R q g),
+    λ e. printed-13 (g ⊗ g) i n inverse .1 (ap (λ m. m ⊗ (g ⊗ g)) e ∙ formula-13 g),
+  )
+    where
+      back : (m : Seq R) → m ⊗ (g ⊗ g) ⊗ i ≡ m
+      back m = Series R .mul-assoc m (g ⊗ g) i ∙ ap (λ y. m ⊗ y) inverse ∙ Series R .mul-one m
