@@ -19,8 +19,8 @@ first-lines c = c .before .before
 abbrev second-lines : tie.After-lines3 → tie.After-lines2
 second-lines c = c .before .before
 
-abbrev third-lines : tie.After-three → tie.After-lines3
-third-lines c = c .before .before .before
+abbrev third-lines : tie.After-one → tie.After-lines3
+third-lines c = c .before
 
 -- ── the needs
 
@@ -91,7 +91,7 @@ slice-aggregate-print-3 c = search needs
 
 print-requires : tie.Need-print-requires
 print-requires c κs =
-    let three = third-lines c in
+    let three = third-lines (c .before .before) in
     let two = second-lines three in
     let one = first-lines two in
     let after = filled one in
