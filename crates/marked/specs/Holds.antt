@@ -334,28 +334,27 @@ module _ (v : Values) (g₀ : List ℕ) where
 abbrev though-tests : Values → List ℕ → List ℕ → ℕ → List Bool
 though-tests v g n k = every (refused-tests (certificate v g n) k) ∷ ltb 0 (v .p) ∷ R3-test v g n ∷ []
 
--- a list has as many numbers, each below p
-abbrev listed-tests : ℕ → ℕ → List ℕ → List Bool
-listed-tests p count xs = eqb (length xs) count ∷ below p xs ∷ []
+-- a list has 2d + 2 numbers, each below p
+abbrev listed-tests : Values → List ℕ → List Bool
+listed-tests v xs = eqb (length xs) (2 * half v + 2) ∷ below (v .p) xs ∷ []
 
-listed : (p : ℕ) (a : Seq (Zmod p)) (count : ℕ) (xs : List ℕ) → 0 < p → Every (listed-tests p count xs) → poly p xs ≡ a → Listed p a count xs
-listed p a count xs pos t e = record { all = eqb→eq (length xs) count (t 0); reduced = below-yes p pos xs (t 1); same = e }
+listed : (v : Values) (a : Seq (Zmod (v .p))) (xs : List ℕ) → 0 < v .p → T (every (listed-tests v xs)) → poly (v .p) xs ≡ a → Listed v a xs
+listed v a xs pos t e =
+    let s : Every (listed-tests v xs) = every-yes (listed-tests v xs) t in
+    (eqb→eq (length xs) (2 * half v + 2) (s 0), record { reduced = below-yes (v .p) pos xs (s 1); same = e })
 
 abbrev part-tests : Values → List ℕ → List ℕ → List ℕ → List ℕ → List Bool
 part-tests v g l m n =
-    ltb 0 (v .p) ∷ every (parts-tests v g l m n) ∷ every (listed-tests (v .p) (2 * half v + 2) l) ∷ every (listed-tests (v .p) (2 * half v + 2) m)
-    ∷ every (listed-tests (v .p) (2 * half v + 2) n) ∷ []
+    ltb 0 (v .p) ∷ every (parts-tests v g l m n) ∷ every (listed-tests v l) ∷ every (listed-tests v m) ∷ every (listed-tests v n) ∷ []
 
 parts-hold : (v : Values) (g l m n : List ℕ) → Every (part-tests v g l m n) → Claim (parts v g l m n)
 unfolding Claim
 parts-hold v g l m n t =
-    let p : ℕ = v .p in
-    let size : ℕ = 2 * half v + 2 in
-    let pos : 0 < p = ltb→lt 0 p (t 0) in
+    let pos : 0 < v .p = ltb→lt 0 (v .p) (t 0) in
     let same : Every (parts-tests v g l m n) = every-yes (parts-tests v g l m n) (t 1) in (
-      listed p _ size l pos (every-yes (listed-tests p size l) (t 2)) (linear-by-computing v g pos l (same 0)),
-      listed p _ size m pos (every-yes (listed-tests p size m) (t 3)) (first-by-computing v g pos m (same 1)),
-      listed p _ size n pos (every-yes (listed-tests p size n) (t 4)) (second-by-computing v g pos n (same 2)),
+      listed v _ l pos (t 2) (linear-by-computing v g pos l (same 0)),
+      listed v _ m pos (t 3) (first-by-computing v g pos m (same 1)),
+      listed v _ n pos (t 4) (second-by-computing v g pos n (same 2)),
     )
 
 abbrev pub test : Row → Bool

@@ -7,12 +7,13 @@ use Prim.Native.Nat.{ℕ, _+_, _*_}
 use lib.ListN.{length, drop}
 use Rattle.zmod.specs.Zmod.{Zmod}
 use Rattle.series.specs.Series.{Seq}
-use Rattle.zmod.specs.Residues.{Reduced, poly}
+use Rattle.zmod.specs.Residues.{poly}
 use Rattle.isogeny.specs.Rules.{linear-part, first-logarithmic-part, second-logarithmic-part, R3}
 use Rattle.sheet.specs.declared.Values.{Values}
 use Rattle.sheet.specs.Word.{word}
 use Rattle.sheet.specs.Form.{certificateWords}
 use Rattle.certificate.specs.Certificate.{certificate}
+use Rattle.rules.specs.Words.{Whole}
 use Rattle.sheet.specs.Values.{question, half}
 use Rattle.promises.specs.declared.Verdict.the-variants as verdict
 use Rattle.promises.specs.declared.Written.the-variants as written
@@ -62,11 +63,9 @@ filled v g n before = certificate v g n ++ drop (count v) before
 
 -- ── what a row says, for every buffer that is large enough where one is lent
 
--- the count coefficients of a, each below p, and there are no others
-pub record Listed (p : ℕ) (a : Seq (Zmod p)) (count : ℕ) (xs : List ℕ) : Type 0 where
-  pub all : length xs ≡ count
-  pub reduced : Reduced p xs
-  pub same : poly p xs ≡ a
+-- all 2d + 2 coefficients that N has room for, each below p, and a has no others
+abbrev pub Listed : (v : Values) → Seq (Zmod (v .p)) → List ℕ → Type 0
+Listed v a xs = (length xs ≡ 2 * half v + 2) × Whole (v .p) a xs
 
 unfoldable pub Claim : Row → Type 0
 Claim (solves v g n) =
@@ -80,6 +79,6 @@ Claim (refused v g n k) = CheckRight (certificate v g n) (verdict.Refused k)
 Claim (refused-though v g n k) =
     CheckRight (certificate v g n) (verdict.Refused k) × R3 (Zmod (v .p)) (question v) (poly (v .p) g) (poly (v .p) n)
 Claim (parts v g l m n) =
-    Listed (v .p) (linear-part (Zmod (v .p)) (question v) (poly (v .p) g)) (2 * half v + 2) l
-    × Listed (v .p) (first-logarithmic-part (Zmod (v .p)) (question v) (poly (v .p) g)) (2 * half v + 2) m
-    × Listed (v .p) (second-logarithmic-part (Zmod (v .p)) (question v) (poly (v .p) g)) (2 * half v + 2) n
+    Listed v (linear-part (Zmod (v .p)) (question v) (poly (v .p) g)) l
+    × Listed v (first-logarithmic-part (Zmod (v .p)) (question v) (poly (v .p) g)) m
+    × Listed v (second-logarithmic-part (Zmod (v .p)) (question v) (poly (v .p) g)) n

@@ -15,14 +15,24 @@ use Rattle.marked.specs.Row.Row.{solves, unsolved, pushes, kernel, no-ke
 use Rattle.marked.specs.Holds.{test, row-holds}
 
 -- the first marked question, over 1009: g = x − 23, N = x³ + 963x² + 678x + 949
-abbrev first : Values
+abbrev pub first : Values
 first = Q 1009 1 3 265 877 3 46
 
-abbrev first-g : List ℕ
+abbrev pub first-g : List ℕ
 first-g = 986 ∷ 1 ∷ []
 
 abbrev first-n : List ℕ
 first-n = 949 ∷ 678 ∷ 963 ∷ 1 ∷ []
+
+-- the three parts of this N, as document 02 has them in E5
+abbrev pub part₁ : List ℕ
+part₁ = 891 ∷ 676 ∷ 825 ∷ 3 ∷ []
+
+abbrev pub part₂ : List ℕ
+part₂ = 46 ∷ 1007 ∷ 138 ∷ 1003 ∷ []
+
+abbrev pub part₃ : List ℕ
+part₃ = 12 ∷ 4 ∷ 0 ∷ 4 ∷ []
 
 -- the one of degree 9: g = x⁴ + 2x² + 12x + 336, and N is R2's
 abbrev ninth : Values
@@ -63,7 +73,7 @@ rows =
     -- g = x with R2's N, to a wrong codomain
     ∷ refused (Q 11 0 1 0 7 3 0) x x³+4 10
     -- document 02, E5: the parts of the first one's N
-    ∷ parts first first-g (891 ∷ 676 ∷ 825 ∷ 3 ∷ []) (46 ∷ 1007 ∷ 138 ∷ 1003 ∷ []) (12 ∷ 4 ∷ 0 ∷ 4 ∷ [])
+    ∷ parts first first-g part₁ part₂ part₃
     ∷ []
 
 -- a property of every row
@@ -82,3 +92,7 @@ all-hold (r ∷ rs) t = (row-holds r (both-left (test r) (tests rs) t), all-hold
 pub all-marked : All Claim rows
 unfolding rows
 all-marked = all-hold rows tt
+
+-- its last row by itself
+pub first-parts : Claim (parts first first-g part₁ part₂ part₃)
+first-parts = row-holds (parts first first-g part₁ part₂ part₃) tt

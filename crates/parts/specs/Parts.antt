@@ -1,7 +1,7 @@
--- The parts of N in three lists, and document 01's first marked sheet, for which they are printed.
+-- The parts of N in three lists, and what is printed of them for document 01's first marked sheet: the numbers that `marked` has in its table.
 -- Assumes nothing.
 use mathlib.Core.Path.{_≡_, refl, sym, _∙_, ap}
-use mathlib.Core.List.{List, [], _∷_}
+use mathlib.Core.List.{List}
 use Prim.Native.Nat.{ℕ, zero, suc, _<_}
 use lib.Dec.{lit<, lit≤}
 use lib.ListN.{length, getD}
@@ -14,6 +14,12 @@ use Rattle.sheet.specs.declared.Values.{Values}
 use Rattle.sheet.specs.Values.{question}
 use Rattle.sheet.specs.Ready.{Ready, HoldsG}
 use Rattle.text.specs.Text.{hexLines}
+use Rattle.marked.specs.Row.{Claim, Listed}
+use Rattle.marked.specs.Table.{first, first-g, part₁, part₂, part₃, first-parts}
+
+-- what is printed: a line for each coefficient of each part
+abbrev pub PartsText : List ℕ → List ℕ → List ℕ → Type 0
+PartsText a b c = (a ≡ hexLines part₁) × (b ≡ hexLines part₂) × (c ≡ hexLines part₃)
 
 -- the residues of the first coefficients of each, as many as its list is long
 pub record Parts (v : Values) (g : Seq (Zmod (v .p))) (l m n : List ℕ) : Type 0 where
@@ -21,47 +27,34 @@ pub record Parts (v : Values) (g : Seq (Zmod (v .p))) (l m n : List ℕ) : Type 
   pub first : Residues (v .p) (first-logarithmic-part (Zmod (v .p)) (question v) g) m
   pub second : Residues (v .p) (second-logarithmic-part (Zmod (v .p)) (question v) g) n
 
--- (1, 3) to (265, 877) over 1009, ℓ = 3, σ = 46, and g = x − 23
-abbrev pub marked : Values
-marked = record { p = 1009; a = 1; b = 3; atilde = 265; btilde = 877; degree = 3; sigma = 46 }
-
-abbrev pub marked-g : List ℕ
-marked-g = 986 ∷ 1 ∷ []
-
--- what is printed: a line for each of the four coefficients of each part
-pub record PartsText (linear first second : List ℕ) : Type 0 where
-  pub l : List ℕ
-  pub m : List ℕ
-  pub n : List ℕ
-  pub parts : Parts marked (poly (marked .p) marked-g) l m n
-  pub four : (length l ≡ 4) × (length m ≡ 4) × (length n ≡ 4)
-  pub lines : (linear ≡ hexLines l) × (first ≡ hexLines m) × (second ≡ hexLines n)
-
--- it is one
-pub parts-text-unique : (a b c a′ b′ c′ : List ℕ) → PartsText a b c → PartsText a′ b′ c′ → (a ≡ a′) × (b ≡ b′) × (c ≡ c′)
-parts-text-unique a b c a′ b′ c′ h k = (
-  alike _ (h .parts .linear) (k .parts .linear) (h .four .0) (k .four .0) (h .lines .0) (k .lines .0),
-  alike _ (h .parts .first) (k .parts .first) (h .four .1) (k .four .1) (h .lines .1) (k .lines .1),
-  alike _ (h .parts .second) (k .parts .second) (h .four .2) (k .four .2) (h .lines .2) (k .lines .2),
+-- Of the marked sheet these are the marked lists.
+pub parts-are : (l m n : List ℕ) → (length l ≡ 4) × (length m ≡ 4) × (length n ≡ 4) → Parts first (poly (first .p) first-g) l m n
+    → (l ≡ part₁) × (m ≡ part₂) × (n ≡ part₃)
+unfolding Claim
+parts-are l m n four h = (
+  alike (first-parts .0) (four .0) (h .linear),
+  alike (first-parts .1) (four .1) (h .first),
+  alike (first-parts .2) (four .2) (h .second),
 )
   where
-    alike : {l m s t : List ℕ} (a : Seq (Zmod 1009)) → Residues 1009 a l → Residues 1009 a m → length l ≡ 4 → length m ≡ 4 → s ≡ hexLines l → t ≡ hexLines m
-        → s ≡ t
-    alike a hl hm four four′ e e′ = e ∙ ap hexLines (residues-unique (four ∙ sym four′) hl hm) ∙ sym e′
+    alike : {a : Seq (Zmod 1009)} {xs ys : List ℕ} → Listed first a ys → length xs ≡ 4 → Residues 1009 a xs → xs ≡ ys
+    alike listed four residues =
+        residues-unique (four ∙ sym (listed .0)) residues
+        (record { reduced = listed .1 .reduced; coefficients = λ i l. ap (λ s. s i) (listed .1 .same) })
 
 -- ── what the functions of `rules` ask of the sheet
 
-pub marked-ready : Ready marked
-marked-ready = record {
+pub first-ready : Ready first
+first-ready = record {
   prime = record { prime = prime-yes 1009 tt; least = lit≤ tt; most = lit< tt };
   degree = record { odd = refl; least = lit≤ tt; most = lit≤ tt; small = lit< tt };
   below = record { a = lit< tt; b = lit< tt; atilde = lit< tt; btilde = lit< tt; sigma = lit< tt };
 }
 
-pub marked-holds : HoldsG marked marked-g
-marked-holds = record { count = refl; reduced = below }
+pub first-holds : HoldsG first first-g
+first-holds = record { count = refl; reduced = below }
   where
-    below : (i : ℕ) → getD marked-g i 0 < 1009
+    below : (i : ℕ) → getD first-g i 0 < 1009
     below zero = lit< tt
     below (suc zero) = lit< tt
     below (suc (suc i)) = lit< tt

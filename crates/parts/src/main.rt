@@ -1,5 +1,6 @@
 // Prints the parts of N for document 01's first marked sheet, as `rules` works them out: the case of E5 in document 02. A line of eight hexadecimal digits
-// for each coefficient, the constant term first: four lines for each part, in the order of source document 001's formula (13).
+// for each coefficient, the constant term first: four lines for each part, in the order of source document 001's formula (13). That they are document
+// 02's numbers is proved, and the output is compared with them.
 ghost use mathlib.Core.Path.{_≡_};
 ghost use lib.ListN.{length};
 ghost use Rattle.series.specs.Series.{Seq};
@@ -45,7 +46,7 @@ fn lines(part: &[u32]) -> [u8; 36]
     text
 }
 
-// The one place that prints. What it asks has `main` proved to hand over nothing but the lines of the three parts, in this order.
+// The one place that prints. What it asks has `main` proved to hand over nothing but the lines of the marked parts, in this order.
 fn print(linear: &[u8], first: &[u8], second: &[u8])
     requires { ⌜ PartsText (now linear) (now first) (now second) ⌝ }
 {

@@ -1,7 +1,8 @@
 -- `parts::main` meets its contract. Assumes nothing.
-use mathlib.Core.Path.{refl}
+use mathlib.Core.Path.{refl, _∙_, ap}
 use borrow.Author.Needs.{needs}
-use Rattle.parts.specs.Parts.{marked-ready, marked-holds}
+use Rattle.text.specs.Text.{hexLines}
+use Rattle.parts.specs.Parts.{parts-are, first-ready, first-holds}
 use Rattle.parts.proofs.main.Statement.{statement}
 use Rattle.parts.proofs.main.Tie as tie
 
@@ -37,7 +38,7 @@ slice-aggregate-products-4 : tie.Need-slice-aggregate-products-4
 slice-aggregate-products-4 c = search needs
 
 products-requires : tie.Need-products-requires
-products-requires c κs = ((marked-ready, marked-holds), (refl, refl, refl))
+products-requires c κs = ((first-ready, first-holds), (refl, refl, refl))
 
 slice-aggregate-fill : tie.Need-slice-aggregate-fill
 slice-aggregate-fill c = search needs
@@ -60,7 +61,7 @@ slice-aggregate-fill-6 c = search needs
 fill-requires : tie.Need-fill-requires
 fill-requires c κs =
     let hold = formed c .products .ensures in
-    ((marked-ready, hold .square-is .reduced, hold .slope-is .reduced, hold .bend-is .reduced), (refl, refl))
+    ((first-ready, hold .square-is .reduced, hold .slope-is .reduced, hold .bend-is .reduced), (refl, refl))
 
 slice-aggregate-lines : tie.Need-slice-aggregate-lines
 slice-aggregate-lines c = search needs
@@ -95,14 +96,12 @@ print-requires c κs =
     let two = second-lines three in
     let one = first-lines two in
     let after = filled one in
-    record {
-      l = _;
-      m = _;
-      n = _;
-      parts = after .fill .ensures _ (formed (after .before) .products .ensures);
-      four = (after .fill .kept .1 .1 .1 .1 .0, after .fill .kept .1 .1 .1 .1 .1 .0, after .fill .kept .1 .1 .1 .1 .1 .1 .0);
-      lines = (one .lines .ensures, two .lines2 .ensures, three .lines3 .ensures);
-    }
+    let call = after .fill in
+    let are =
+    parts-are _ _ _ (call .kept .1 .1 .1 .1 .0, call .kept .1 .1 .1 .1 .1 .0, call .kept .1 .1 .1 .1 .1 .1 .0)
+    (call .ensures _ (formed (after .before) .products .ensures))
+    in
+    (one .lines .ensures ∙ ap hexLines (are .0), two .lines2 .ensures ∙ ap hexLines (are .1), three .lines3 .ensures ∙ ap hexLines (are .2))
 
 returns : tie.Need-returns
 returns c = search needs
