@@ -15,7 +15,8 @@ use Rattle.sheet.specs.Place.{placeOf}
 use Rattle.sheet.specs.Kinds.{below, below-mono, kind-at, kinds-rise, header-first, place-from}
 use Rattle.sheet.specs.Values.{valuesOf, half}
 use Rattle.sheet.specs.Asked.{Asked6}
-use Rattle.sheet.specs.Leaf.{Section, Sections}
+use Rattle.sheet.specs.Values.{coefficientIn}
+use Rattle.sheet.specs.Leaf.{Section, Sections, Bounds}
 use Rattle.sheet.specs.Body.{last, last-after, body-some, asked6-words, words-asked6}
 use Rattle.sheet.specs.Places.{end-place}
 
@@ -42,19 +43,25 @@ module _ (form : Form) (d p end : ℕ) (ws : List ℕ) (is-last : end ≡ last f
     own-kind : (i : ℕ) → from ≤ i → i < to → getD kinds i 0 ≡ k
     own-kind i l m = kind-at k 0 i kinds (kinds-rise form d) (omega (arith, begins-at)) (omega (arith, to-is))
 
-    pub more : Section ws from to k p → Sections form d to end p ws → Sections form d from end p ws
-    unfolding Section Sections
-    more here later i l m = go (decLt i to)
-      where
-        go : Dec (i < to) → (kindOf (getD ws i 0) ≡ getD kinds i 0) × (valueOf (getD ws i 0) < p)
-        go (yes n) = (here i l n .0 ∙ sym (own-kind i l n), here i l n .1)
-        go (no n) = later i (omega arith) m
+    module _ (bound : ℕ) (bounds : Bounds form p bound) where
+      -- a coefficient is below p exactly if its value is below the bound
+      word-bound : (w : ℕ) → (valueOf w < bound) ↔ (coefficientIn form p w < p)
+      unfolding Bounds
+      word-bound w = bounds (valueOf w) (omega arith)
 
-    pub part : 8 ≤ k → Sections form d (length (header form)) end p ws → Section ws from to k p
-    unfolding Section Sections
-    part l all i m n =
-        let h = all i (omega (arith, begins-at, header-first form d, below-mono 8 k kinds l)) (omega (arith, before-end)) in
-        (h .0 ∙ own-kind i m n, h .1)
+      pub more : Section ws from to k bound → Sections form d to end p ws → Sections form d from end p ws
+      unfolding Section Sections
+      more here later i l m = go (decLt i to)
+        where
+          go : Dec (i < to) → (kindOf (getD ws i 0) ≡ getD kinds i 0) × (coefficientIn form p (getD ws i 0) < p)
+          go (yes n) = (here i l n .0 ∙ sym (own-kind i l n), word-bound (getD ws i 0) .0 (here i l n .1))
+          go (no n) = later i (omega arith) m
+
+      pub part : 8 ≤ k → Sections form d (length (header form)) end p ws → Section ws from to k bound
+      unfolding Section Sections
+      part l all i m n =
+          let h = all i (omega (arith, begins-at, header-first form d, below-mono 8 k kinds l)) (omega (arith, before-end)) in
+          (h .0 ∙ own-kind i m n, word-bound (getD ws i 0) .1 (h .1))
 
   -- down to the header
   pub all-down : (k to : ℕ) → k ≡ 8 → to ≡ below k kinds → Sections form d to end p ws → Sections form d (length (header form)) end p ws

@@ -5,41 +5,40 @@ use mathlib.Core.List.{List, map}
 use Prim.Native.Nat.{ℕ, _+_, _*_, _<_, _≤_}
 use native.Mathlib.Decide.{decLt}
 use native.Mathlib.Omega.{arith}
-use lib.ListN.{length, getD, take, drop, length-take, length-drop, length-map, List·getD-map, List·getD-eq-default}
+use lib.ListN.{length, getD, take, drop, length-drop, length-map, List·getD-eq-default}
 use lib.Seq.{getD-take, getD-drop, length-take-le}
 use Rattle.zmod.specs.Residues.{Reduced}
 use Rattle.questions.specs.Questions.{AllYes}
 use Rattle.questions.specs.Numbered.{yes-to}
 use Rattle.sheet.specs.declared.Form.{Form}
 use Rattle.sheet.specs.declared.Form.the-variants.{Question, Certificate, Kernel}
-use Rattle.sheet.specs.Word.{valueOf}
 use Rattle.sheet.specs.Form.{header, kindsOf, certificateWords}
-use Rattle.sheet.specs.Values.{valuesOf, half, gOf, nOf}
+use Rattle.sheet.specs.Values.{valuesOf, half, coefficientIn, gOf, nOf}
 use Rattle.sheet.specs.Asked.{asked}
 use Rattle.sheet.specs.Ready.{HoldsG, HoldsN}
 use Rattle.sheet.specs.Body.{kinds-length, certificate-words, kernel-words}
+use Rattle.sheet.specs.Reduction.{coefficient-at}
 
 -- ── a part of the words
 
-module _ (ws : List ℕ) (from count : ℕ) (room : from + count ≤ length ws) where
-  pub part-length : length (map valueOf (take count (drop from ws))) ≡ count
-  part-length = length-map (take count (drop from ws)) valueOf ∙ length-take-le count (drop from ws) (omega (arith, length-drop from ws))
+module _ (form : Form) (p : ℕ) (ws : List ℕ) (from count : ℕ) (room : from + count ≤ length ws) where
+  abbrev read : List ℕ
+  read = map (coefficientIn form p) (take count (drop from ws))
 
-  -- values below p
-  pub part-reduced : (p : ℕ) → 0 < p → ((i : ℕ) → from ≤ i → i < from + count → valueOf (getD ws i 0) < p)
-      → Reduced p (map valueOf (take count (drop from ws)))
-  part-reduced p pos small i = go (decLt i count)
+  pub part-length : length read ≡ count
+  part-length = length-map (take count (drop from ws)) (coefficientIn form p) ∙ length-take-le count (drop from ws) (omega (arith, length-drop from ws))
+
+  -- coefficients below p
+  pub part-reduced : 0 < p → ((i : ℕ) → from ≤ i → i < from + count → coefficientIn form p (getD ws i 0) < p) → Reduced p read
+  part-reduced pos small i = go (decLt i count)
     where
-      go : Dec (i < count) → getD (map valueOf (take count (drop from ws))) i 0 < p
+      go : Dec (i < count) → getD read i 0 < p
       go (yes l) =
-          let e : getD (map valueOf (take count (drop from ws))) i 0 ≡ valueOf (getD ws (from + i) 0) =
-          List·getD-map valueOf (take count (drop from ws)) i 0 ∙ ap valueOf (getD-take count (drop from ws) i 0 l ∙ getD-drop from ws i 0) in
+          let e : getD read i 0 ≡ coefficientIn form p (getD ws (from + i) 0) =
+          coefficient-at form p (take count (drop from ws)) i
+          ∙ ap (coefficientIn form p) (getD-take count (drop from ws) i 0 l ∙ getD-drop from ws i 0) in
           omega (arith, e, small (from + i) (omega arith) (omega arith))
-      go (no l) =
-          let z : getD (map valueOf (take count (drop from ws))) i 0 ≡ 0 =
-          List·getD-eq-default (map valueOf (take count (drop from ws))) 0
-          (omega (arith, length-map (take count (drop from ws)) valueOf, length-take count (drop from ws))) in
-          omega arith
+      go (no l) = let z : getD read i 0 ≡ 0 = List·getD-eq-default read 0 (omega (arith, part-length)) in omega arith
 
 -- ── an accepted sheet
 
@@ -52,9 +51,9 @@ module _ (form : Form) (ws : List ℕ) (all : AllYes (asked form ws)) where
 
   -- a section that ends before the end
   reduced-section : (from count : ℕ) → length (header form) ≤ from → from + count < length ws
-      → Reduced (valuesOf form ws .p) (map valueOf (take count (drop from ws)))
+      → Reduced (valuesOf form ws .p) (map (coefficientIn form (valuesOf form ws .p)) (take count (drop from ws)))
   reduced-section from count l m =
-      part-reduced ws from count (omega arith) (valuesOf form ws .p) (omega (arith, yes-to (asked form ws) 3 all .least)) (λ i a b.
+      part-reduced form (valuesOf form ws .p) ws from count (omega arith) (omega (arith, yes-to (asked form ws) 3 all .least)) (λ i a b.
       yes-to (asked form ws) 6 all .below i (omega arith) (omega arith))
 
 module _ (ws : List ℕ) (all : AllYes (asked Certificate ws)) where
@@ -65,13 +64,13 @@ module _ (ws : List ℕ) (all : AllYes (asked Certificate ws)) where
   certificate-length = words-count Certificate ws all ∙ certificate-words e
 
   certificate-g-length : length (gOf Certificate ws) ≡ e + 1
-  certificate-g-length = part-length ws 7 (e + 1) (omega (arith, certificate-length))
+  certificate-g-length = part-length Certificate (valuesOf Certificate ws .p) ws 7 (e + 1) (omega (arith, certificate-length))
 
   certificate-g-reduced : Reduced (valuesOf Certificate ws .p) (gOf Certificate ws)
   certificate-g-reduced = reduced-section Certificate ws all 7 (e + 1) (omega arith) (omega (arith, certificate-length))
 
   certificate-n-length : length (nOf Certificate ws) ≡ 2 * e + 2
-  certificate-n-length = part-length ws (7 + (e + 1)) (2 * e + 2) (omega (arith, certificate-length))
+  certificate-n-length = part-length Certificate (valuesOf Certificate ws .p) ws (7 + (e + 1)) (2 * e + 2) (omega (arith, certificate-length))
 
   certificate-n-reduced : Reduced (valuesOf Certificate ws .p) (nOf Certificate ws)
   certificate-n-reduced = reduced-section Certificate ws all (7 + (e + 1)) (2 * e + 2) (omega arith) (omega (arith, certificate-length))
@@ -91,7 +90,7 @@ module _ (ws : List ℕ) (all : AllYes (asked Kernel ws)) where
   kernel-length = words-count Kernel ws all ∙ kernel-words k
 
   kernel-g-length : length (gOf Kernel ws) ≡ k + 1
-  kernel-g-length = part-length ws 4 (k + 1) (omega (arith, kernel-length))
+  kernel-g-length = part-length Kernel (valuesOf Kernel ws .p) ws 4 (k + 1) (omega (arith, kernel-length))
 
   kernel-g-reduced : Reduced (valuesOf Kernel ws .p) (gOf Kernel ws)
   kernel-g-reduced = reduced-section Kernel ws all 4 (k + 1) (omega arith) (omega (arith, kernel-length))

@@ -1,4 +1,5 @@
--- Document 01's questions 2 to 7. Those about values are asked of the values, 2 and 6 of the words.
+-- Document 01's questions 2 to 7. Those about values are asked of the values as they are read, 2 and 6 of the words. Values that are taken modulo p are
+-- below it, so on a question or a kernel sheet 5 says nothing, and 6 nothing of the size of g's coefficients (`Reduction`).
 -- Assumes nothing.
 use mathlib.Core.Path.{_≡_}
 use mathlib.Core.Bool.{true}
@@ -13,7 +14,7 @@ use Rattle.sheet.specs.declared.Form.{Form}
 use Rattle.sheet.specs.declared.Values.{Values}
 use Rattle.sheet.specs.Word.{kindOf, valueOf}
 use Rattle.sheet.specs.Form.{header, body, holds}
-use Rattle.sheet.specs.Values.{valuesOf, half}
+use Rattle.sheet.specs.Values.{valuesOf, half, coefficientIn}
 
 -- 2: each word of the header is there, and of its kind
 unfoldable pub Asked2 : Form → List ℕ → Type 0
@@ -43,7 +44,7 @@ pub record ValuesBelow (v : Values) : Type 0 where
 -- 6: the words after the header are those of the form, with values below p up to the end, whose value is 0
 pub record Asked6 (form : Form) (ws : List ℕ) : Type 0 where
   pub kinds : map kindOf (drop (length (header form)) ws) ≡ body form (half (valuesOf form ws))
-  pub below : (i : ℕ) → length (header form) ≤ i → i + 1 < length ws → valueOf (getD ws i 0) < valuesOf form ws .p
+  pub below : (i : ℕ) → length (header form) ≤ i → i + 1 < length ws → coefficientIn form (valuesOf form ws .p) (getD ws i 0) < valuesOf form ws .p
   pub end : valueOf (getD ws (length ws - 1) 0) ≡ 0
 
 -- 7: the domain is a curve, and so is the codomain, if the header has it

@@ -2,7 +2,7 @@
 -- those of p, A, B, Ã, B̃, ℓ and σ, 8 and 9 those of g's and N's coefficients, 15 is the end's.
 -- Assumes nothing.
 use mathlib.Core.List.{List, [], _∷_, _++_}
-use Prim.Native.Nat.{ℕ, suc, _+_, _*_}
+use Prim.Native.Nat.{ℕ, suc, _+_, _*_, _%_}
 use lib.Dec.{eqb}
 use lib.ListN.{getD, replicate}
 use mathlib.Core.Bool.{Bool, true, false, cond}
@@ -51,6 +51,13 @@ abbrev pub holds : ℕ → List ℕ → Bool
 holds k [] = false
 holds k (j ∷ js) = cond (eqb k j) true (holds k js)
 
--- the value of the header's word of a kind; 0 where the form has no such word, or the sheet ends before it
+-- what a value x on a sheet over p is read as, p and ℓ apart: a certificate has it as it stands, on a question or a kernel sheet it is taken modulo p
+-- (document 02, E2)
+abbrev pub valueIn : Form → ℕ → ℕ → ℕ
+valueIn Question p x = x % p
+valueIn Certificate p x = x
+valueIn Kernel p x = x % p
+
+-- the number in the header's word of a kind; 0 where the form has no such word, or the sheet ends before it
 abbrev pub entry : Form → ℕ → List ℕ → ℕ
 entry form k ws = cond (holds k (header form)) (valueOf (getD ws (position k (header form)) 0)) 0

@@ -4,6 +4,7 @@ pub mod Place
 pub mod Table
 pub mod Kinds
 pub mod Values
+pub mod Reduction
 pub mod Asked
 pub mod Ready
 pub mod Reading

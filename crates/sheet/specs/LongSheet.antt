@@ -1,7 +1,7 @@
 -- A sheet longer than any lawful one gets its answer from its front: questions 2 to 5 look at seven words at most, and 6 is answered with no for the
 -- front as for the whole, as long as the front is longer than the largest certificate.
 -- Assumes nothing.
-use mathlib.Core.Path.{_≡_, refl, sym, _∙_, ap, subst}
+use mathlib.Core.Path.{_≡_, refl, sym, _∙_, ap, ap₂, subst}
 use mathlib.Core.Logic.{_↔_}
 use mathlib.Core.Bool.{Bool, true, false, cond}
 use mathlib.Core.List.{List, map}
@@ -16,7 +16,7 @@ use Rattle.questions.specs.Alike.{Alike, alike-no, alike-yes, alike-sym}
 use Rattle.sheet.specs.declared.Form.{Form}
 use Rattle.sheet.specs.declared.Values.{Values}
 use Rattle.sheet.specs.Word.{kindOf, valueOf}
-use Rattle.sheet.specs.Form.{header, entry, holds, position, mostWords}
+use Rattle.sheet.specs.Form.{header, entry, valueIn, holds, position, mostWords}
 use Rattle.sheet.specs.Values.{valuesOf, half}
 use Rattle.sheet.specs.Asked.{Asked2, Asked6, PrimeAllowed, DegreeAllowed, ValuesBelow, Curves, asked}
 use Rattle.sheet.specs.Fields.{same}
@@ -42,7 +42,10 @@ module _ (form : Form) (ws : List ℕ) (n : ℕ) (long : mostWords < n) where
       go false e = refl
 
   pub values-front : valuesOf form (take n ws) ≡ valuesOf form ws
-  values-front = same (entry-front 1) (entry-front 2) (entry-front 3) (entry-front 4) (entry-front 5) (entry-front 6) (entry-front 7)
+  values-front =
+      let read : (k : ℕ) → valueIn form (entry form 1 (take n ws)) (entry form k (take n ws)) ≡ valueIn form (entry form 1 ws) (entry form k ws) =
+      λ k. ap₂ (valueIn form) (entry-front 1) (entry-front k) in
+      same (entry-front 1) (read 2) (read 3) (read 4) (read 5) (entry-front 6) (read 7)
 
   -- what is asked of the values
   to : (P : Values → Type 0) → P (valuesOf form (take n ws)) → P (valuesOf form ws)

@@ -1,4 +1,4 @@
--- What a sheet says: its values, the question that they put over ℤ/p, and the coefficients of g and N.
+-- What a sheet says: its values, the question that they put over ℤ/p, and the coefficients of g and N. All but p and ℓ are read by the form (`valueIn`).
 -- Assumes nothing.
 use mathlib.Core.List.{List, map}
 use Prim.Native.Nat.{ℕ, _+_, _*_, _-_, _/_}
@@ -8,18 +8,18 @@ use Rattle.isogeny.specs.Rules.{Question}
 use Rattle.sheet.specs.declared.Form.{Form}
 use Rattle.sheet.specs.declared.Values.{Values}
 use Rattle.sheet.specs.Word.{valueOf}
-use Rattle.sheet.specs.Form.{header, entry}
+use Rattle.sheet.specs.Form.{header, entry, valueIn}
 
 -- the values in the header, 0 where the form has no such word
 abbrev pub valuesOf : Form → List ℕ → Values
 valuesOf form ws = record {
   p = entry form 1 ws;
-  a = entry form 2 ws;
-  b = entry form 3 ws;
-  atilde = entry form 4 ws;
-  btilde = entry form 5 ws;
+  a = valueIn form (entry form 1 ws) (entry form 2 ws);
+  b = valueIn form (entry form 1 ws) (entry form 3 ws);
+  atilde = valueIn form (entry form 1 ws) (entry form 4 ws);
+  btilde = valueIn form (entry form 1 ws) (entry form 5 ws);
   degree = entry form 6 ws;
-  sigma = entry form 7 ws;
+  sigma = valueIn form (entry form 1 ws) (entry form 7 ws);
 }
 
 -- d = (ℓ − 1)/2
@@ -37,9 +37,14 @@ question v = record {
   σ = mk (v .p) (v .sigma);
 }
 
+-- the value of a word with a coefficient, on a sheet over p
+abbrev pub coefficientIn : Form → ℕ → ℕ → ℕ
+coefficientIn form p w = valueIn form p (valueOf w)
+
 -- the values of the coefficients of g, and of N
 abbrev pub gOf : Form → List ℕ → List ℕ
-gOf form ws = map valueOf (take (half (valuesOf form ws) + 1) (drop (length (header form)) ws))
+gOf form ws = map (coefficientIn form (entry form 1 ws)) (take (half (valuesOf form ws) + 1) (drop (length (header form)) ws))
 
 abbrev pub nOf : Form → List ℕ → List ℕ
-nOf form ws = map valueOf (take (2 * half (valuesOf form ws) + 2) (drop (length (header form) + (half (valuesOf form ws) + 1)) ws))
+nOf form ws =
+    map (coefficientIn form (entry form 1 ws)) (take (2 * half (valuesOf form ws) + 2) (drop (length (header form) + (half (valuesOf form ws) + 1)) ws))

@@ -9,12 +9,12 @@ ghost use Rattle.zmod.specs.Zmod.{Zmod, mk};
 ghost use Rattle.zmod.specs.Residues.{Residue};
 ghost use Rattle.isogeny.specs.Curve.{discriminant, Nonsingular};
 ghost use Rattle.sheet.specs.Word.{kindOf, valueOf, wordAt, wordsOf};
-ghost use Rattle.sheet.specs.Form.{header, entry};
+ghost use Rattle.sheet.specs.Form.{header, entry, valueIn};
 ghost use Rattle.sheet.specs.Place.{placeOf, columnOf, Cell};
-ghost use Rattle.sheet.specs.Values.{valuesOf, half};
+ghost use Rattle.sheet.specs.Values.{valuesOf, half, coefficientIn};
 ghost use Rattle.sheet.specs.Asked.{PrimeAllowed, DegreeAllowed, ValuesBelow, Curves, Asked2, Asked6};
 ghost use Rattle.sheet.specs.Reading.{Right};
-ghost use Rattle.sheet.specs.Leaf.{Stands, Section, Sections};
+ghost use Rattle.sheet.specs.Leaf.{Stands, Section, Sections, Bounds};
 ghost use Rattle.sheet.specs.Body.{last};
 
 // The words of the largest certificate, that of degree 255.
@@ -113,7 +113,22 @@ pub fn value(w: u32) -> u32
     w % 268435456
 }
 
-// The value of the header's word of a kind; 0 where the form has no such word, or the sheet ends before it.
+// What a value on a sheet over p is read as. Nothing is divided where the value is below p already.
+fn value_in(form: Form, p: u32, x: u32) -> u32
+    requires { ⌜ 0 < p ⌝ }
+    ensures { λ r. ⌜ r ≡ valueIn form p x ⌝ }
+{
+    if x < p {
+        return x;
+    }
+    match form {
+        Form::Question => x % p,
+        Form::Certificate => x,
+        Form::Kernel => x % p,
+    }
+}
+
+// The number in the header's word of a kind; 0 where the form has no such word, or the sheet ends before it.
 pub fn entry_of(form: Form, kind: usize, ws: &[u32]) -> u32
     requires { ⌜ kind < 8 ⌝ }
     ensures { λ r. ⌜ (r ≡ entry form kind (now (ws .entry))) × (r < 2 ^ 28) ⌝ }
@@ -130,17 +145,27 @@ pub fn half_degree(v: Values) -> usize
     if l == 0 { 0 } else { ((l - 1) / 2) as usize }
 }
 
-pub fn values_of(form: Form, ws: &[u32]) -> Values
-    ensures { λ r. ⌜ (r ≡ valuesOf form (now (ws .entry))) × (r .p < 2 ^ 28) × (r .degree < 2 ^ 28) ⌝ }
+// The value of a kind on a sheet over p.
+fn value_of(form: Form, p: u32, kind: usize, ws: &[u32]) -> u32
+    requires { ⌜ (0 < p) × (kind < 8) ⌝ }
+    ensures { λ r. ⌜ r ≡ valueIn form p (entry form kind (now (ws .entry))) ⌝ }
+{
+    value_in(form, p, entry_of(form, kind, ws))
+}
+
+// The values of a sheet whose p and ℓ have been read.
+pub fn values_of(form: Form, p: u32, degree: u32, ws: &[u32]) -> Values
+    requires { ⌜ (0 < p) × (p ≡ entry form 1 (now ws)) × (degree ≡ entry form 6 (now ws)) ⌝ }
+    ensures { λ r. ⌜ r ≡ valuesOf form (now (ws .entry)) ⌝ }
 {
     Values {
-        p: entry_of(form, 1, ws),
-        a: entry_of(form, 2, ws),
-        b: entry_of(form, 3, ws),
-        atilde: entry_of(form, 4, ws),
-        btilde: entry_of(form, 5, ws),
-        degree: entry_of(form, 6, ws),
-        sigma: entry_of(form, 7, ws),
+        p,
+        a: value_of(form, p, 2, ws),
+        b: value_of(form, p, 3, ws),
+        atilde: value_of(form, p, 4, ws),
+        btilde: value_of(form, p, 5, ws),
+        degree,
+        sigma: value_of(form, p, 7, ws),
     }
 }
 
@@ -219,34 +244,47 @@ pub fn values_below(v: Values) -> bool
     v.sigma < v.p
 }
 
-// Whether the words from `from` up to `to` are of kind k, with values below p.
-fn section(ws: &[u32], from: usize, to: usize, k: usize, p: u32) -> bool
+// Question 6 lets a coefficient pass if its value is below this.
+fn coefficient_bound(form: Form, p: u32) -> u32
+    requires { ⌜ 0 < p ⌝ }
+    ensures { λ r. ⌜ Bounds form p r ⌝ }
+{
+    match form {
+        Form::Question => 268435456,
+        Form::Certificate => p,
+        Form::Kernel => 268435456,
+    }
+}
+
+// Whether the words from `from` up to `to` are of kind k, with values below the bound.
+fn section(ws: &[u32], from: usize, to: usize, k: usize, bound: u32) -> bool
     requires { ⌜ to ≤ length (now ws) ⌝ }
-    ensures { λ r. ⌜ (r ≡ true) ↔ Section (now (ws .entry)) from to k p ⌝ }
+    ensures { λ r. ⌜ (r ≡ true) ↔ Section (now (ws .entry)) from to k bound ⌝ }
 {
     for i in from..to {
         if kind(ws[i]) != k {
             return false;
         }
-        if p <= value(ws[i]) {
+        if bound <= value(ws[i]) {
             return false;
         }
     }
     true
 }
 
-// Whether the words between the header and the end are of their kinds, with values below p. From the end down, each kind's words stand before those of
-// the next kind that the form has.
+// Whether the words between the header and the end are of their kinds, with coefficients below p. From the end down, each kind's words stand before those
+// of the next kind that the form has.
 fn sections(form: Form, ws: &[u32], d: usize, end: usize, p: u32) -> bool
-    requires { ⌜ (d ≤ 2 ^ 28) × (end ≡ last form d) × (end < length (now ws)) ⌝ }
+    requires { ⌜ (d ≤ 2 ^ 28) × (end ≡ last form d) × (end < length (now ws)) × (0 < p) ⌝ }
     ensures { λ r. ⌜ (r ≡ true) ↔ Sections form d (length (header form)) end p (now (ws .entry)) ⌝ }
 {
+    let bound = coefficient_bound(form, p);
     let mut to = end;
     let mut k = 15;
     while 8 < k {
         k -= 1;
         let from = place(form, k, d, to);
-        if !section(ws, from, to, k, p) {
+        if !section(ws, from, to, k, bound) {
             return false;
         }
         to = from;
@@ -256,7 +294,7 @@ fn sections(form: Form, ws: &[u32], d: usize, end: usize, p: u32) -> bool
 
 // Question 6.
 fn exact(form: Form, v: Values, ws: &[u32]) -> bool
-    requires { ⌜ (v ≡ valuesOf form (now ws)) × (v .degree < 2 ^ 28) ⌝ }
+    requires { ⌜ (v ≡ valuesOf form (now ws)) × (v .degree < 2 ^ 28) × (0 < v .p) ⌝ }
     ensures { λ r. ⌜ (r ≡ true) ↔ Asked6 form (now (ws .entry)) ⌝ }
 {
     let d = half_degree(v);
@@ -312,13 +350,15 @@ pub fn read(form: Form, ws: &[u32]) -> Reading
     if !headed(form, ws) {
         return Reading::Refused(2);
     }
-    let v = values_of(form, ws);
-    if !prime_allowed(v.p) {
+    let p = entry_of(form, 1, ws);
+    if !prime_allowed(p) {
         return Reading::Refused(3);
     }
-    if !degree_allowed(v.degree, v.p) {
+    let degree = entry_of(form, 6, ws);
+    if !degree_allowed(degree, p) {
         return Reading::Refused(4);
     }
+    let v = values_of(form, p, degree, ws);
     if !values_below(v) {
         return Reading::Refused(5);
     }
@@ -331,33 +371,33 @@ pub fn read(form: Form, ws: &[u32]) -> Reading
     Reading::Accepted(v)
 }
 
-// The values of the words from `from` on, as many as `out` has room for.
-fn coefficients(ws: &[u32], from: usize, out: &mut [u32])
-    requires { ⌜ from + length (now out) ≤ length (now ws) ⌝ }
-    ensures { λ _. ⌜ now (out .exit) ≡ map valueOf (take (length (now (out .entry))) (drop from (now (ws .entry)))) ⌝ }
+// The coefficients in the words from `from` on of a sheet over p, as many as `out` has room for.
+fn coefficients(form: Form, p: u32, ws: &[u32], from: usize, out: &mut [u32])
+    requires { ⌜ (0 < p) × (from + length (now out) ≤ length (now ws)) ⌝ }
+    ensures { λ _. ⌜ now (out .exit) ≡ map (coefficientIn form p) (take (length (now (out .entry))) (drop from (now (ws .entry)))) ⌝ }
 {
     for i in 0..out.len() {
-        out[i] = value(ws[from + i]);
+        out[i] = value_in(form, p, value(ws[from + i]));
     }
 }
 
-// The coefficients of g on a sheet of degree 2 d + 1, as many as `out` has room for.
-pub fn g_coefficients(form: Form, ws: &[u32], d: usize, out: &mut [u32])
-    requires { ⌜ (d ≤ 2 ^ 28) × (length (header form) + length (now out) ≤ length (now ws)) ⌝ }
-    ensures { λ _. ⌜ now (out .exit) ≡ map valueOf (take (length (now (out .entry))) (drop (length (header form)) (now (ws .entry)))) ⌝ }
+// The coefficients of g on a sheet over p of degree 2 d + 1, as many as `out` has room for.
+pub fn g_coefficients(form: Form, p: u32, ws: &[u32], d: usize, out: &mut [u32])
+    requires { ⌜ (0 < p) × (d ≤ 2 ^ 28) × (length (header form) + length (now out) ≤ length (now ws)) ⌝ }
+    ensures { λ _. ⌜ now (out .exit) ≡ map (coefficientIn form p) (take (length (now (out .entry))) (drop (length (header form)) (now (ws .entry)))) ⌝ }
 {
     let end = place(form, 15, d, 0);
     let from = place(form, 8, d, end);
-    coefficients(ws, from, out);
+    coefficients(form, p, ws, from, out);
 }
 
-// The coefficients of N on a certificate of degree 2 d + 1.
-pub fn n_coefficients(ws: &[u32], d: usize, out: &mut [u32])
-    requires { ⌜ (d ≤ 2 ^ 28) × (d + 8 + length (now out) ≤ length (now ws)) ⌝ }
+// The coefficients of N on a certificate over p of degree 2 d + 1.
+pub fn n_coefficients(p: u32, ws: &[u32], d: usize, out: &mut [u32])
+    requires { ⌜ (0 < p) × (d ≤ 2 ^ 28) × (d + 8 + length (now out) ≤ length (now ws)) ⌝ }
     ensures { λ _. ⌜ now (out .exit) ≡ map valueOf (take (length (now (out .entry))) (drop (d + 8) (now (ws .entry)))) ⌝ }
 {
     let from = place(Form::Certificate, 9, d, 0);
-    coefficients(ws, from, out);
+    coefficients(Form::Certificate, p, ws, from, out);
 }
 
 fn byte(x: u8) -> u32

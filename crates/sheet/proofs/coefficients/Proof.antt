@@ -1,29 +1,38 @@
--- `sheet::coefficients` meets its contract. The invariant: the words before i are the values.
+-- `sheet::coefficients` meets its contract. The invariant: the words before i are the coefficients.
 -- Assumes nothing.
 use borrow.Author.Needs.{needs}
-use mathlib.Core.Path.{_≡_, sym, ap, _∙_}
-use Prim.Native.Nat.{_+_, _-_, _≤_}
+use mathlib.Core.Path.{_≡_, ap, _∙_}
+use Prim.Native.Nat.{ℕ, _+_, _-_, _≤_}
 use native.Mathlib.Omega.{arith}
 use lib.ListN.{length, getD, length-set}
 use Rattle.slices.specs.Filling.{Filled, filled-none, filled-more}
-use Rattle.sheet.specs.Word.{valueOf}
-use Rattle.sheet.proofs.Copies.{values-filled}
+use Rattle.sheet.specs.Form.{valueIn}
+use Rattle.sheet.specs.Values.{coefficientIn}
+use Rattle.sheet.proofs.Copies.{coefficients-filled}
 use Rattle.sheet.proofs.coefficients.Statement.{statement}
 use Rattle.sheet.proofs.coefficients.Tie as tie
 
 abbrev Inv-loop : tie.InvT-loop
-Inv-loop ws from out₀ i₀ i-end out i = (length out ≡ length out₀) × (i ≤ length out₀) × Filled (λ j v. v ≡ valueOf (getD ws (from + j) 0)) out i
+Inv-loop form p ws from out₀ i₀ i-end out i =
+    (length out ≡ length out₀) × (i ≤ length out₀) × Filled (λ j v. v ≡ coefficientIn form p (getD ws (from + j) 0)) out i
 
 abbrev μ-loop : tie.MeasureT-loop
-μ-loop ws from out₀ i₀ i-end out i = i-end - i
+μ-loop form p ws from out₀ i₀ i-end out i = i-end - i
+
+-- ── the places: before the loop, and at it
+
+abbrev start : tie.After-slice-known Inv-loop μ-loop → tie.Start Inv-loop μ-loop
+start c = c .before .before
+
+abbrev entered : tie.At-loop Inv-loop μ-loop → tie.Start Inv-loop μ-loop
+entered c = start (c .before)
+
+-- what word j is to be
+abbrev Right : tie.Start Inv-loop μ-loop → ℕ → ℕ → Type 0
+Right s j v = v ≡ coefficientIn (s .args .form) (s .args .p) (getD (s .args .ws .now) (s .args .from + j) 0)
 
 loop-holds : tie.Need-loop-holds Inv-loop μ-loop
-loop-holds c = (
-  search needs,
-  search needs,
-  filled-none (λ j v. v ≡ valueOf (getD (c .before .before .args .ws .now) (c .before .before .args .from + j) 0))
-      (c .before .before .args .out .now),
-)
+loop-holds c = (search needs, search needs, filled-none (Right (start c)) (start c .args .out .now))
 
 add-value : tie.Need-add-value Inv-loop μ-loop
 add-value c = search needs
@@ -36,6 +45,9 @@ shared-slice-read-value c = search needs
 
 value-requires : tie.Need-value-requires Inv-loop μ-loop
 value-requires c κs = search needs
+
+value-in-requires : tie.Need-value-in-requires Inv-loop μ-loop
+value-in-requires c κs = search needs
 
 mul-out : tie.Need-mul-out Inv-loop μ-loop
 mul-out c = search needs
@@ -51,11 +63,14 @@ loop-less c = search needs
 
 loop-again : tie.Need-loop-again Inv-loop μ-loop
 loop-again c =
-    let at = c .before .before .before .before .before .before .args in (
-      simp length-set (c .before .before .before .loop .inv .0),
+    let value = c .before in
+    let at = value .before .before .before in
+    let loop = at .loop in
+    let s = entered at in (
+      simp length-set (loop .inv .0),
       omega arith,
-      filled-more (λ j v. v ≡ valueOf (getD (at .ws .now) (at .from + j) 0)) (c .before .before .before .loop .out) (c .before .before .before .loop .i)
-          (c .value .result) (omega (arith, c .before .before .before .loop .inv .0)) (c .before .before .before .loop .inv .2) (c .value .ensures),
+      filled-more (Right s) (loop .out) (loop .i) (c .value-in .result) (omega (arith, loop .inv .0)) (loop .inv .2)
+          (c .value-in .ensures ∙ ap (valueIn (s .args .form) (s .args .p)) (value .value .ensures)),
     )
 
 same-length : tie.Need-same-length Inv-loop μ-loop
@@ -63,10 +78,11 @@ same-length c = c .before .loop .inv .0
 
 returns : tie.Need-returns Inv-loop μ-loop
 returns c =
-    let at = c .before .before .before .before .args in
-    let all : c .before .loop .i ≡ length (at .out .now) = omega arith in
-    values-filled (at .ws .now) (c .before .loop .out) (at .from) (length (at .out .now)) (c .before .loop .inv .0) (search needs)
-    (rw all at (c .before .loop .inv .2))
+    let loop = c .before .loop in
+    let a = entered (c .before) .args in
+    let all : c .before .loop .i ≡ length (entered (c .before) .args .out .now) = omega arith in
+    coefficients-filled (a .form) (a .p) (a .ws .now) (loop .out) (a .from) (length (a .out .now)) (loop .inv .0) (search needs)
+    (rw all at (loop .inv .2))
 
 pub coefficients-spec : {M : Type 1} → statement M
 coefficients-spec =
@@ -79,6 +95,7 @@ coefficients-spec =
     mul-value
     shared-slice-read-value
     value-requires
+    value-in-requires
     mul-out
     slice-write-out
     add-i

@@ -59,7 +59,8 @@ sections-requires : tie.Need-sections-requires
 sections-requires c κs =
     let first = c .before .before in
     let place = first .before in
-    (omega (arith, place .before .half-degree .ensures, place .before .before .before .pre .1), end-at place, omega (arith, first .if1 .left))
+    let s = place .before .before .before in
+    (omega (arith, place .before .half-degree .ensures, s .pre .1), end-at place, omega (arith, first .if1 .left), s .pre .2)
 
 returns-3 : tie.Need-returns-3
 returns-3 c =

@@ -4,7 +4,7 @@ use mathlib.Core.List.{map}
 use native.Mathlib.Omega.{arith}
 use lib.ListN.{length, take, drop}
 use borrow.Author.Needs.{needs}
-use Rattle.sheet.specs.Word.{valueOf}
+use Rattle.sheet.specs.Values.{coefficientIn}
 use Rattle.sheet.specs.Form.{header}
 use Rattle.sheet.specs.Places.{end-place, g-place}
 use Rattle.sheet.proofs.g_coefficients.Statement.{statement}
@@ -24,7 +24,9 @@ from-header c =
     c .place2 .ensures ∙ g-place (a .d) (end .place .result) (a .form) (end .place .ensures ∙ end-place (a .d) 0 (a .form))
 
 coefficients-requires : tie.Need-coefficients-requires
-coefficients-requires c κs = omega (arith, from-header (c .before), c .before .before .before .before .before .pre)
+coefficients-requires c κs =
+    let s = c .before .before .before .before .before in
+    (s .pre .0, omega (arith, from-header (c .before), s .pre .2))
 
 same-length : tie.Need-same-length
 same-length c = search needs
@@ -33,7 +35,7 @@ returns : tie.Need-returns
 returns c =
     let at = c .before .before .before .before in
     let a = at .before .before .before .before .args in
-    c .before .before .coefficients .ensures ∙ ap (λ k. map valueOf (take (length (a .out .now)) (drop k (a .ws .now)))) (from-header at)
+    c .before .before .coefficients .ensures ∙ ap (λ k. map (coefficientIn (a .form) (a .p)) (take (length (a .out .now)) (drop k (a .ws .now)))) (from-header at)
 
 pub g-coefficients-spec : {M : Type 1} → statement M
 g-coefficients-spec = tie.close (tie.spec place-requires place-requires-2 coefficients-requires same-length returns)

@@ -18,7 +18,9 @@ from-g : (c : tie.After-place) → c .place .result ≡ c .before .before .befor
 from-g c = c .place .ensures ∙ n-place (c .before .before .before .args .d) 0
 
 coefficients-requires : tie.Need-coefficients-requires
-coefficients-requires c κs = omega (arith, from-g (c .before), c .before .before .before .before .pre)
+coefficients-requires c κs =
+    let s = c .before .before .before .before in
+    (s .pre .0, omega (arith, from-g (c .before), s .pre .2))
 
 same-length : tie.Need-same-length
 same-length c = search needs

@@ -12,10 +12,10 @@ use Rattle.sheet.proofs.section.Statement.{statement}
 use Rattle.sheet.proofs.section.Tie as tie
 
 abbrev Inv-loop : tie.InvT-loop
-Inv-loop ws from to k p i₀ i = (from ≤ i) × ((j : ℕ) → from ≤ j → j < i → (kindOf (getD ws j 0) ≡ k) × (valueOf (getD ws j 0) < p))
+Inv-loop ws from to k bound i₀ i = (from ≤ i) × ((j : ℕ) → from ≤ j → j < i → (kindOf (getD ws j 0) ≡ k) × (valueOf (getD ws j 0) < bound))
 
 abbrev μ-loop : tie.MeasureT-loop
-μ-loop ws from to k p i₀ i = to - i
+μ-loop ws from to k bound i₀ i = to - i
 
 loop-holds : tie.Need-loop-holds Inv-loop μ-loop
 loop-holds c = (search needs, λ j l h. absurd (omega arith))
@@ -61,7 +61,7 @@ loop-again : tie.Need-loop-again Inv-loop μ-loop
 loop-again c =
     let at = c .before .before .before .before .before .before .before .before .before .args in (
       omega arith,
-      more-from (λ j. (kindOf (getD (at .ws .now) j 0) ≡ at .k) × (valueOf (getD (at .ws .now) j 0) < at .p)) (at .from)
+      more-from (λ j. (kindOf (getD (at .ws .now) j 0) ≡ at .k) × (valueOf (getD (at .ws .now) j 0) < at .bound)) (at .from)
           (c .before .before .before .before .before .before .before .loop .i) (c .before .before .before .before .before .before .before .loop .inv .1)
           (sym (c .before .before .before .before .kind .ensures) ∙ c .before .before .before .if1 .left, omega (arith, c .before .value .ensures)),
     )

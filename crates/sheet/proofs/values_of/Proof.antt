@@ -1,55 +1,49 @@
--- `sheet::values_of` meets its contract.
--- Assumes nothing.
+-- `sheet::values_of` meets its contract. Assumes nothing.
 use borrow.Author.Needs.{needs}
-use mathlib.Core.Path.{_≡_}
+use mathlib.Core.Path.{_≡_, _∙_, ap}
+use Prim.Native.Nat.{ℕ}
+use Rattle.sheet.specs.Form.{entry, valueIn}
 use Rattle.sheet.specs.Fields.{same}
 use Rattle.sheet.proofs.values_of.Statement.{statement}
 use Rattle.sheet.proofs.values_of.Tie as tie
 
-entry-of-requires : tie.Need-entry-of-requires
-entry-of-requires c κs = search needs
+value-of-requires : tie.Need-value-of-requires
+value-of-requires c κs = search needs
 
-entry-of-requires-2 : tie.Need-entry-of-requires-2
-entry-of-requires-2 c κs = search needs
+value-of-requires-2 : tie.Need-value-of-requires-2
+value-of-requires-2 c κs = search needs
 
-entry-of-requires-3 : tie.Need-entry-of-requires-3
-entry-of-requires-3 c κs = search needs
+value-of-requires-3 : tie.Need-value-of-requires-3
+value-of-requires-3 c κs = search needs
 
-entry-of-requires-4 : tie.Need-entry-of-requires-4
-entry-of-requires-4 c κs = search needs
+value-of-requires-4 : tie.Need-value-of-requires-4
+value-of-requires-4 c κs = search needs
 
-entry-of-requires-5 : tie.Need-entry-of-requires-5
-entry-of-requires-5 c κs = search needs
-
-entry-of-requires-6 : tie.Need-entry-of-requires-6
-entry-of-requires-6 c κs = search needs
-
-entry-of-requires-7 : tie.Need-entry-of-requires-7
-entry-of-requires-7 c κs = search needs
+value-of-requires-5 : tie.Need-value-of-requires-5
+value-of-requires-5 c κs = search needs
 
 returns : tie.Need-returns
 returns c =
-    let sixth = c .before in
-    let fifth = sixth .before in
-    let fourth = fifth .before in
+    let fourth = c .before in
     let third = fourth .before in
     let second = third .before in
-    let first = second .before .entry-of .ensures in (
-      same (first .0) (second .entry-of2 .ensures .0) (third .entry-of3 .ensures .0) (fourth .entry-of4 .ensures .0) (fifth .entry-of5 .ensures .0)
-          (sixth .entry-of6 .ensures .0) (c .entry-of7 .ensures .0),
-      first .1,
-      sixth .entry-of6 .ensures .1,
-    )
+    let first = second .before in
+    let s = first .before .before in
+    let a = s .args in
+    -- the p that was read is the sheet's
+    let over : (k : ℕ) → valueIn (a .form) (a .p) (entry (a .form) k (a .ws .now)) ≡ valueIn (a .form) (entry (a .form) 1 (a .ws .now))
+    (entry (a .form) k (a .ws .now)) =
+    λ k. ap (λ p. valueIn (a .form) p (entry (a .form) k (a .ws .now))) (s .pre .1) in
+    same (s .pre .1) (first .value-of .ensures ∙ over 2) (second .value-of2 .ensures ∙ over 3) (third .value-of3 .ensures ∙ over 4)
+    (fourth .value-of4 .ensures ∙ over 5) (s .pre .2) (c .value-of5 .ensures ∙ over 7)
 
 pub values-of-spec : {M : Type 1} → statement M
 values-of-spec =
     tie.close
     (tie.spec
-    entry-of-requires
-    entry-of-requires-2
-    entry-of-requires-3
-    entry-of-requires-4
-    entry-of-requires-5
-    entry-of-requires-6
-    entry-of-requires-7
+    value-of-requires
+    value-of-requires-2
+    value-of-requires-3
+    value-of-requires-4
+    value-of-requires-5
     returns)
