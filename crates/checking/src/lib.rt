@@ -67,8 +67,8 @@ fn judge(v: Values, ws: &[u32], d: usize, g: &mut [u32], n: &mut [u32]) -> u32
     requires { ⌜ (length (now g) ≡ d + 1) × (length (now n) ≡ 2 * d + 2) ⌝ }
     ensures { λ r. ⌜ Coefficients (now (ws .entry)) (now (g .exit)) (now (n .exit)) r ⌝ }
 {
-    sheet::g_coefficients(Form::Certificate, ws, d, g);
-    sheet::n_coefficients(ws, d, n);
+    sheet::g_coefficients(Form::Certificate, v.p, ws, d, g);
+    sheet::n_coefficients(v.p, ws, d, n);
     rules_number(v, g, n)
 }
 

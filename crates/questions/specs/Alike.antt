@@ -1,8 +1,8 @@
 -- Two lists of questions with the same numbers, each question answered alike in both where those before it are answered with yes.
 -- Assumes nothing.
-use mathlib.Core.Path.{_≡_, sym, _∙_}
+use mathlib.Core.Path.{_≡_, refl, sym, _∙_}
 use mathlib.Core.Logic.{inl, inr}
-use mathlib.Core.List.{List, [], _∷_}
+use mathlib.Core.List.{List, [], _∷_, _++_}
 use Prim.Native.Nat.{ℕ}
 use Rattle.questions.specs.Questions.{Questions, AllYes, FirstNo}
 
@@ -29,3 +29,14 @@ alike-yes [] [] a h = h
 alike-yes [] (r ∷ rs) a h = absurd a
 alike-yes (q ∷ qs) [] a h = absurd a
 alike-yes (q ∷ qs) (r ∷ rs) a h = (a .1 (h .0), alike-yes qs rs (a .3 (h .0)) (h .1))
+
+pub alike-refl : (qs : Questions) → Alike qs qs
+alike-refl [] = tt
+alike-refl (q ∷ qs) = (refl, λ h. h, λ h. h, λ _. alike-refl qs)
+
+-- two after two, of which the later ones need be alike only where the earlier ones are answered with yes
+pub alike-joined : (qs rs qs′ rs′ : Questions) → Alike qs rs → (AllYes qs → Alike qs′ rs′) → Alike (qs ++ qs′) (rs ++ rs′)
+alike-joined [] [] qs′ rs′ a later = later tt
+alike-joined [] (r ∷ rs) qs′ rs′ a later = absurd a
+alike-joined (q ∷ qs) [] qs′ rs′ a later = absurd a
+alike-joined (q ∷ qs) (r ∷ rs) qs′ rs′ a later = (a .0, a .1, a .2, λ h. alike-joined qs rs qs′ rs′ (a .3 h) (λ all. later (h, all)))

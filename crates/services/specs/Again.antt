@@ -20,9 +20,11 @@ use Rattle.questions.specs.Numbered.{yes-to}
 use Rattle.sheet.specs.declared.Form.the-variants.{Question, Certificate, Kernel}
 use Rattle.sheet.specs.declared.Values.{Values}
 use Rattle.sheet.specs.Word.{kindOf, valueOf, word}
-use Rattle.sheet.specs.Form.{header, kindsOf}
-use Rattle.sheet.specs.Values.{valuesOf, half, question, gOf, nOf}
-use Rattle.sheet.specs.Asked.{Asked2, Asked6, Curves, asked}
+use Rattle.sheet.specs.Form.{header, kindsOf, valueIn}
+use Rattle.sheet.specs.Values.{valuesOf, half, question, coefficientIn, gOf, nOf}
+use Rattle.sheet.specs.Asked.{Asked2, Asked6, ValuesBelow, Curves, asked}
+use Rattle.sheet.specs.Fields.{same}
+use Rattle.sheet.specs.Reduction.{kernel-modulo, value-below, value-reduced, coefficients-below, five-always}
 use Rattle.sheet.specs.Ready.{Ready, ready}
 use Rattle.sheet.specs.Leaf.{Sections}
 use Rattle.sheet.specs.Body.{last, Words6, asked6-words, words-asked6, kernel-words, certificate-words}
@@ -84,7 +86,12 @@ module _ (ws : List ℕ) (passes : AllYes (check-asks ws)) where
   -- ── solve
 
   question-values : v ≡ valuesOf Question (questionOf ws)
-  question-values = at-words (λ us. valuesOf Certificate us ≡ valuesOf Question (questionOf us)) refl
+  question-values =
+      at-words (λ us. ValuesBelow (valuesOf Certificate us) → valuesOf Certificate us ≡ valuesOf Question (questionOf us))
+      (λ b. same refl (stands (b .a)) (stands (b .b)) (stands (b .atilde)) (stands (b .btilde)) refl (stands (b .sigma))) (known .below)
+    where
+      stands : {p x : ℕ} → x < p → x ≡ valueIn Question p x
+      stands l = sym (value-below Question l)
 
   question-headed : Asked2 Question (questionOf ws)
   unfolding Asked2
@@ -143,7 +150,10 @@ module _ (ws : List ℕ) (passes : AllYes (check-asks ws)) where
 
   same-values : v ≡ completed
   same-values =
-      at-words (λ ws. let v : Values = valuesOf Certificate ws in v ≡ with (valuesOf Kernel (kernelOf ws)) (v .atilde) (v .btilde) (v .sigma)) refl
+      at-words (λ ws.
+      let v : Values = valuesOf Certificate ws in
+      ValuesBelow v → v ≡ with (valuesOf Kernel (kernelOf ws)) (v .atilde) (v .btilde) (v .sigma))
+      (λ b. same refl (sym (value-below Kernel (b .a))) (sym (value-below Kernel (b .b))) refl refl refl refl) (known .below)
 
   same-half : half (valuesOf Kernel us) ≡ d
   same-half = sym (ap half same-values)
@@ -172,8 +182,10 @@ module _ (ws : List ℕ) (passes : AllYes (check-asks ws)) where
 
   same-g : gOf Kernel us ≡ gOf Certificate ws
   same-g =
-      ap₂ (λ n (xs : List ℕ). map valueOf (take (n + 1) xs)) same-half coefficients
-      ∙ ap (map valueOf) (take-at (take (d + 1) (drop 7 ws)) (word 15 0 ∷ []) (d + 1) coefficient-count)
+      let over : valuesOf Kernel us .p ≡ v .p = sym (ap (λ (v : Values). v .p) same-values) in
+      ap₂ (λ n (xs : List ℕ). map (coefficientIn Kernel (valuesOf Kernel us .p)) (take (n + 1) xs)) same-half coefficients
+      ∙ ap₂ (λ q (xs : List ℕ). map (coefficientIn Kernel q) xs) over (take-at (take (d + 1) (drop 7 ws)) (word 15 0 ∷ []) (d + 1) coefficient-count)
+      ∙ coefficients-below Kernel (v .p) (take (d + 1) (drop 7 ws)) (certificate-g ws accepted .reduced)
 
   kernel-headed : Asked2 Kernel us
   unfolding Asked2
@@ -194,10 +206,13 @@ module _ (ws : List ℕ) (passes : AllYes (check-asks ws)) where
   kernel-kind : (i : ℕ) → 4 ≤ i → i < d + 5 → getD (kindsOf Kernel (half (valuesOf Kernel us))) i 0 ≡ 8
   kernel-kind i l m = g-section Kernel (half (valuesOf Kernel us)) (15 ∷ []) refl i l (omega (arith, same-half))
 
+  kernel-positive : 0 < valuesOf Kernel us .p
+  kernel-positive = prime-pos (completed-ready .prime .prime)
+
   kernel-exact : Asked6 Kernel us
   unfolding Sections
   kernel-exact =
-      let words : Words6 Certificate ws = asked6-words Certificate ws (yes-to (asked Certificate ws) 6 accepted) in
+      let words : Words6 Certificate (v .p) d ws = asked6-words Certificate ws (yes-to (asked Certificate ws) 6 accepted) in
       words-asked6 Kernel us (record {
         count = kernel-count ∙ omega (arith, kernel-words (half (valuesOf Kernel us)), same-half);
         end = ap (λ i. getD us i 0) (omega (arith, kernel-last)) ∙ kernel-end;
@@ -206,25 +221,24 @@ module _ (ws : List ℕ) (passes : AllYes (check-asks ws)) where
             let both = words .sections (i + 3) (omega arith) (omega (arith, kernel-last, certificate-words d)) in
             let eight = g-section Certificate d _ refl (i + 3) (omega arith) (omega (arith, kernel-last)) in (
               ap kindOf e ∙ both .0 ∙ eight ∙ sym (kernel-kind i l (omega (arith, kernel-last))),
-              omega (arith, ap valueOf e, both .1, ap (λ (v : Values). v .p) same-values),
+              value-reduced Kernel kernel-modulo kernel-positive (valueOf (getD us i 0)),
             );
       })
 
   kernel-asked : AllYes (asked Kernel us)
-  kernel-asked =
-      let positive : 0 < completed .p = prime-pos (completed-ready .prime .prime) in (
-        kernel-headed,
+  kernel-asked = (
+    kernel-headed,
+    (
+      completed-ready .prime,
+      (
+        completed-ready .degree,
         (
-          completed-ready .prime,
-          (
-            completed-ready .degree,
-            (
-              record { a = completed-ready .below .a; b = completed-ready .below .b; atilde = positive; btilde = positive; sigma = positive },
-              (kernel-exact, (record { domain = completed-curves .domain; codomain = λ t. absurd (false≢true t) }, tt)),
-            ),
-          ),
+          five-always Kernel kernel-modulo us kernel-positive,
+          (kernel-exact, (record { domain = completed-curves .domain; codomain = λ t. absurd (false≢true t) }, tt)),
         ),
-      )
+      ),
+    ),
+  )
 
   -- the sheet's question with any σ: the number on the certificate, and R1's
   abbrev with-sigma : Elt (completed .p) → Rules.Question (Zmod (completed .p))

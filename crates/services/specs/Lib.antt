@@ -9,3 +9,4 @@ pub mod Demands
 pub mod Source
 pub mod Again
 pub mod Names
+pub mod Reduced

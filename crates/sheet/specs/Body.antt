@@ -115,16 +115,17 @@ end-word w = (λ e. (omega arith, omega arith), λ h. omega (arith, h .0, h .1))
 
 -- ── question 6
 
+-- it by words, for the p and the d that the sheet says
+pub record Words6 (form : Form) (p d : ℕ) (ws : List ℕ) : Type 0 where
+  pub count : length ws ≡ length (kindsOf form d)
+  pub end : getD ws (last form d) 0 ≡ 15 * 2 ^ 28
+  pub sections : Sections form d (length (header form)) (last form d) p ws
+
 module _ (form : Form) (ws : List ℕ) where
   abbrev d : ℕ
   d = half (valuesOf form ws)
 
-  pub record Words6 : Type 0 where
-    pub count : length ws ≡ length (kindsOf form d)
-    pub end : getD ws (last form d) 0 ≡ 15 * 2 ^ 28
-    pub sections : Sections form d (length (header form)) (last form d) (valuesOf form ws .p) ws
-
-  pub asked6-words : Asked6 form ws → Words6
+  pub asked6-words : Asked6 form ws → Words6 form (valuesOf form ws .p) d ws
   unfolding Sections
   asked6-words a =
       let count = kinds-length form d ws (a .kinds) in
@@ -136,7 +137,7 @@ module _ (form : Form) (ws : List ℕ) where
         sections = λ i l m. (kinds-at form d ws (a .kinds) i l, a .below i l (omega arith));
       }
 
-  pub words-asked6 : Words6 → Asked6 form ws
+  pub words-asked6 : Words6 form (valuesOf form ws .p) d ws → Asked6 form ws
   unfolding Sections
   words-asked6 w =
       let count = w .count in

@@ -4,8 +4,8 @@ pub mod Place
 pub mod Table
 pub mod Kinds
 pub mod Values
-pub mod Reduction
 pub mod Asked
+pub mod Reduction
 pub mod Ready
 pub mod Reading
 pub mod Leaf
@@ -16,3 +16,4 @@ pub mod Linear
 pub mod Places
 pub mod Accepted
 pub mod LongSheet
+pub mod ReducedSheet

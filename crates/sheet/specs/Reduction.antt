@@ -1,27 +1,72 @@
--- The reading of one value by form: taken modulo p on a question or a kernel sheet, as it stands on a certificate.
+-- The reading of one value by form: taken modulo p on a question or a kernel sheet, as it stands on a certificate (document 02, E2).
 -- Assumes nothing.
 use mathlib.Core.Path.{_≡_, refl, sym, _∙_, ap, ap₂}
-use mathlib.Core.List.{List, map}
-use Prim.Native.Nat.{ℕ, _<_}
-use native.Mathlib.Nat.{zero-mod, mod-eq-of-lt}
-use lib.ListN.{getD, List·getD-map}
+use mathlib.Core.Logic.{_↔_, _≢_}
+use mathlib.Core.List.{List, [], _∷_, map}
+use Prim.Native.Nat.{ℕ, suc, _-_, _<_}
+use native.Mathlib.Nat.{zero-mod, mod-lt, mod-eq-of-lt}
+use native.Mathlib.Omega.{arith}
+use lib.ListN.{length, getD, drop, List·getD-map}
+use Rattle.zmod.specs.Residues.{Reduced}
 use Rattle.sheet.specs.declared.Form.{Form}
 use Rattle.sheet.specs.declared.Form.the-variants.{Question, Certificate, Kernel}
-use Rattle.sheet.specs.Form.{valueIn}
-use Rattle.sheet.specs.Values.{coefficientIn}
+use Rattle.sheet.specs.Word.{kindOf, valueOf}
+use Rattle.sheet.specs.Form.{header, body, valueIn}
+use Rattle.sheet.specs.Values.{valuesOf, half, coefficientIn}
+use Rattle.sheet.specs.Asked.{ValuesBelow, Asked6}
 
--- a value below p is read as it stands
+-- ── the forms on which values are taken modulo p: all but the certificate
+
+pub question-modulo : Question ≢ Certificate
+question-modulo e = let z : _≡_ {A = ℕ} 0 1 = cc in omega arith
+
+pub kernel-modulo : Kernel ≢ Certificate
+kernel-modulo e = let z : _≡_ {A = ℕ} 0 1 = cc in omega arith
+
+-- ── one value
+
+-- below p it is read as it stands
 pub value-below : (form : Form) {p x : ℕ} → x < p → valueIn form p x ≡ x
 value-below Question l = mod-eq-of-lt l
 value-below Certificate l = refl
 value-below Kernel l = mod-eq-of-lt l
+
+-- but on a certificate, whatever is read is below p
+pub value-reduced : (form : Form) → form ≢ Certificate → {p : ℕ} → 0 < p → (x : ℕ) → valueIn form p x < p
+value-reduced Question n pos x = mod-lt x pos
+value-reduced Certificate n pos x = absurd (n refl)
+value-reduced Kernel n pos x = mod-lt x pos
 
 value-zero : (form : Form) (p : ℕ) → valueIn form p 0 ≡ 0
 value-zero Question p = zero-mod p
 value-zero Certificate p = refl
 value-zero Kernel p = zero-mod p
 
--- a coefficient among those that were read; past the last one it reads 0
+-- ── coefficients
+
+-- one among those that are read; past the last one it reads 0
 pub coefficient-at : (form : Form) (p : ℕ) (ws : List ℕ) (i : ℕ) → getD (map (coefficientIn form p) ws) i 0 ≡ coefficientIn form p (getD ws i 0)
 coefficient-at form p ws i =
     ap (λ z. getD (map (coefficientIn form p) ws) i z) (sym (value-zero form p)) ∙ List·getD-map (coefficientIn form p) ws i 0
+
+-- below p they are read as they stand
+pub coefficients-below : (form : Form) (p : ℕ) (ws : List ℕ) → Reduced p (map valueOf ws) → map (coefficientIn form p) ws ≡ map valueOf ws
+coefficients-below form p [] small = refl
+coefficients-below form p (w ∷ ws) small = ap₂ _∷_ (value-below form (small 0)) (coefficients-below form p ws (λ i. small (suc i)))
+
+-- ── questions 5 and 6 of a sheet that is no certificate
+
+module _ (form : Form) (modulo : form ≢ Certificate) (ws : List ℕ) (positive : 0 < valuesOf form ws .p) where
+  -- 5 is answered with yes whatever the values are,
+  pub five-always : ValuesBelow (valuesOf form ws)
+  five-always =
+      let read : (x : ℕ) → valueIn form (valuesOf form ws .p) x < valuesOf form ws .p = value-reduced form modulo positive in
+      record { a = read _; b = read _; atilde = read _; btilde = read _; sigma = read _ }
+
+  -- and 6 whatever those of the coefficients are, if the kinds after the header and the end are right
+  pub six-kinds : Asked6 form ws
+      ↔ ((map kindOf (drop (length (header form)) ws) ≡ body form (half (valuesOf form ws))) × (valueOf (getD ws (length ws - 1) 0) ≡ 0))
+  six-kinds = (
+    λ a. (a .kinds, a .end),
+    λ h. record { kinds = h .0; below = λ i _ _. value-reduced form modulo positive (valueOf (getD ws i 0)); end = h .1 },
+  )

@@ -9,8 +9,7 @@ use Rattle.questions.specs.Questions.{AllYes}
 use Rattle.questions.specs.Joined.{no-after, all-all}
 use Rattle.sheet.specs.declared.Form.the-variants.{Kernel}
 use Rattle.sheet.specs.declared.Values.{Values}
-use Rattle.sheet.specs.Word.{valueOf}
-use Rattle.sheet.specs.Values.{gOf, half, valuesOf}
+use Rattle.sheet.specs.Values.{coefficientIn, gOf, half, valuesOf}
 use Rattle.sheet.specs.Asked.{asked}
 use Rattle.sheet.specs.Ready.{Ready, HoldsG}
 use Rattle.sheet.specs.Ready as R
@@ -29,9 +28,11 @@ module _ (ws : List ℕ) (all : AllYes (asked Kernel ws)) (v : Values) (e : v �
   long = kernel-length ws all ∙ ap (λ v. half v + 6) (sym e)
 
   -- the words that were read
-  module _ (g : List ℕ) (i : ℕ) (i-is : i ≡ half v + 1) (g-is : g ≡ map valueOf (take i (drop 4 ws))) where
+  module _ (g : List ℕ) (i : ℕ) (i-is : i ≡ half v + 1) (g-is : g ≡ map (coefficientIn Kernel (v .p)) (take i (drop 4 ws))) where
     pub words : g ≡ gOf Kernel ws
-    words = g-is ∙ ap (λ k. map valueOf (take k (drop 4 ws))) (i-is ∙ ap (λ v. half v + 1) e)
+    words =
+        g-is ∙ ap (λ k. map (coefficientIn Kernel (v .p)) (take k (drop 4 ws))) i-is
+        ∙ ap (λ v. map (coefficientIn Kernel (v .p)) (take (half v + 1) (drop 4 ws))) e
 
     pub g-words : HoldsG v g
     g-words = subst (λ v. HoldsG v g) (sym e) (subst (HoldsG (valuesOf Kernel ws)) (sym words) (kernel-g ws all))

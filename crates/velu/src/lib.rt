@@ -83,7 +83,7 @@ fn kernel_in(v: Values, ws: &[u32], g: &mut [u32], answer: &mut [u32]) -> Writte
     ensures { λ r. ⌜ KernelRight (now (ws .entry)) (now (answer .entry)) (now (answer .exit)) r ⌝ }
 {
     let d = g.len() - 1;
-    sheet::g_coefficients(Form::Kernel, ws, d, g);
+    sheet::g_coefficients(Form::Kernel, v.p, ws, d, g);
     finish(v, g, answer)
 }
 

@@ -2,6 +2,8 @@
 use borrow.Author.Needs.{needs}
 use mathlib.Core.Path.{_≡_, subst}
 use native.Mathlib.Omega.{arith}
+use mathlib.Core.List.{List}
+use Prim.Native.Nat.{ℕ}
 use lib.ListN.{length}
 use Rattle.questions.specs.Judged.{Judged}
 use Rattle.sheet.specs.declared.Form.the-variants.{Certificate}
@@ -20,18 +22,25 @@ start c = c .before .before .before .before .before
 abbrev with-g : tie.After-n-coefficients → tie.After-g-coefficients
 with-g c = c .before .before .before .before
 
-g-is : (c : tie.After-g-coefficients) → c .g-coefficients .last .1 .1 .1 .0 ≡ gOf Certificate (start c .args .ws .now)
+-- the coefficients that were read
+abbrev g-read : tie.After-g-coefficients → List ℕ
+g-read c = c .g-coefficients .last .1 .1 .1 .1 .0
+
+abbrev n-read : tie.After-n-coefficients → List ℕ
+n-read c = c .n-coefficients .last .1 .1 .1 .0
+
+g-is : (c : tie.After-g-coefficients) → g-read c ≡ gOf Certificate (start c .args .ws .now)
 g-is c =
     let s = start c in
     let a = s .args in
-    g-words (a .ws .now) (s .pre .0) (a .v) (a .d) (s .pre .1 .0 .0) (s .pre .1 .0 .1) (c .g-coefficients .last .1 .1 .1 .0) (length (a .g .now))
+    g-words (a .ws .now) (s .pre .0) (a .v) (a .d) (s .pre .1 .0 .0) (s .pre .1 .0 .1) (g-read c) (length (a .g .now))
     (s .pre .1 .1 .0) (c .g-coefficients .ensures)
 
-n-is : (c : tie.After-n-coefficients) → c .n-coefficients .last .1 .1 .0 ≡ nOf Certificate (start (with-g c) .args .ws .now)
+n-is : (c : tie.After-n-coefficients) → n-read c ≡ nOf Certificate (start (with-g c) .args .ws .now)
 n-is c =
     let s = start (with-g c) in
     let a = s .args in
-    n-words (a .ws .now) (s .pre .0) (a .v) (a .d) (s .pre .1 .0 .0) (s .pre .1 .0 .1) (c .n-coefficients .last .1 .1 .0) (length (a .n .now))
+    n-words (a .ws .now) (s .pre .0) (a .v) (a .d) (s .pre .1 .0 .0) (s .pre .1 .0 .1) (n-read c) (length (a .n .now))
     (s .pre .1 .1 .1) (c .n-coefficients .ensures)
 
 -- ── the needs
@@ -42,7 +51,7 @@ g-coefficients-requires c κs =
     let a = s .args in
     let r = ready (a .ws .now) (s .pre .0) (a .v) (a .d) (s .pre .1 .0 .0) (s .pre .1 .0 .1) in
     let l = long (a .ws .now) (s .pre .0) (a .v) (a .d) (s .pre .1 .0 .0) (s .pre .1 .0 .1) in
-    (omega (arith, r .degree, s .pre .1 .0 .1), omega (arith, l, s .pre .1 .1 .0))
+    (omega (arith, r .prime .least), omega (arith, r .degree, s .pre .1 .0 .1), omega (arith, l, s .pre .1 .1 .0))
 
 n-coefficients-requires : tie.Need-n-coefficients-requires
 n-coefficients-requires c κs =
@@ -50,7 +59,7 @@ n-coefficients-requires c κs =
     let a = s .args in
     let r = ready (a .ws .now) (s .pre .0) (a .v) (a .d) (s .pre .1 .0 .0) (s .pre .1 .0 .1) in
     let l = long (a .ws .now) (s .pre .0) (a .v) (a .d) (s .pre .1 .0 .0) (s .pre .1 .0 .1) in
-    (omega (arith, r .degree, s .pre .1 .0 .1), omega (arith, l, s .pre .1 .1 .1))
+    (omega (arith, r .prime .least), omega (arith, r .degree, s .pre .1 .0 .1), omega (arith, l, s .pre .1 .1 .1))
 
 rules-number-requires : tie.Need-rules-number-requires
 rules-number-requires c κs =
@@ -59,9 +68,9 @@ rules-number-requires c κs =
     let s = start first in
     let a = s .args in
     let r = ready (a .ws .now) (s .pre .0) (a .v) (a .d) (s .pre .1 .0 .0) (s .pre .1 .0 .1) in
-    let g = g-holds (a .ws .now) (s .pre .0) (a .v) (a .d) (s .pre .1 .0 .0) (s .pre .1 .0 .1) (first .g-coefficients .last .1 .1 .1 .0) (length (a .g .now))
+    let g = g-holds (a .ws .now) (s .pre .0) (a .v) (a .d) (s .pre .1 .0 .0) (s .pre .1 .0 .1) (g-read first) (length (a .g .now))
     (s .pre .1 .1 .0) (first .g-coefficients .ensures) in
-    let n = n-holds (a .ws .now) (s .pre .0) (a .v) (a .d) (s .pre .1 .0 .0) (s .pre .1 .0 .1) (second .n-coefficients .last .1 .1 .0) (length (a .n .now))
+    let n = n-holds (a .ws .now) (s .pre .0) (a .v) (a .d) (s .pre .1 .0 .0) (s .pre .1 .0 .1) (n-read second) (length (a .n .now))
     (s .pre .1 .1 .1) (second .n-coefficients .ensures) in
     ((r, g), n)
 
@@ -83,7 +92,7 @@ returns c =
       n-is = n-is second;
       judged = subst (λ v. Judged (rules-ask v (gOf Certificate ws) (nOf Certificate ws)) k) (s .pre .1 .0 .0)
           (subst (λ g. Judged (rules-ask (s .args .v) g (nOf Certificate ws)) k) (g-is first)
-          (subst (λ n. Judged (rules-ask (s .args .v) (first .g-coefficients .last .1 .1 .1 .0) n) k) (n-is second) (c .rules-number .ensures)));
+          (subst (λ n. Judged (rules-ask (s .args .v) (g-read first) n) k) (n-is second) (c .rules-number .ensures)));
     }
 
 pub judge-spec : {M : Type 1} → statement M

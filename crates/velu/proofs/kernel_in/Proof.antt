@@ -1,5 +1,7 @@
 -- `velu::kernel_in` meets its contract. Assumes nothing.
 use borrow.Author.Needs.{needs}
+use mathlib.Core.List.{List}
+use Prim.Native.Nat.{ℕ}
 use native.Mathlib.Omega.{arith}
 use lib.ListN.{length}
 use Rattle.velu.proofs.Sheets.{ready, long, g-words, kernel-right}
@@ -9,6 +11,10 @@ use Rattle.velu.proofs.kernel_in.Tie as tie
 abbrev start : tie.After-g-coefficients → tie.Start
 start c = c .before .before .before .before .before
 
+-- the coefficients that were read
+abbrev g-read : tie.After-g-coefficients → List ℕ
+g-read c = c .g-coefficients .last .1 .1 .1 .1 .0
+
 sub-d : tie.Need-sub-d
 sub-d c = search needs
 
@@ -17,7 +23,8 @@ g-coefficients-requires c κs =
     let s = c .before .before .before .before in
     let a = s .args in
     let r = ready (a .ws .now) (s .pre .0 .0) (a .v) (s .pre .0 .1) in
-    (omega (arith, r .degree, s .pre .1 .0), omega (arith, long (a .ws .now) (s .pre .0 .0) (a .v) (s .pre .0 .1), s .pre .1 .0))
+    let l = long (a .ws .now) (s .pre .0 .0) (a .v) (s .pre .0 .1) in
+    (omega (arith, r .prime .least), omega (arith, r .degree, s .pre .1 .0), omega (arith, l, s .pre .1 .0))
 
 finish-requires : tie.Need-finish-requires
 finish-requires c κs =
@@ -26,7 +33,7 @@ finish-requires c κs =
     let a = s .args in (
       (
         ready (a .ws .now) (s .pre .0 .0) (a .v) (s .pre .0 .1),
-        g-words (a .ws .now) (s .pre .0 .0) (a .v) (s .pre .0 .1) (read .g-coefficients .last .1 .1 .1 .0) (length (a .g .now)) (s .pre .1 .0)
+        g-words (a .ws .now) (s .pre .0 .0) (a .v) (s .pre .0 .1) (g-read read) (length (a .g .now)) (s .pre .1 .0)
             (read .g-coefficients .ensures),
       ),
       s .pre .1 .1,
@@ -44,7 +51,7 @@ returns c =
     let read = finish .before .before .before .before .before in
     let s = start read in
     let a = s .args in
-    kernel-right (a .ws .now) (s .pre .0 .0) (a .v) (s .pre .0 .1) (read .g-coefficients .last .1 .1 .1 .0) (length (a .g .now)) (s .pre .1 .0)
+    kernel-right (a .ws .now) (s .pre .0 .0) (a .v) (s .pre .0 .1) (g-read read) (length (a .g .now)) (s .pre .1 .0)
     (read .g-coefficients .ensures) (a .answer .now) (finish .finish .last .1 .1 .0) (s .pre .1 .1) (finish .finish .result) (finish .finish .ensures)
 
 pub kernel-in-spec : {M : Type 1} → statement M
