@@ -4,7 +4,7 @@ use mathlib.Core.Path.{_≡_, refl, sym, _∙_, ap, subst}
 use mathlib.Core.Bool.{Bool, true, false, not}
 use mathlib.Core.Logic.{inl, inr}
 use mathlib.Core.List.{List, [], _∷_, _++_}
-use Prim.Native.Nat.{ℕ, suc, _+_, _*_, _%_, _<_, _≤_}
+use Prim.Native.Nat.{ℕ, suc, _+_, _*_, _%_, _^_, _<_, _≤_}
 use native.Mathlib.Omega.{arith}
 use lib.Dec.{T, eqb, eqb→eq, leb, leb→le, ltb, ltb→lt}
 use lib.ListN.{length, getD, drop}
@@ -12,6 +12,7 @@ use Rattle.ring.specs.Test.{both, both-left, both-right}
 use Rattle.series.specs.Series.{Seq}
 use Rattle.zmod.specs.Zmod.{Elt, Zmod, mk, mk-eq}
 use Rattle.zmod.specs.Prime.{prime-pos}
+use Rattle.zmod.specs.Calculation.{primeTest, prime-yes}
 use Rattle.zmod.specs.Residues.{poly, poly-at}
 use Rattle.isogeny.specs.Curve.{Nonsingular}
 use Rattle.isogeny.specs.Rules as Rules
@@ -23,13 +24,13 @@ use Rattle.sheet.specs.Values.{gOf, nOf, valuesOf, half}
 use Rattle.sheet.specs.Asked.{asked}
 use Rattle.certificate.specs.Certificate.{certificate}
 use Rattle.questions.specs.Questions.{Questions, AllYes, FirstNo}
-use Rattle.questions.specs.Joined.{all-all, no-after}
+use Rattle.questions.specs.Joined.{all-all, no-before, no-after}
 use Rattle.promises.specs.declared.Written.the-variants as written
 use Rattle.promises.specs.declared.Point.{Point}
 use Rattle.promises.specs.declared.Point.the-variants as point
 use Rattle.promises.specs.declared.Image.{Image}
 use Rattle.promises.specs.declared.Image.the-variants as image
-use Rattle.promises.specs.Asked.{prime, put, g, n, Room, check-asks, push-asks, Solvable, last-ask, Passing, Leading, Given}
+use Rattle.promises.specs.Asked.{prime, put, g, n, Room, check-asks, push-asks, name-asks, Solvable, last-ask, Passing, Leading, Given}
 use Rattle.promises.specs.Answer.{SolveRight, KernelRight, PushRight, CertificateIn, with}
 use Rattle.marked.specs.Tests.{every, Every, every-yes, same-list, same-list-yes, below, below-yes}
 use Rattle.marked.specs.Rules.{
@@ -59,10 +60,21 @@ use Rattle.marked.specs.Rules.{
   vanishes-test,
   vanishes-by-computing,
 }
-use Rattle.marked.specs.Sheets.{asked-test, asked-by-computing, prime-by-computing, least-by-computing}
+use Rattle.marked.specs.Sheets.{
+  asked-test,
+  asked-by-computing,
+  prime-by-computing,
+  least-by-computing,
+  fifth-tests,
+  fifth-by-computing,
+  sixth-tests,
+  sixth-by-computing,
+  seventh-tests,
+  seventh-by-computing,
+}
 use Rattle.marked.specs.NoCodomain.{candidate, no-codomain}
 use Rattle.marked.specs.Row.{Row, Claim, Listed, question-words, kernel-words, count, filled}
-use Rattle.marked.specs.Row.Row.{solves, unsolved, pushes, kernel, no-kernel, refused, refused-though, parts}
+use Rattle.marked.specs.Row.Row.{solves, unsolved, pushes, kernel, no-kernel, refused, refused-though, unnamed, parts}
 
 -- ── a certificate in the buffer: the values v, g and n of a row against those that are read from the sheet
 
@@ -86,19 +98,19 @@ module _ (read : Values) (g n : List ℕ) (v : Values) (g₀ : List ℕ) where
 
 -- ── solve
 
-module _ (v : Values) where
+module _ (asked-values : Values) where
   abbrev ws : List ℕ
-  ws = question-words v
+  ws = question-words asked-values
 
   abbrev read : Values
   read = valuesOf Question ws
 
-  abbrev solve-test : List ℕ → List ℕ → Bool
-  solve-test g n = both (asked-test Question ws) (every (fill-tests read g n v g))
+  abbrev solve-test : Values → List ℕ → List ℕ → Bool
+  solve-test v g n = both (asked-test Question ws) (every (fill-tests read g n v g))
 
-  solve-by-computing : (g n : List ℕ) → T (solve-test g n) → (before : List ℕ) → Room (length before)
+  solve-by-computing : (v : Values) (g n : List ℕ) → T (solve-test v g n) → (before : List ℕ) → Room (length before)
       → SolveRight ws before (filled v g n before) (written.Count (count v))
-  solve-by-computing g n t before room =
+  solve-by-computing v g n t before room =
       let a : Bool = asked-test Question ws in
       let ta : T (asked-test Question ws) = both-left a _ t in
       let pos : 0 < read .p = prime-pos (prime-by-computing Question ws ta) in
@@ -112,12 +124,17 @@ module _ (v : Values) where
         fill,
       )
 
-  abbrev unsolved-test : ℕ → Bool
-  unsolved-test k = both (asked-test Question ws) (both (none-test read) (eqb k 11))
+  -- 7 where the domain is no curve
+  singular-holds : Every (seventh-tests Question ws) → (before : List ℕ) → Room (length before) → SolveRight ws before before (written.Refused 7)
+  singular-holds t before room =
+      (inr (room, no-before (asked Question ws) ((11, Solvable read) ∷ []) 7 (seventh-by-computing Question ws t)), refl)
 
-  unsolved-by-computing : (k : ℕ) → T (unsolved-test k) → (before : List ℕ) → Room (length before)
+  abbrev none-tests : ℕ → Bool
+  none-tests k = both (asked-test Question ws) (both (none-test read) (eqb k 11))
+
+  none-holds : (k : ℕ) → T (none-tests k) → (before : List ℕ) → Room (length before)
       → SolveRight ws before before (written.Refused k)
-  unsolved-by-computing k t before room =
+  none-holds k t before room =
       let a : Bool = asked-test Question ws in
       let ta : T (asked-test Question ws) = both-left a _ t in
       let rest : T (both (none-test read) (eqb k 11)) = both-right a _ t in
@@ -132,6 +149,23 @@ module _ (v : Values) where
         ),
         refl,
       )
+
+  abbrev unsolved-tests : Bool → ℕ → Bool
+  unsolved-tests true k = every (seventh-tests Question ws)
+  unsolved-tests false k = none-tests k
+
+  abbrev unsolved-test : ℕ → Bool
+  unsolved-test k = unsolved-tests (eqb k 7) k
+
+  unsolved-by-computing : (k : ℕ) → T (unsolved-test k) → (before : List ℕ) → Room (length before) → SolveRight ws before before (written.Refused k)
+  unsolved-by-computing k = go (eqb k 7) (eqb→eq k 7)
+    where
+      go : (seventh : Bool) → (T seventh → k ≡ 7) → T (unsolved-tests seventh k) → (before : List ℕ) → Room (length before)
+          → SolveRight ws before before (written.Refused k)
+      go true is t before room =
+          subst (λ k. SolveRight ws before before (written.Refused k)) (sym (is tt))
+          (singular-holds (every-yes (seventh-tests Question ws) t) before room)
+      go false is t before room = none-holds k t before room
 
 -- ── check and push
 
@@ -191,6 +225,27 @@ module _ (ws : List ℕ) where
           )
       go false e s = inl (eqb→eq k 9 s, R2-refuted v γ ν pos (subst (λ b. T (not b)) (sym e) tt))
 
+  -- and 5 or 6 where a value is not below p
+  abbrev early-test : Bool → Bool → ℕ → Bool
+  early-test true sixth k = every (fifth-tests Certificate ws)
+  early-test false true k = every (sixth-tests Certificate ws)
+  early-test false false k = every (refused-tests k)
+
+  abbrev refused-test : ℕ → Bool
+  refused-test k = early-test (eqb k 5) (eqb k 6) k
+
+  refused-holds : (k : ℕ) → T (refused-test k) → FirstNo (check-asks ws) k
+  refused-holds k = go (eqb k 5) (eqb k 6) (eqb→eq k 5) (eqb→eq k 6)
+    where
+      go : (fifth sixth : Bool) → (T fifth → k ≡ 5) → (T sixth → k ≡ 6) → T (early-test fifth sixth k) → FirstNo (check-asks ws) k
+      go true sixth is is₆ t =
+          subst (FirstNo (check-asks ws)) (sym (is tt))
+          (no-before (asked Certificate ws) rules 5 (fifth-by-computing Certificate ws (every-yes (fifth-tests Certificate ws) t)))
+      go false true is is₆ t =
+          subst (FirstNo (check-asks ws)) (sym (is₆ tt))
+          (no-before (asked Certificate ws) rules 6 (sixth-by-computing Certificate ws (every-yes (sixth-tests Certificate ws) t)))
+      go false false is is₆ t = refused-by-computing k (every-yes (refused-tests k) t)
+
   abbrev given-tests : ℕ → ℕ → List Bool
   given-tests u w = ltb u (v .p) ∷ ltb w (v .p) ∷ on-curve-test (v .p) (v .a) (v .b) u w ∷ []
 
@@ -235,9 +290,9 @@ module _ (ws : List ℕ) where
 
 -- ── kernel
 
-module _ (v : Values) (g₀ n : List ℕ) where
+module _ (asked-values : Values) (asked-g : List ℕ) (v : Values) (g₀ n : List ℕ) where
   abbrev sheet : List ℕ
-  sheet = kernel-words v g₀
+  sheet = kernel-words asked-values asked-g
 
   abbrev completed : Values
   completed = with (valuesOf Kernel sheet) (v .atilde) (v .btilde) (v .sigma)
@@ -357,24 +412,37 @@ parts-hold v g l m n t =
       listed v _ n pos (t 4) (second-by-computing v g pos n (same 2)),
     )
 
+-- name's 5: p passes 3, and A is not below it
+abbrev unnamed-tests : ℕ → ℕ → ℕ → ℕ → List Bool
+unnamed-tests p a b k = primeTest p ∷ leb 11 p ∷ ltb p (2 ^ 28) ∷ leb p a ∷ eqb k 5 ∷ []
+
+unnamed-by-computing : (p a b k : ℕ) → Every (unnamed-tests p a b k) → FirstNo (name-asks p a b) k
+unnamed-by-computing p a b k t =
+    inr (
+      record { prime = prime-yes p (t 0); least = leb→le 11 p (t 1); most = ltb→lt p (2 ^ 28) (t 2) },
+      inl (eqb→eq k 5 (t 4), λ small. omega (arith, leb→le p a (t 3), small .0)),
+    )
+
 abbrev pub test : Row → Bool
-test (solves v g n) = solve-test v g n
+test (solves q v g n) = solve-test q v g n
 test (unsolved v k) = unsolved-test v k
 test (pushes v g n from to) = every (push-tests (certificate v g n) from to)
-test (kernel v g n) = every (codomain-tests v g n)
+test (kernel q h v g n) = every (codomain-tests q h v g n)
 test (no-kernel v g k) = every (no-kernel-tests v g k)
-test (refused v g n k) = every (refused-tests (certificate v g n) k)
+test (refused v g n k) = refused-test (certificate v g n) k
+test (unnamed p a b k) = every (unnamed-tests p a b k)
 test (refused-though v g n k) = every (though-tests v g n k)
 test (parts v g l m n) = every (part-tests v g l m n)
 
 pub row-holds : (r : Row) → T (test r) → Claim r
 unfolding Claim
-row-holds (solves v g n) t = solve-by-computing v g n t
+row-holds (solves q v g n) t = solve-by-computing q v g n t
 row-holds (unsolved v k) t = unsolved-by-computing v k t
 row-holds (pushes v g n from to) t = push-by-computing (certificate v g n) from to (every-yes (push-tests (certificate v g n) from to) t)
-row-holds (kernel v g n) t = kernel-by-computing v g n (every-yes (codomain-tests v g n) t)
+row-holds (kernel q h v g n) t = kernel-by-computing q h v g n (every-yes (codomain-tests q h v g n) t)
 row-holds (no-kernel v g k) t = no-kernel-by-computing v g k (every-yes (no-kernel-tests v g k) t)
-row-holds (refused v g n k) t = refused-by-computing (certificate v g n) k (every-yes (refused-tests (certificate v g n) k) t)
+row-holds (refused v g n k) t = refused-holds (certificate v g n) k t
+row-holds (unnamed p a b k) t = unnamed-by-computing p a b k (every-yes (unnamed-tests p a b k) t)
 row-holds (refused-though v g n k) t =
     let s : Every (though-tests v g n k) = every-yes (though-tests v g n k) t in (
       refused-by-computing (certificate v g n) k (every-yes (refused-tests (certificate v g n) k) (s 0)),

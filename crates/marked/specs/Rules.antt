@@ -291,8 +291,11 @@ none-by-computing v P odd t g m =
 
 -- ── curves and points
 
+abbrev pub singular-test : ℕ → ℕ → ℕ → Bool
+singular-test p a b = eqb ((4 * a ^ 3 + 27 * b ^ 2) % p) 0
+
 abbrev pub nonsingular-test : ℕ → ℕ → ℕ → Bool
-nonsingular-test p a b = not (eqb ((4 * a ^ 3 + 27 * b ^ 2) % p) 0)
+nonsingular-test p a b = not (singular-test p a b)
 
 abbrev pub on-curve-test : ℕ → ℕ → ℕ → ℕ → ℕ → Bool
 on-curve-test p a b u w = eqb (w ^ 2 % p) ((u ^ 3 + a * u + b) % p)
@@ -309,6 +312,12 @@ module _ {p : ℕ} (pos : 0 < p) (a b : ℕ) where
   unfolding discriminant
   nonsingular-by-computing t e =
       nonzero pos (4 * a ^ 3 + 27 * b ^ 2) t (agree p (numbers (a ∷ b ∷ [])) (num 4 :* var 0 :^ 3 :+ num 27 :* var 1 :^ 2) tt ∙ e)
+
+  pub singular-by-computing : T (singular-test p a b) → Nonsingular (Zmod p) (mk p a) (mk p b) → ⊥
+  unfolding discriminant
+  singular-by-computing t curve =
+      curve (sym (agree p (numbers (a ∷ b ∷ [])) (num 4 :* var 0 :^ 3 :+ num 27 :* var 1 :^ 2) tt)
+      ∙ mk-eq pos (4 * a ^ 3 + 27 * b ^ 2) 0 (eqb→eq _ 0 t ∙ sym (N.zero-mod p)))
 
   pub on-curve-by-computing : (u w : ℕ) → T (on-curve-test p a b u w) → OnCurve (Zmod p) (mk p a) (mk p b) (mk p u) (mk p w)
   unfolding OnCurve

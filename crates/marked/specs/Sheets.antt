@@ -1,109 +1,184 @@
--- Questions 2 to 7 put to a sheet of any form, by computing.
+-- Questions 2 to 7 put to a sheet of any form, by computing: all are answered with yes, or the first no is 5 or 6 because of
+-- a value, or 7 because of the domain.
 -- Assumes nothing.
-use mathlib.Core.Path.{_≡_, _∙_, ap, subst}
-use mathlib.Core.Bool.{Bool, true, cond}
+use mathlib.Core.Path.{_≡_, sym, _∙_, ap, subst}
+use mathlib.Core.Bool.{Bool, true, cond, not}
 use mathlib.Core.List.{List, [], _∷_, map}
-use Prim.Native.Nat.{ℕ, _*_, _-_, _%_, _^_, _<_, _≤_}
+use Prim.Native.Nat.{ℕ, zero, suc, _+_, _*_, _-_, _%_, _^_, _<_, _≤_}
 use native.Mathlib.Omega.{arith}
 use lib.Dec.{T, eqb, eqb→eq, leb, leb→le, ltb, ltb→lt}
-use lib.ListN.{length, getD, take, drop, List·getD-map}
-use lib.Seq.{getD-drop}
+use lib.ListN.{length, getD, take, drop, length-map, length-take, length-drop}
+use lib.Seq.{getD-take, getD-drop}
 use Rattle.ring.specs.Test.{both, both-left, both-right}
 use Rattle.zmod.specs.Prime.{Prime, prime-pos}
 use Rattle.zmod.specs.Calculation.{primeTest, prime-yes}
 use Rattle.sheet.specs.declared.Form.{Form}
 use Rattle.sheet.specs.Word.{kindOf, valueOf}
-use Rattle.sheet.specs.Form.{header, body, holds, entry}
-use Rattle.sheet.specs.Values.{valuesOf, half}
-use Rattle.questions.specs.Questions.{AllYes}
-use Rattle.sheet.specs.Asked.{asked, Asked2, Curves}
-use Rattle.marked.specs.Tests.{every, Every, every-yes, same-list, same-list-yes, below, below-yes}
-use Rattle.marked.specs.Rules.{nonsingular-test, nonsingular-by-computing}
-
-abbrev curve : Form → List ℕ → ℕ → ℕ → Bool
-curve form ws a b = nonsingular-test (entry form 1 ws) (entry form a ws) (entry form b ws)
+use Rattle.sheet.specs.declared.Values.{Values}
+use Rattle.sheet.specs.Form.{header, body, holds}
+use Rattle.sheet.specs.Values.{valuesOf, half, coefficientIn}
+use Rattle.sheet.specs.Reduction.{coefficient-at}
+use Rattle.questions.specs.Questions.{AllYes, FirstNo}
+use Rattle.questions.specs.Numbered.{first-no}
+use Rattle.sheet.specs.Asked.{asked, Asked2, PrimeAllowed, DegreeAllowed, ValuesBelow, Asked6, Curves}
+use Rattle.marked.specs.Tests.{every, Every, every-yes, same-list, same-list-yes, below, below-yes, below-no}
+use Rattle.marked.specs.Rules.{nonsingular-test, nonsingular-by-computing, singular-test, singular-by-computing}
 
 -- the codomain is asked where the header has it
-abbrev curves : Form → List ℕ → Bool
-curves form ws = both (curve form ws 2 3) (cond (holds 4 (header form)) (curve form ws 4 5) true)
+abbrev curves : Form → Values → Bool
+curves form v = both (nonsingular-test (v .p) (v .a) (v .b)) (cond (holds 4 (header form)) (nonsingular-test (v .p) (v .atilde) (v .btilde)) true)
 
-curves-yes : (form : Form) (ws : List ℕ) → 0 < valuesOf form ws .p → T (curves form ws) → Curves form (valuesOf form ws)
-curves-yes form ws pos t = record {
-  domain = nonsingular-by-computing pos _ _ (both-left (curve form ws 2 3) _ t);
+curves-yes : (form : Form) (v : Values) → 0 < v .p → T (curves form v) → Curves form v
+curves-yes form v pos t = record {
+  domain = nonsingular-by-computing pos _ _ (both-left (nonsingular-test (v .p) (v .a) (v .b)) _ t);
   codomain = λ e.
-      let u : T (cond (holds 4 (header form)) (curve form ws 4 5) true) = both-right (curve form ws 2 3) _ t in
-      nonsingular-by-computing pos _ _ (subst (λ b. T (cond b (curve form ws 4 5) true)) e u);
+      let u : T (cond (holds 4 (header form)) (nonsingular-test (v .p) (v .atilde) (v .btilde)) true) =
+      both-right (nonsingular-test (v .p) (v .a) (v .b)) _ t in
+      nonsingular-by-computing pos _ _ (subst (λ b. T (cond b (nonsingular-test (v .p) (v .atilde) (v .btilde)) true)) e u);
 }
 
 module _ (form : Form) (ws : List ℕ) where
+  abbrev v : Values
+  v = valuesOf form ws
+
   abbrev p : ℕ
-  p = entry form 1 ws
+  p = v .p
 
   abbrev ℓ : ℕ
-  ℓ = entry form 6 ws
+  ℓ = v .degree
+
+  abbrev h : ℕ
+  h = length (header form)
 
   abbrev rest : List ℕ
-  rest = drop (length (header form)) ws
+  rest = drop h ws
+
+  -- what is read of some words after the header
+  abbrev read : List ℕ → List ℕ
+  read us = map (coefficientIn form p) us
 
   abbrev values : List ℕ
-  values = entry form 2 ws ∷ entry form 3 ws ∷ entry form 4 ws ∷ entry form 5 ws ∷ entry form 7 ws ∷ []
+  values = v .a ∷ v .b ∷ v .atilde ∷ v .btilde ∷ v .sigma ∷ []
 
+  -- 2, 3 and 4
+  abbrev first-tests : List Bool
+  first-tests =
+      same-list (map kindOf (take h ws)) (header form)
+      ∷ primeTest p ∷ leb 11 p ∷ ltb p (2 ^ 28)
+      ∷ eqb (ℓ % 2) 1 ∷ leb 3 ℓ ∷ leb ℓ 255 ∷ ltb (2 * ℓ - 1) p ∷ []
+
+  -- 5 and 6
+  abbrev second-tests : List Bool
+  second-tests =
+      below p values
+      ∷ same-list (map kindOf rest) (body form (half v)) ∷ below p (read rest) ∷ eqb (valueOf (getD ws (length ws - 1) 0)) 0 ∷ []
+
+  -- and 7
   abbrev tests : List Bool
-  tests =
-      same-list (map kindOf (take (length (header form)) ws)) (header form)
-      ∷ primeTest p ∷ leb 11 p
-      ∷ eqb (ℓ % 2) 1 ∷ leb 3 ℓ ∷ leb ℓ 255 ∷ ltb (2 * ℓ - 1) p
-      ∷ below p values
-      ∷ same-list (map kindOf rest) (body form (half (valuesOf form ws))) ∷ below p (map valueOf rest) ∷ eqb (valueOf (getD ws (length ws - 1) 0)) 0
-      ∷ curves form ws ∷ ltb p (2 ^ 28) ∷ []
+  tests = every first-tests ∷ every second-tests ∷ curves form v ∷ []
 
   abbrev pub asked-test : Bool
   asked-test = every tests
 
-  yes : T asked-test → Every tests
-  yes t = every-yes tests t
+  first-yes : T asked-test → T (every first-tests)
+  first-yes t = every-yes tests t 0
+
+  -- ── the first three questions
+
+  module _ (t : T (every first-tests)) where
+    yes : Every first-tests
+    yes = every-yes first-tests t
+
+    two : Asked2 form ws
+    unfolding Asked2
+    two = same-list-yes _ _ (yes 0)
+
+    three : PrimeAllowed p
+    three = record { prime = prime-yes p (yes 1); least = leb→le 11 p (yes 2); most = ltb→lt p (2 ^ 28) (yes 3) }
+
+    four : DegreeAllowed ℓ p
+    four = record {
+      odd = eqb→eq (ℓ % 2) 1 (yes 4);
+      least = leb→le 3 ℓ (yes 5);
+      most = leb→le ℓ 255 (yes 6);
+      small = ltb→lt (2 * ℓ - 1) p (yes 7);
+    }
+
+    positive : 0 < p
+    positive = prime-pos (three .prime)
 
   pub prime-by-computing : T asked-test → Prime p
-  prime-by-computing t = prime-yes p (yes t 1)
+  prime-by-computing t = three (first-yes t) .prime
 
   pub least-by-computing : T asked-test → 11 ≤ p
-  least-by-computing t = leb→le 11 p (yes t 2)
+  least-by-computing t = three (first-yes t) .least
 
-  below-at : 0 < p → T (below p (map valueOf rest)) → (i : ℕ) → length (header form) ≤ i → valueOf (getD ws i 0) < p
+  -- ── all of them
+
+  five-yes : 0 < p → T (below p values) → ValuesBelow v
+  five-yes pos t =
+      let small : (i : ℕ) → getD values i 0 < p = below-yes p pos values t in
+      record { a = small 0; b = small 1; atilde = small 2; btilde = small 3; sigma = small 4 }
+
+  below-at : 0 < p → T (below p (read rest)) → (i : ℕ) → h ≤ i → coefficientIn form p (getD ws i 0) < p
   below-at pos t i l =
-      let j : ℕ = i - length (header form) in
-      let e : getD (map valueOf rest) j 0 ≡ valueOf (getD ws i 0) =
-      List·getD-map valueOf rest j 0 ∙ ap valueOf (getD-drop (length (header form)) ws j 0 ∙ ap (λ k. getD ws k 0) (omega arith))
-      in
-      subst (λ x. x < p) e (below-yes p pos (map valueOf rest) t j)
+      let e : getD (read rest) (i - h) 0 ≡ coefficientIn form p (getD ws i 0) =
+      coefficient-at form p rest (i - h) ∙ ap (coefficientIn form p) (getD-drop h ws (i - h) 0 ∙ ap (λ k. getD ws k 0) (omega arith)) in
+      subst (λ x. x < p) e (below-yes p pos (read rest) t (i - h))
+
+  six-yes : 0 < p → Every second-tests → Asked6 form ws
+  six-yes pos s = record { kinds = same-list-yes _ _ (s 1); below = λ i l m. below-at pos (s 2) i l; end = eqb→eq _ _ (s 3) }
 
   pub asked-by-computing : T asked-test → AllYes (asked form ws)
-  unfolding Asked2
   asked-by-computing t =
-      let s : Every tests = yes t in
-      let pos : 0 < p = prime-pos (prime-by-computing t) in
-      let small : (i : ℕ) → getD values i 0 < p = below-yes p pos values (s 7) in (
-        same-list-yes _ _ (s 0),
-        (
-          record { prime = prime-by-computing t; least = least-by-computing t; most = ltb→lt p (2 ^ 28) (s 12) },
-          (
-            record {
-              odd = eqb→eq (ℓ % 2) 1 (s 3);
-              least = leb→le 3 ℓ (s 4);
-              most = leb→le ℓ 255 (s 5);
-              small = ltb→lt (2 * ℓ - 1) p (s 6);
-            },
-            (
-              record { a = small 0; b = small 1; atilde = small 2; btilde = small 3; sigma = small 4 },
-              (
-                record {
-                  kinds = same-list-yes _ _ (s 8);
-                  below = λ i l m. below-at pos (s 9) i l;
-                  end = eqb→eq _ _ (s 10);
-                },
-                (curves-yes form ws pos (s 11), tt),
-              ),
-            ),
-          ),
-        ),
-      )
+      let first : T (every first-tests) = first-yes t in
+      let pos : 0 < p = positive (first-yes t) in
+      let s : Every second-tests = every-yes second-tests (every-yes tests t 1) in
+      (two first, (three first, (four first, (five-yes pos (s 0), (six-yes pos s, (curves-yes form v pos (every-yes tests t 2), tt))))))
+
+  -- ── refused with 5, or with 6 for a coefficient: some value is not below p
+
+  abbrev pub fifth-tests : List Bool
+  fifth-tests = every first-tests ∷ not (below p values) ∷ []
+
+  pub fifth-by-computing : Every fifth-tests → FirstNo (asked form ws) 5
+  fifth-by-computing t =
+      first-no (asked form ws) 5 tt (two (t 0), (three (t 0), (four (t 0), tt))) (λ b. below-no p values (t 1) (λ i l. at b i))
+    where
+      at : ValuesBelow v → (i : ℕ) → getD values i 0 < p
+      at b zero = b .a
+      at b (suc zero) = b .b
+      at b (suc (suc zero)) = b .atilde
+      at b (suc (suc (suc zero))) = b .btilde
+      at b (suc (suc (suc (suc zero)))) = b .sigma
+      at b (suc (suc (suc (suc (suc i))))) = positive (t 0)
+
+  -- the words before the end
+  abbrev inner : List ℕ
+  inner = take (length rest - 1) rest
+
+  abbrev pub sixth-tests : List Bool
+  sixth-tests = every first-tests ∷ below p values ∷ not (below p (read inner)) ∷ []
+
+  pub sixth-by-computing : Every sixth-tests → FirstNo (asked form ws) 6
+  sixth-by-computing t =
+      first-no (asked form ws) 6 tt (two (t 0), (three (t 0), (four (t 0), (five-yes (positive (t 0)) (t 1), tt)))) (λ a.
+      below-no p (read inner) (t 2) (λ i l. at a i (omega (arith, l, length-map inner (coefficientIn form p), length-take (length rest - 1) rest))))
+    where
+      at : Asked6 form ws → (i : ℕ) → i < length rest - 1 → getD (read inner) i 0 < p
+      at a i l =
+          let e : getD (read inner) i 0 ≡ coefficientIn form p (getD ws (h + i) 0) =
+          coefficient-at form p inner i ∙ ap (coefficientIn form p) (getD-take (length rest - 1) rest i 0 l ∙ getD-drop h ws i 0) in
+          subst (λ x. x < p) (sym e) (a .below (h + i) (omega arith) (omega (arith, length-drop h ws)))
+
+  -- ── refused with 7: the domain is no curve
+
+  abbrev pub seventh-tests : List Bool
+  seventh-tests = every first-tests ∷ every second-tests ∷ singular-test p (v .a) (v .b) ∷ []
+
+  pub seventh-by-computing : Every seventh-tests → FirstNo (asked form ws) 7
+  seventh-by-computing t =
+      let pos : 0 < p = positive (t 0) in
+      let s : Every second-tests = every-yes second-tests (t 1) in
+      first-no (asked form ws) 7 tt (two (t 0), (three (t 0), (four (t 0), (five-yes pos (s 0), (six-yes pos s, tt)))))
+      (λ curves. singular-by-computing pos (v .a) (v .b) (t 2) (curves .domain))

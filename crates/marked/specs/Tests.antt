@@ -1,11 +1,13 @@
 -- Tests that the checker computes: several in one, equal lists, and lists of numbers below a bound.
 -- Assumes nothing.
-use mathlib.Core.Path.{_≡_, refl, ap₂}
-use mathlib.Core.Bool.{Bool, true, false}
+use mathlib.Core.Path.{_≡_, refl, ap₂, subst}
+use mathlib.Core.Bool.{Bool, true, false, not}
 use mathlib.Core.List.{List, [], _∷_}
 use Prim.Native.Nat.{ℕ, zero, suc, _<_}
+use borrow.Author.Tests.{lt-ltb}
 use lib.Dec.{T, eqb, eqb→eq, ltb, ltb→lt}
-use lib.ListN.{getD}
+use native.Mathlib.Omega.{arith}
+use lib.ListN.{length, getD}
 use Rattle.ring.specs.Test.{both, both-left, both-right}
 
 -- every test of a list passes
@@ -45,3 +47,11 @@ pub below-yes : (p : ℕ) → 0 < p → (xs : List ℕ) → T (below p xs) → (
 below-yes p pos [] t i = pos
 below-yes p pos (x ∷ xs) t zero = ltb→lt x p (both-left (ltb x p) (below p xs) t)
 below-yes p pos (x ∷ xs) t (suc i) = below-yes p pos xs (both-right (ltb x p) (below p xs) t) i
+
+-- numbers that are all below p pass, so where the test fails some number is not
+below-all : (p : ℕ) (xs : List ℕ) → ((i : ℕ) → i < length xs → getD xs i 0 < p) → below p xs ≡ true
+below-all p [] small = refl
+below-all p (x ∷ xs) small = ap₂ both (lt-ltb x p (small 0 (omega arith))) (below-all p xs (λ i l. small (suc i) (omega arith)))
+
+pub below-no : (p : ℕ) (xs : List ℕ) → T (not (below p xs)) → ((i : ℕ) → i < length xs → getD xs i 0 < p) → ⊥
+below-no p xs t small = subst (λ b. T (not b)) (below-all p xs small) t
