@@ -1,9 +1,10 @@
-//! An independent implementation of document 01: normalized isogenies of odd
-//! degree between elliptic curves over a prime field.
+//! An independent implementation of document 01 and of the requests of document 02
+//! that have landed: normalized isogenies of odd degree between elliptic curves
+//! over a prime field.
 //!
-//! It is written from that document alone and serves as the expectation in
-//! comparisons with the C library. It prefers the shortest route from the
-//! document's words to code; nothing here is tuned beyond what the tests need.
+//! It is written from these documents alone and serves as the expectation in
+//! comparisons with the C library. It prefers the shortest route from their
+//! words to code; nothing here is tuned beyond what the tests need.
 //!
 //! Letters follow the document: curve (a, b) is y^2 = x^3 + ax + b, the codomain
 //! is (a_t, b_t), the degree is l = 2d + 1, and g, n, sigma are its g, N, sigma.
@@ -24,3 +25,4 @@ pub mod rules;
 pub mod services;
 pub mod sheet;
 pub mod spoil;
+pub mod unreduced;

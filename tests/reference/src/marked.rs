@@ -1,6 +1,7 @@
 //! The rows of "The marked sheets and their neighbours" in document 01, and
 //! the output that it prints. Every expectation is copied from there; where it
-//! prints a g but no N, N is taken from R2. The parts of N are document 02's.
+//! prints a g but no N, N is taken from R2. The parts of N are document 02's, and so
+//! is what became of A = p.
 
 use crate::call::{point_number, Call, Reply};
 use crate::field::Field;
@@ -56,6 +57,7 @@ fn kernel_sheet(p: u64, a: u64, b: u64, l: u64, g: &[i64]) -> Vec<u32> {
 pub fn rows() -> Vec<Row> {
     let mut rows = marked();
     rows.extend(neighbours());
+    rows.extend(unreduced());
     rows
 }
 
@@ -147,16 +149,11 @@ fn neighbours() -> Vec<Row> {
             Call::check(&composite),
             Reply::number(3),
         ),
-        // a = p fails question 5, so question 4 was passed.
-        unsolved(
-            "l = 5 over 11 passes question 4",
-            [11, 11, 1, 0, 6, 5, 0],
-            5,
-        ),
+        // a = b = 0 fails question 7, so question 4 was passed.
+        unsolved("l = 5 over 11 passes question 4", [11, 0, 0, 0, 6, 5, 0], 7),
         unsolved("l = 7 over 11", [11, 0, 1, 0, 6, 7, 0], 4),
-        unsolved("l = 7 over 11 before a = p", [11, 11, 1, 0, 6, 7, 0], 4),
+        unsolved("l = 7 over 11 before a = b = 0", [11, 0, 0, 0, 6, 7, 0], 4),
         unsolved("l = 6", [1009, 1, 3, 265, 877, 6, 46], 4),
-        unsolved("a = p", [1009, 1009, 3, 265, 877, 3, 46], 5),
         row("a ninth word", Call::solve(&ninth_word), Reply::refused(6)),
         unsolved("a = b = 0", [1009, 0, 0, 265, 877, 3, 46], 7),
         row(
@@ -185,5 +182,41 @@ fn neighbours() -> Vec<Row> {
             },
             Reply::number(269),
         ),
+    ]
+}
+
+/// Request E2: A = p is A = 0 on a question, and p + 1 is 1 on a kernel sheet. On a
+/// certificate, and for name, A = p is refused as document 01 has it.
+fn unreduced() -> Vec<Row> {
+    let kernel = KernelSheet {
+        p: 11,
+        a: 11,
+        b: 12,
+        l: 3,
+        g: vec![11, 12],
+    };
+    let mut large = first();
+    large.question.a = 1009;
+    let large_name = Call::Name {
+        p: 1009,
+        a: 1009,
+        b: 3,
+    };
+    vec![
+        row(
+            "a = p over 11",
+            Call::solve(&Question::of([11, 11, 1, 0, 6, 3, 0]).words()),
+            Reply::written(smallest().words()),
+        ),
+        // a = 0 wants 15 s_2 = 5 h_1 = -265, but sigma = 46 makes s_2 = 2 * 23^2.
+        unsolved("a = p over 1009", [1009, 1009, 3, 265, 877, 3, 46], 11),
+        unsolved("a = b = p", [1009, 1009, 1009, 265, 877, 3, 46], 7),
+        row(
+            "kernel with values from p on",
+            Call::kernel(&kernel.words()),
+            Reply::written(smallest().words()),
+        ),
+        checked("a = p on a certificate", &large, 5),
+        row("a = p for name", large_name, Reply::refused(5)),
     ]
 }

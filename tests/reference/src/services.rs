@@ -4,7 +4,7 @@
 use crate::field::Field;
 use crate::poly::Poly;
 use crate::rules::{self, R3};
-use crate::sheet::{self, Certificate, KernelSheet, Question, Refusal};
+use crate::sheet::{self, Certificate, KernelSheet, Question, Reading, Refusal};
 
 #[derive(Clone, Copy, Debug, PartialEq, Eq)]
 pub enum Checked {
@@ -108,7 +108,7 @@ pub fn solve(words: &[u32], room: usize) -> Written {
 }
 
 /// The g that the recurrence and Newton's identities give, if it meets R1 and
-/// R3 with the N of R2. The question has passed 3, 4, 5 and 7.
+/// R3 with the N of R2. The question has passed 3, 4 and 7, its values are below p.
 pub fn solution(q: &Question) -> Option<Certificate> {
     let candidate = recurrence_candidate(q);
     let (g, _) = candidate.polynomials();
@@ -169,7 +169,7 @@ pub fn name(p: u64, a: u64, b: u64) -> Named {
 
 fn j_value(p: u64, a: u64, b: u64) -> Result<u64, Refusal> {
     sheet::ask_prime(p)?;
-    sheet::ask_values(&[a, b], p)?;
+    let [a, b] = sheet::ask_values([a, b], p, Reading::Strict)?;
     sheet::ask_curve(p, a, b)?;
     let field = Field::new(p);
     let four_cubes = field.mul(field.of(4), field.pow(a, 3));

@@ -1,6 +1,7 @@
 //! Sheets of 32-bit words: their three forms, how they are written, and
-//! questions 2 to 7 of document 01, each as one function. A refusal is the
-//! number of the question that got the "no".
+//! questions 2 to 7 of document 01, each as one function, with the values of
+//! question and kernel sheets read as request E2 wants. A refusal is the number of
+//! the question that got the "no".
 
 use crate::field::Field;
 use crate::poly::Poly;
@@ -50,6 +51,26 @@ pub struct Question {
     pub b_t: u64,
     pub l: u64,
     pub sigma: u64,
+}
+
+/// How a value that is to be a field element is read.
+#[derive(Clone, Copy, Debug, PartialEq, Eq)]
+pub enum Reading {
+    /// As it stands; one that is not below p gets a "no". Certificates and name.
+    Strict,
+    /// Modulo p, whatever its size (request E2). Question and kernel sheets.
+    Reduced,
+}
+
+impl Reading {
+    /// The field element, or the number of the question that asks for its size.
+    pub fn value(self, value: u64, p: u64, number: Refusal) -> Result<u64, Refusal> {
+        match self {
+            Reading::Strict if value >= p => Err(number),
+            Reading::Strict => Ok(value),
+            Reading::Reduced => Ok(value % p),
+        }
+    }
 }
 
 /// g has d + 1 coefficients, n has 2d + 2, both from the constant term up.
@@ -116,16 +137,26 @@ pub fn ask_degree(l: u64, p: u64) -> Result<(), Refusal> {
     no_unless(l % 2 == 1 && (3..=255).contains(&l) && 2 * l - 1 < p, 4)
 }
 
-/// Question 5.
-pub fn ask_values(values: &[u64], p: u64) -> Result<(), Refusal> {
-    no_unless(values.iter().all(|&v| v < p), 5)
+/// Question 5: the field elements. A reduced reading gets no "no".
+pub fn ask_values<const COUNT: usize>(
+    values: [u64; COUNT],
+    p: u64,
+    reading: Reading,
+) -> Result<[u64; COUNT], Refusal> {
+    let mut elements = values;
+    for element in &mut elements {
+        *element = reading.value(*element, p, 5)?;
+    }
+    Ok(elements)
 }
 
-/// Question 6: the runs of coefficients (kind and count), then the end.
+/// Question 6: the runs of coefficients (kind and count), then the end, whose
+/// value is 0 whatever the reading.
 pub fn ask_rest<const RUNS: usize>(
     rest: &[u32],
     runs: [(u32, usize); RUNS],
     p: u64,
+    reading: Reading,
 ) -> Result<[Vec<u64>; RUNS], Refusal> {
     let total: usize = runs.iter().map(|&(_, count)| count).sum();
     no_unless(rest.len() == total + 1 && rest[total] == word(END, 0), 6)?;
@@ -133,8 +164,8 @@ pub fn ask_rest<const RUNS: usize>(
     let mut values = [const { Vec::new() }; RUNS];
     for (list, (run_kind, count)) in values.iter_mut().zip(runs) {
         for &w in &rest[start..start + count] {
-            no_unless(kind(w) == run_kind && value(w) < p, 6)?;
-            list.push(value(w));
+            no_unless(kind(w) == run_kind, 6)?;
+            list.push(reading.value(value(w), p, 6)?);
         }
         start += count;
     }
@@ -190,16 +221,13 @@ impl Question {
         words
     }
 
-    /// Questions 2 to 5.
-    fn read_head(words: &[u32]) -> Result<Question, Refusal> {
-        let question = Question::of(ask_head(words, QUESTION_HEAD)?);
-        let Question { p, l, sigma, .. } = question;
+    /// Questions 2 to 5; p and l are never reduced.
+    fn read_head(words: &[u32], reading: Reading) -> Result<Question, Refusal> {
+        let [p, a, b, a_t, b_t, l, sigma] = ask_head(words, QUESTION_HEAD)?;
         ask_prime(p)?;
         ask_degree(l, p)?;
-        let curves = [question.a, question.b, question.a_t, question.b_t];
-        ask_values(&curves, p)?;
-        ask_values(&[sigma], p)?;
-        Ok(question)
+        let [a, b, a_t, b_t, sigma] = ask_values([a, b, a_t, b_t, sigma], p, reading)?;
+        Ok(Question::of([p, a, b, a_t, b_t, l, sigma]))
     }
 
     fn ask_curves(&self) -> Result<(), Refusal> {
@@ -209,8 +237,9 @@ impl Question {
 
     /// Questions 2 to 7.
     pub fn read(words: &[u32]) -> Result<Question, Refusal> {
-        let question = Question::read_head(words)?;
-        ask_rest(&words[QUESTION_HEAD.len()..], [], question.p)?;
+        let reading = Reading::Reduced;
+        let question = Question::read_head(words, reading)?;
+        ask_rest(&words[QUESTION_HEAD.len()..], [], question.p, reading)?;
         question.ask_curves()?;
         Ok(question)
     }
@@ -239,12 +268,14 @@ impl Certificate {
 
     /// Questions 2 to 7.
     pub fn read(words: &[u32]) -> Result<Certificate, Refusal> {
-        let question = Question::read_head(words)?;
+        let reading = Reading::Strict;
+        let question = Question::read_head(words, reading)?;
         let d = question.d();
         let [g, n] = ask_rest(
             &words[QUESTION_HEAD.len()..],
             [(G, d + 1), (N, 2 * d + 2)],
             question.p,
+            reading,
         )?;
         question.ask_curves()?;
         Ok(Certificate { question, g, n })
@@ -286,9 +317,10 @@ impl KernelSheet {
         let [p, a, b, l] = ask_head(words, KERNEL_HEAD)?;
         ask_prime(p)?;
         ask_degree(l, p)?;
-        ask_values(&[a, b], p)?;
+        let reading = Reading::Reduced;
+        let [a, b] = ask_values([a, b], p, reading)?;
         let rest = &words[KERNEL_HEAD.len()..];
-        let [g] = ask_rest(rest, [(G, half(l) + 1)], p)?;
+        let [g] = ask_rest(rest, [(G, half(l) + 1)], p, reading)?;
         ask_curve(p, a, b)?;
         ask_leading_one(&g)?;
         Ok(KernelSheet { p, a, b, l, g })

@@ -1,10 +1,12 @@
 //! Calls that fail several questions at once, with the number of the first of
 //! them: document 01's order of questions as cases. Each spoiler makes one
-//! question fail and leaves those before it alone.
+//! question fail and leaves those before it alone. Question 5, and question 6 for
+//! the size of a coefficient, can fail on certificates only, as request E2 has it.
 
 use crate::call::{Call, INFINITY};
 use crate::sheet::{self, kind, value, word, Certificate, Refusal};
 use crate::sheet::{A, A_T, B, B_T, END, G, L, N, P, SIGMA};
+use crate::unreduced;
 
 #[derive(Clone, Copy, Debug, PartialEq, Eq)]
 pub enum Service {
@@ -29,6 +31,20 @@ pub struct Draft {
 pub struct Spoiler {
     pub number: Refusal,
     spoil: fn(&mut Draft),
+}
+
+impl Service {
+    pub const ALL: [Service; 4] = [
+        Service::Check,
+        Service::Push,
+        Service::Solve,
+        Service::Kernel,
+    ];
+
+    /// Whether the sheet is a certificate, whose values have to be below p.
+    fn is_strict(self) -> bool {
+        matches!(self, Service::Check | Service::Push)
+    }
 }
 
 impl Draft {
@@ -63,6 +79,15 @@ impl Draft {
     fn next(&mut self, wanted: u32) {
         let i = self.position(wanted);
         self.set(wanted, (value(self.words[i]) + 1) % self.p);
+    }
+
+    /// The same sheet with values from p on, which E2 reduces.
+    fn raised(&self) -> Draft {
+        let words = unreduced::with_values(&self.words, |v, p| v + p);
+        Draft {
+            words,
+            ..self.clone()
+        }
     }
 
     /// Puts a value into the last word of a kind.
@@ -126,11 +151,19 @@ fn late(service: Service) -> Vec<Spoiler> {
         Service::Solve => all.extend(list(11, &[|s| s.next(B_T), |s| s.next(SIGMA)])),
         Service::Kernel => {
             all.extend(list(11, &[|s| s.next(G)]));
-            all.extend(list(8, &[|s| s.set_last(G, 2), |s| s.set_last(G, 0)]));
+            all.extend(list(
+                8,
+                &[
+                    |s| s.set_last(G, 2),
+                    |s| s.set_last(G, 0),
+                    |s| s.set_last(G, s.p),
+                    |s| s.set_last(G, s.p + 2),
+                ],
+            ));
         }
         Service::Check => {}
     }
-    if matches!(service, Service::Check | Service::Push) {
+    if service.is_strict() {
         all.extend(list(10, &[|s| s.next(A_T), |s| s.next(B_T)]));
         all.extend(list(9, &[|s| s.next(N), |s| s.set_last(N, 0)]));
         all.extend(list(8, &r1));
@@ -154,12 +187,22 @@ fn common(service: Service) -> Vec<Spoiler> {
             }],
         ));
     }
+    if !service.is_strict() {
+        all.extend(list(
+            7,
+            &[|s| {
+                s.set(A, s.p);
+                s.set(B, 2 * s.p);
+            }],
+        ));
+    }
     all.extend(list(
         6,
         &[
             |s| s.words.push(word(END, 0)),
             |s| s.words.extend([word(P, 11); 400]),
             |s| s.set_last(END, 1),
+            |s| s.set_last(END, s.p),
             |s| s.words.truncate(s.words.len() - 1),
             |s| s.words.truncate(s.head()),
         ],
@@ -168,8 +211,6 @@ fn common(service: Service) -> Vec<Spoiler> {
         all.extend(list(
             6,
             &[
-                |s| s.set(G, s.p),
-                |s| s.set(G, sheet::VALUE_LIMIT - 1),
                 |s| {
                     let i = s.position(G);
                     s.words[i] = word(N, 1);
@@ -181,11 +222,21 @@ fn common(service: Service) -> Vec<Spoiler> {
             ],
         ));
     }
-    all.extend(list(5, &[|s| s.set(A, s.p), |s| s.set(B, s.p)]));
-    if service != Service::Kernel {
+    if service.is_strict() {
+        all.extend(list(
+            6,
+            &[
+                |s| s.set(G, s.p),
+                |s| s.set_last(G, s.p + 1),
+                |s| s.set(G, sheet::VALUE_LIMIT - 1),
+                |s| s.set_last(N, s.p + 1),
+            ],
+        ));
         all.extend(list(
             5,
             &[
+                |s| s.set(A, s.p),
+                |s| s.set(B, s.p),
                 |s| s.set(A_T, sheet::VALUE_LIMIT - 1),
                 |s| s.set(B_T, s.p),
                 |s| s.set(SIGMA, s.p),
@@ -202,12 +253,15 @@ fn common(service: Service) -> Vec<Spoiler> {
             |s| s.set(L, 256),
             |s| s.set(L, 257),
             |s| s.set(L, sheet::VALUE_LIMIT - 1),
+            // Lawful if it were reduced.
+            |s| s.set(L, 3 + 2 * s.p),
         ],
     ));
     all.extend(list(
         3,
         &[
             |s| s.set(P, 1001),
+            |s| s.set(P, 2 * s.p),
             |s| s.set(P, 0),
             |s| s.set(P, 1),
             |s| s.set(P, 7),
@@ -230,28 +284,29 @@ fn early(service: Service) -> Vec<Spoiler> {
             |s| s.words.swap(1, 2),
         ],
     );
-    match service {
-        Service::Check | Service::Push => {
-            all.extend(list(
-                2,
-                &[|s| s.stray = vec![0], |s| s.stray = vec![1, 2, 3]],
-            ));
-        }
-        Service::Solve | Service::Kernel => {
-            all.extend(list(1, &[|s| s.room = 391, |s| s.room = 0]));
-        }
+    if service.is_strict() {
+        all.extend(list(
+            2,
+            &[|s| s.stray = vec![0], |s| s.stray = vec![1, 2, 3]],
+        ));
+    } else {
+        all.extend(list(1, &[|s| s.room = 391, |s| s.room = 0]));
     }
     all
 }
 
 /// Every choice of at most three spoilers with different numbers, and the
-/// number that the call must get. Applied by falling number: a later one may
-/// undo an earlier one, never the other way round.
+/// number that the call must get; for sheets whose values are reduced, also with
+/// values from p on. Applied by falling number: a later one may undo an earlier
+/// one, never the other way round.
 pub fn cases(service: Service, certificate: &Certificate) -> Vec<(Call, Refusal)> {
     let all = spoilers(service);
     let draft = Draft::new(service, certificate);
     let mut cases = Vec::new();
     extend_cases(&draft, &all, 3, &mut cases);
+    if !service.is_strict() {
+        extend_cases(&draft.raised(), &all, 3, &mut cases);
+    }
     cases
 }
 

@@ -58,12 +58,7 @@ fn first_no_decides() {
     let mut random = Random::new(2);
     let composed = generate::chain(&mut random, 65521, &[3, 5], 2000).expect("a chain");
     for certificate in [marked::first(), marked::not_cyclic(), composed] {
-        for service in [
-            Service::Check,
-            Service::Push,
-            Service::Solve,
-            Service::Kernel,
-        ] {
+        for service in Service::ALL {
             for (call, number) in spoil::cases(service, &certificate) {
                 assert_eq!(call.reply(), call.refusal(number), "{call:?}");
             }

@@ -3,13 +3,18 @@
 use std::collections::HashMap;
 
 use reference::brute::{all_isogenies, all_monic, all_pairs, is_curve};
+use reference::call::{Call, Reply};
 use reference::field::Field;
+use reference::random::Random;
 use reference::rules::{self, R3};
 use reference::services;
-use reference::sheet::{self, Certificate, Question};
+use reference::sheet::{self, Certificate, KernelSheet, Question};
+use reference::unreduced::raised;
 
-/// Solve on every question over p with this degree.
+/// Solve on every question over p with this degree, as it stands and with values
+/// of any size.
 fn solve_agrees(p: u64, l: u64) {
+    let mut random = Random::new(p);
     for (a, b) in all_pairs(p).filter(|&(a, b)| is_curve(p, a, b)) {
         let mut found: HashMap<(u64, u64, u64), Certificate> = HashMap::new();
         for c in all_isogenies(p, a, b, l) {
@@ -22,13 +27,21 @@ fn solve_agrees(p: u64, l: u64) {
                 let question = Question::of([p, a, b, a_t, b_t, l, sigma]);
                 let expected = found.get(&(a_t, b_t, sigma));
                 assert_eq!(services::solution(&question).as_ref(), expected);
+                let asked = Call::solve(&raised(&mut random, &question.words()));
+                assert_eq!(asked.reply(), reply(expected));
             }
         }
     }
 }
 
-/// Kernel on every monic g over p with this degree.
+fn reply(expected: Option<&Certificate>) -> Reply {
+    expected.map_or(Reply::refused(11), |c| Reply::written(c.words()))
+}
+
+/// Kernel on every monic g over p with this degree, as it stands and with values of
+/// any size.
 fn kernel_agrees(p: u64, l: u64) {
+    let mut random = Random::new(p);
     let field = Field::new(p);
     for (a, b) in all_pairs(p).filter(|&(a, b)| is_curve(p, a, b)) {
         let mut found: HashMap<Vec<u64>, Certificate> = HashMap::new();
@@ -42,6 +55,10 @@ fn kernel_agrees(p: u64, l: u64) {
             let expected = found.get(g.coefficients());
             assert_eq!(services::from_kernel(p, a, b, l, &g).as_ref(), expected);
             codomain_agrees(a, b, l, &g);
+            let g = g.coefficients().to_vec();
+            let sheet = KernelSheet { p, a, b, l, g }.words();
+            let asked = Call::kernel(&raised(&mut random, &sheet));
+            assert_eq!(asked.reply(), reply(expected));
         }
     }
 }

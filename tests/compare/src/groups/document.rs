@@ -32,12 +32,7 @@ pub fn samples() -> Vec<Certificate> {
 /// One, two and three failing questions: the first gives its number.
 pub fn order(judge: &mut Judge) {
     for certificate in samples() {
-        for service in [
-            Service::Check,
-            Service::Push,
-            Service::Solve,
-            Service::Kernel,
-        ] {
+        for service in Service::ALL {
             for (call, number) in spoil::cases(service, &certificate) {
                 judge.refuses(&call, number);
             }

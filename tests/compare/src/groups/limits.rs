@@ -1,6 +1,8 @@
 //! Limits that document 01 names: buffer sizes, degrees, names.
 
 use reference::call::{Call, Reply};
+use reference::field::Field;
+use reference::generate::singular;
 use reference::primes::{next_prime, sieve};
 use reference::random::Random;
 use reference::sheet::{bytes_of, word, KernelSheet, Question, A, L, P};
@@ -95,11 +97,8 @@ pub fn names(judge: &mut Judge, quick: bool) {
         for (a, b) in [(a, b), (0, b), (a, 0), (p - 1, b), (a, p), (a | 1 << 28, b)] {
             judge.agrees(&Call::Name { p, a, b });
         }
-        // A singular curve: a = -3t^2, b = 2t^3.
-        let field = reference::field::Field::new(u64::from(p));
-        let t = u64::from(a);
-        let a = field.mul(field.of(-3), field.pow(t, 2)) as u32;
-        let b = field.mul(2, field.pow(t, 3)) as u32;
+        let (a, b) = singular(Field::new(u64::from(p)), u64::from(a));
+        let (a, b) = (a as u32, b as u32);
         judge.refuses(&Call::Name { p, a, b }, 7);
     }
 }
