@@ -1,15 +1,17 @@
 //! Which outcomes the cases expected: for each entry, how often it had to
 //! accept and how often each number had to be given. A run of all groups in
-//! which an outcome of document 01 never came up would say too little.
+//! which an outcome of document 01 never came up would say too little, and one in
+//! which another came up would say something wrong.
 
 use reference::call::{Call, Reply, REFUSED};
 
-/// Each entry with the questions it puts.
+/// Each entry with the questions that can stop it. Since request E2 question 5 stops
+/// neither solve nor kernel.
 const ENTRIES: [(&str, &[usize]); 5] = [
     ("check", &[2, 3, 4, 5, 6, 7, 8, 9, 10]),
     ("push", &[2, 3, 4, 5, 6, 7, 8, 9, 10, 12]),
-    ("solve", &[1, 2, 3, 4, 5, 6, 7, 11]),
-    ("kernel", &[1, 2, 3, 4, 5, 6, 7, 8, 11]),
+    ("solve", &[1, 2, 3, 4, 6, 7, 11]),
+    ("kernel", &[1, 2, 3, 4, 6, 7, 8, 11]),
     ("name", &[3, 5, 7]),
 ];
 
@@ -57,5 +59,16 @@ impl Coverage {
     pub fn is_complete(&self) -> bool {
         let mut rows = ENTRIES.iter().zip(&self.counts);
         rows.all(|((_, asked), counts)| counts[0] > 0 && asked.iter().all(|&n| counts[n] > 0))
+    }
+
+    /// What was expected of an entry and cannot be right, as "solve: 5".
+    pub fn impossible(&self) -> Vec<String> {
+        let mut found = Vec::new();
+        for ((name, asked), counts) in ENTRIES.iter().zip(&self.counts) {
+            let met = (1..counts.len()).filter(|&n| counts[n] > 0);
+            let wrong = met.filter(|n| !asked.contains(n));
+            found.extend(wrong.map(|n| format!("{name}: {n}")));
+        }
+        found
     }
 }

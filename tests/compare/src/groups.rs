@@ -10,6 +10,7 @@ pub mod limits;
 pub mod numerator;
 pub mod points;
 pub mod primes;
+pub mod reduction;
 pub mod search;
 
 use crate::judge::Judge;
@@ -73,10 +74,15 @@ fn by_search(quick: bool) -> Vec<Group> {
     let mut groups: Vec<Group> = whole
         .map(|(p, l)| {
             group(format!("search p={p} l={l}"), move |judge| {
-                search::whole(judge, p, l);
+                search::whole(judge, p, l, |words| words);
             })
         })
         .collect();
+    groups.extend(search::unreduced_fields(quick).into_iter().map(|(p, l)| {
+        group(format!("search p={p} l={l}, unreduced"), move |judge| {
+            search::unreduced(judge, p, l);
+        })
+    }));
     groups.extend(search::larger_fields(quick).into_iter().map(|(p, l)| {
         group(format!("near answers p={p} l={l}"), move |judge| {
             search::near(judge, p, l);
@@ -93,7 +99,13 @@ fn by_generation(quick: bool) -> Vec<Group> {
         })
     };
     let mut groups: Vec<Group> = certificates::primes(quick).into_iter().map(over).collect();
-    let others: [(&str, WithQuick); 8] = [
+    groups.extend(reduction::primes(quick).into_iter().map(|p| {
+        group(format!("reduction p={p}"), move |judge| {
+            reduction::over(judge, p, quick);
+        })
+    }));
+    let others: [(&str, WithQuick); 9] = [
+        ("reduction, multiples of 11", reduction::multiples_of_11),
         ("certificates, least primes", certificates::least_primes),
         ("certificates, composed", certificates::composed),
         ("damage", damage::run),

@@ -1,5 +1,5 @@
 //! Compares the C entries of the library with an independent implementation of
-//! document 01 and with exhaustive search. See the README beside it.
+//! documents 01 and 02 and with exhaustive search. See the README beside it.
 
 mod coverage;
 mod entries;
@@ -109,6 +109,11 @@ fn main() -> ExitCode {
     }
     let (differences, seconds) = (judge::differences(), start.elapsed().as_secs_f64());
     println!("total: {cases} cases, {differences} differences, {seconds:.1} s");
+    let impossible = coverage.impossible().join(", ");
+    if !impossible.is_empty() {
+        eprintln!("expected, though no input may get it: {impossible}");
+        return ExitCode::FAILURE;
+    }
     let whole = options.only.is_empty();
     if whole && !coverage.is_complete() {
         eprintln!("some outcome of document 01 never came up");

@@ -1,8 +1,9 @@
-//! Deliberate faults, one at a time: each is a program that breaks document 01
-//! in one way and keeps it otherwise. The comparison must find every one.
+//! Deliberate faults, one at a time: each is a program that breaks document 01 or
+//! 02 in one way and keeps it otherwise. The comparison must find every one.
 
 mod numerator;
 mod primes;
+mod reduction;
 
 use std::sync::OnceLock;
 
@@ -49,6 +50,48 @@ pub const FAULTS: &[(&str, Fault)] = &[
     ("value-p", Fault::Input(value_p)),
     ("coefficient-p", Fault::Input(coefficient_p)),
     ("coefficient-kind", Fault::Input(coefficient_kind)),
+    ("values-refused", Fault::Output(reduction::values_refused)),
+    (
+        "kernel-values-refused",
+        Fault::Output(reduction::kernel_values_refused),
+    ),
+    ("sigma-refused", Fault::Output(reduction::sigma_refused)),
+    ("sigma-compared", Fault::Output(reduction::sigma_compared)),
+    (
+        "coefficients-refused",
+        Fault::Output(reduction::coefficients_refused),
+    ),
+    (
+        "curves-as-they-stand",
+        Fault::Output(reduction::curves_as_they_stand),
+    ),
+    (
+        "leading-as-it-stands",
+        Fault::Output(reduction::leading_as_it_stands),
+    ),
+    (
+        "certificates-reduced",
+        Fault::Input(reduction::certificates_reduced),
+    ),
+    (
+        "numerators-reduced",
+        Fault::Input(reduction::numerators_reduced),
+    ),
+    ("names-reduced", Fault::Input(reduction::names_reduced)),
+    ("degrees-reduced", Fault::Input(reduction::degrees_reduced)),
+    ("ends-reduced", Fault::Input(reduction::ends_reduced)),
+    ("reduced-by-zero", Fault::Output(reduction::by_zero)),
+    ("reduced-once", Fault::Output(reduction::subtracted_once)),
+    ("values-written", Fault::Output(reduction::values_written)),
+    ("sigma-written", Fault::Output(reduction::sigma_written)),
+    (
+        "coefficients-written",
+        Fault::Output(reduction::coefficients_written),
+    ),
+    ("reduced-uncorrected", Fault::Output(reduction::uncorrected)),
+    ("reduced-by-floats", Fault::Output(reduction::by_floats)),
+    ("reduced-in-place", Fault::Memory(reduction::in_place)),
+    ("sum-lost", Fault::Input(reduction::sum_lost)),
     ("codomain-swapped", Fault::Input(codomain_swapped)),
     ("codomain-singular", Fault::Output(codomain_singular)),
     ("prime-fermat", Fault::Output(primes::fermat)),

@@ -3,7 +3,7 @@
 //! of the answer buffer.
 
 use crate::services::{self, Checked, Named, Point, Pushed, Written};
-use crate::sheet::{self, Refusal};
+use crate::sheet::{self, Certificate, Refusal};
 
 /// The number that stands for infinity; larger ones are no points.
 pub const INFINITY: u64 = 1 << 56;
@@ -50,6 +50,17 @@ pub fn point_number(point: Point) -> u64 {
         Point::Affine(u, v) => u + (v << sheet::VALUE_BITS),
         Point::Infinity => INFINITY,
     }
+}
+
+/// A call of solve or kernel with these words.
+pub type Put = fn(&[u32]) -> Call;
+
+/// The sheets that a certificate answers, each with its service.
+pub fn answered(certificate: &Certificate) -> [(Put, Vec<u32>); 2] {
+    [
+        (Call::solve, certificate.question.words()),
+        (Call::kernel, certificate.kernel_sheet().words()),
+    ]
 }
 
 /// None for a number above 2^56.

@@ -42,6 +42,13 @@ pub fn value(word: u32) -> u64 {
     u64::from(word) % VALUE_LIMIT
 }
 
+/// The words with another value at one place.
+pub fn with_value(words: &[u32], place: usize, new: u64) -> Vec<u32> {
+    let mut changed = words.to_vec();
+    changed[place] = word(kind(words[place]), new);
+    changed
+}
+
 #[derive(Clone, Debug, PartialEq, Eq)]
 pub struct Question {
     pub p: u64,

@@ -4,6 +4,7 @@ use reference::call::{Call, INFINITY};
 use reference::generate;
 use reference::random::Random;
 use reference::sheet::{kind, value, word, Certificate, VALUE_LIMIT};
+use reference::unreduced::greatest;
 
 use crate::groups::certificates::LARGEST_PRIME;
 use crate::groups::document;
@@ -23,8 +24,9 @@ pub fn damages(original: u32, p: u64) -> Vec<u32> {
         VALUE_LIMIT - 1,
     ];
     if p != 0 {
-        // The next and the opposite field element.
+        // The next and the opposite field element, and values that request E2 reduces.
         values.extend([(v + 1) % p, (2 * p - v % p) % p]);
+        values.extend([(p + 1) % VALUE_LIMIT, greatest(v, p), greatest(0, p)]);
     }
     let mut words: Vec<u32> = values.iter().map(|&new| word(k, new)).collect();
     let other_kinds = [(k + 1) % 16, (k + 15) % 16, k ^ 8];

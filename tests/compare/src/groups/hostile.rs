@@ -1,4 +1,5 @@
-//! Random damage of every sort, random words and random bytes, to every entry.
+//! Random damage of every sort, random words and random bytes, to every entry; many
+//! question and kernel sheets have values of any size, which request E2 reduces.
 //! Each shard draws its own cases from its own seed.
 
 use std::collections::HashSet;
@@ -11,6 +12,7 @@ use reference::primes::next_prime;
 use reference::random::Random;
 use reference::services::Point;
 use reference::sheet::{self, bytes_of, kind, word, Certificate, VALUE_LIMIT};
+use reference::unreduced::{raised, reduced};
 
 use crate::groups::certificates::LARGEST_PRIME;
 use crate::groups::damage::damages;
@@ -30,7 +32,7 @@ pub fn run(judge: &mut Judge, shard: u64, cases: u64) {
 }
 
 /// Counts the sheets that are damaged or random, and not one of the pool after
-/// all.
+/// all, also not after reduction.
 struct Spoiled {
     sound: HashSet<Vec<u8>>,
     count: u64,
@@ -57,7 +59,7 @@ impl Spoiled {
         let sound = match call {
             Call::Check { bytes } | Call::Push { bytes, .. } => self.sound.contains(bytes),
             Call::Solve { sheet, .. } | Call::Kernel { sheet, .. } => {
-                self.sound.contains(&bytes_of(sheet))
+                self.sound.contains(&bytes_of(&reduced(sheet)))
             }
             Call::Name { .. } => true,
         };
@@ -123,6 +125,15 @@ fn kernel(random: &mut Random, sheet: Vec<u32>) -> Call {
     Call::Kernel { sheet, room }
 }
 
+/// The words, or in half of the cases the same sheet with values of any size.
+fn any_size(random: &mut Random, words: Vec<u32>) -> Vec<u32> {
+    if random.once_in(2) {
+        raised(random, &words)
+    } else {
+        words
+    }
+}
+
 /// Up to three damages, or none.
 fn damage(random: &mut Random, words: &mut Vec<u32>, p: u64) {
     for _ in 0..random.below(4) {
@@ -146,8 +157,9 @@ fn damage_once(random: &mut Random, words: &mut Vec<u32>, p: u64) {
         7 => words.extend(vec![random.word(); random.index(500)]),
         8 => words[0] = word(1, random.below(VALUE_LIMIT)),
         9 => words[0] = word(1, next_prime(random.below(1000) + 11)),
-        // A field element: the sheet keeps its form.
-        10..=12 => words[i] = word(kind(words[i]), random.below(p)),
+        // A field element, or a value of any size: the sheet keeps its form.
+        10..=11 => words[i] = word(kind(words[i]), random.below(p)),
+        12 => words[i] = word(kind(words[i]), random.below(VALUE_LIMIT)),
         _ => words[i] = *random.pick(&damages(words[i], p)),
     }
 }
@@ -209,14 +221,14 @@ fn damaged_question(random: &mut Random, pool: &[Certificate]) -> Call {
     } else {
         certificate.question.clone()
     };
-    let mut words = question.words();
+    let mut words = any_size(random, question.words());
     damage(random, &mut words, question.p);
     solve(random, words)
 }
 
 fn damaged_kernel(random: &mut Random, pool: &[Certificate]) -> Call {
     let certificate = random.pick(pool);
-    let mut words = certificate.kernel_sheet().words();
+    let mut words = any_size(random, certificate.kernel_sheet().words());
     damage(random, &mut words, certificate.question.p);
     kernel(random, words)
 }
@@ -236,8 +248,9 @@ fn small_field(random: &mut Random) -> (u64, u64) {
 /// A lawful question; most have no answer.
 fn random_question(random: &mut Random) -> Call {
     let (p, l) = small_field(random);
-    let question = generate::random_question(random, p, l);
-    solve(random, question.words())
+    let question = generate::random_question(random, p, l).words();
+    let words = any_size(random, question);
+    solve(random, words)
 }
 
 /// A sheet that meets R1, R2 and the two highest coefficients of R3.

@@ -43,25 +43,28 @@ pub fn rooms(judge: &mut Judge) {
     }
 }
 
-/// Question 4 for every degree over every small prime. With a = p the next
-/// "no" is 5, so 5 says that question 4 was passed.
+/// Question 4 for every degree over every small prime. With a = p the next "no" is
+/// 5 on a certificate; where values are reduced it is 6, for an end that is missing.
+/// So 5 or 6 says that question 4 was passed.
 pub fn degrees(judge: &mut Judge) {
     for p in sieve(600).into_iter().filter(|&p| p >= 11) {
         let p = u64::from(p);
         for l in (0..=260).chain([511, 65535, (1 << 28) - 1]) {
             let passes = l % 2 == 1 && (3..=255).contains(&l) && 2 * l - 1 < p;
-            let number = if passes { 5 } else { 4 };
-            let question = Question::of([p, p, 1, 0, 1, l, 0]);
+            let number = |next: u32| if passes { next } else { 4 };
+            let question = Question::of([p, p, 1, 0, 1, l, 0]).words();
             let sheet = KernelSheet {
                 p,
                 a: p,
                 b: 1,
                 l,
-                g: vec![0, 1],
+                g: vec![],
             };
-            judge.refuses(&Call::solve(&question.words()), number);
-            judge.refuses(&Call::check(&question.words()), number);
-            judge.refuses(&Call::kernel(&sheet.words()), number);
+            let kernel = sheet.words();
+            judge.refuses(&Call::check(&question), number(5));
+            for cut in [Call::solve(&question[..7]), Call::kernel(&kernel[..4])] {
+                judge.refuses(&cut, number(6));
+            }
         }
     }
     largest_degree(judge);

@@ -1,12 +1,15 @@
 //! Every question and every kernel sheet over small fields, held against
-//! exhaustive search over all monic g and all codomains.
+//! exhaustive search over all monic g and all codomains; over the smallest also with
+//! values of any size, which request E2 reduces.
 
 use std::collections::HashMap;
 
 use reference::brute::{all_isogenies, all_monic, all_pairs, is_curve};
 use reference::call::{Call, Reply};
 use reference::field::Field;
+use reference::random::Random;
 use reference::sheet::{self, Certificate, KernelSheet, Question};
+use reference::unreduced::raised;
 
 use crate::judge::Judge;
 
@@ -17,6 +20,21 @@ pub fn fields(quick: bool) -> Vec<(u64, u64)> {
     }
     let primes = [11, 13, 17, 19, 23];
     primes.iter().flat_map(|&p| [(p, 3), (p, 5)]).collect()
+}
+
+/// Fields and degrees of which every question is also put with other values.
+pub fn unreduced_fields(quick: bool) -> Vec<(u64, u64)> {
+    if quick {
+        vec![(11, 3)]
+    } else {
+        vec![(11, 3), (11, 5), (13, 3), (17, 5)]
+    }
+}
+
+/// Each sheet with values of any size, all drawn.
+pub fn unreduced(judge: &mut Judge, p: u64, l: u64) {
+    let mut random = Random::new(55);
+    whole(judge, p, l, |words| raised(&mut random, &words));
 }
 
 type Answers = HashMap<(u64, u64, u64), Certificate>;
@@ -34,8 +52,8 @@ fn answers(p: u64, a: u64, b: u64, l: u64) -> Answers {
     answers
 }
 
-/// Every question and kernel sheet of a field and a degree.
-pub fn whole(judge: &mut Judge, p: u64, l: u64) {
+/// Every question and kernel sheet of a field and a degree, each written as wanted.
+pub fn whole(judge: &mut Judge, p: u64, l: u64, mut write: impl FnMut(Vec<u32>) -> Vec<u32>) {
     let mut solved = 0;
     for (a, b) in all_pairs(p) {
         let answers = if is_curve(p, a, b) {
@@ -52,10 +70,10 @@ pub fn whole(judge: &mut Judge, p: u64, l: u64) {
                     _ => Reply::refused(7),
                 };
                 solved += u64::from(!reply.words.is_empty());
-                judge.expect(&Call::solve(&question.words()), &reply);
+                judge.expect(&Call::solve(&write(question.words())), &reply);
             }
         }
-        kernels(judge, (p, a, b, l), answers.as_ref());
+        kernels(judge, (p, a, b, l), answers.as_ref(), &mut write);
     }
     judge.note(format!("{solved} questions with an answer"));
 }
@@ -69,7 +87,12 @@ fn solve_reply(answers: &Answers, question: &Question) -> Reply {
 }
 
 /// Every kernel sheet with leading coefficient 1 on one curve.
-fn kernels(judge: &mut Judge, (p, a, b, l): (u64, u64, u64, u64), answers: Option<&Answers>) {
+fn kernels(
+    judge: &mut Judge,
+    (p, a, b, l): (u64, u64, u64, u64),
+    answers: Option<&Answers>,
+    write: &mut impl FnMut(Vec<u32>) -> Vec<u32>,
+) {
     let mut by_g: HashMap<&[u64], &Certificate> = HashMap::new();
     for certificate in answers.iter().flat_map(|answers| answers.values()) {
         if is_curve(p, certificate.question.a_t, certificate.question.b_t) {
@@ -86,7 +109,7 @@ fn kernels(judge: &mut Judge, (p, a, b, l): (u64, u64, u64, u64), answers: Optio
         };
         let g = g.to_vec();
         let sheet = KernelSheet { p, a, b, l, g };
-        judge.expect(&Call::kernel(&sheet.words()), &reply);
+        judge.expect(&Call::kernel(&write(sheet.words())), &reply);
     }
 }
 
@@ -114,7 +137,7 @@ pub fn near(judge: &mut Judge, p: u64, l: u64) {
             };
             judge.expect(&Call::solve(&q.words()), &reply);
         }
-        kernels(judge, (p, a, b, l), Some(&answers));
+        kernels(judge, (p, a, b, l), Some(&answers), &mut |words| words);
     }
 }
 
