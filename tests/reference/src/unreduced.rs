@@ -64,3 +64,12 @@ pub fn reduced(words: &[u32]) -> Vec<u32> {
 pub fn raised(random: &mut Random, words: &[u32]) -> Vec<u32> {
     with_values(words, |v, p| any(random, v, p))
 }
+
+/// In half of the cases that, in the others the sheet as it is.
+pub fn sometimes_raised(random: &mut Random, words: &[u32]) -> Vec<u32> {
+    if random.once_in(2) {
+        raised(random, words)
+    } else {
+        words.to_vec()
+    }
+}

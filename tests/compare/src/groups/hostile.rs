@@ -12,7 +12,7 @@ use reference::primes::next_prime;
 use reference::random::Random;
 use reference::services::Point;
 use reference::sheet::{self, bytes_of, kind, word, Certificate, VALUE_LIMIT};
-use reference::unreduced::{raised, reduced};
+use reference::unreduced::{reduced, sometimes_raised};
 
 use crate::groups::certificates::LARGEST_PRIME;
 use crate::groups::damage::damages;
@@ -125,15 +125,6 @@ fn kernel(random: &mut Random, sheet: Vec<u32>) -> Call {
     Call::Kernel { sheet, room }
 }
 
-/// The words, or in half of the cases the same sheet with values of any size.
-fn any_size(random: &mut Random, words: Vec<u32>) -> Vec<u32> {
-    if random.once_in(2) {
-        raised(random, &words)
-    } else {
-        words
-    }
-}
-
 /// Up to three damages, or none.
 fn damage(random: &mut Random, words: &mut Vec<u32>, p: u64) {
     for _ in 0..random.below(4) {
@@ -221,14 +212,14 @@ fn damaged_question(random: &mut Random, pool: &[Certificate]) -> Call {
     } else {
         certificate.question.clone()
     };
-    let mut words = any_size(random, question.words());
+    let mut words = sometimes_raised(random, &question.words());
     damage(random, &mut words, question.p);
     solve(random, words)
 }
 
 fn damaged_kernel(random: &mut Random, pool: &[Certificate]) -> Call {
     let certificate = random.pick(pool);
-    let mut words = any_size(random, certificate.kernel_sheet().words());
+    let mut words = sometimes_raised(random, &certificate.kernel_sheet().words());
     damage(random, &mut words, certificate.question.p);
     kernel(random, words)
 }
@@ -248,8 +239,8 @@ fn small_field(random: &mut Random) -> (u64, u64) {
 /// A lawful question; most have no answer.
 fn random_question(random: &mut Random) -> Call {
     let (p, l) = small_field(random);
-    let question = generate::random_question(random, p, l).words();
-    let words = any_size(random, question);
+    let question = generate::random_question(random, p, l);
+    let words = sometimes_raised(random, &question.words());
     solve(random, words)
 }
 
