@@ -21,11 +21,12 @@ fn nonsingular(a: u32, b: u32, p: u32) -> bool {
     add(times(4, cube, p), times(27, times(b, b, p), p), p) != 0
 }
 
-fn section(ws: &[u32], from: usize, to: usize, k: u32, p: u32) -> bool {
-    (from..to).all(|i| kind(at(ws, i)) == k && value(at(ws, i)) < p)
+fn section(ws: &[u32], from: usize, to: usize, k: u32, bound: u32) -> bool {
+    (from..to).all(|i| kind(at(ws, i)) == k && value(at(ws, i)) < bound)
 }
 
-/// Questions 2 to 7 of a sheet whose header has these kinds, then g, then N where `numerator` says so.
+/// Questions 2 to 7 of a sheet whose header has these kinds, then g, then N where `numerator` says so. A sheet without N is no certificate: its values
+/// may be of any size, and those of the header come back modulo p.
 fn read(ws: &[u32], kinds: &[u32], g: bool, numerator: bool) -> Result<Values, u32> {
     if ws.len() < kinds.len() || (0..kinds.len()).any(|i| kind(at(ws, i)) != at(kinds, i)) {
         return Err(2);
@@ -50,7 +51,17 @@ fn read(ws: &[u32], kinds: &[u32], g: bool, numerator: bool) -> Result<Values, u
     if l.is_multiple_of(2) || !(3..=255).contains(&l) || p < 2 * l {
         return Err(4);
     }
-    if p <= v.a || p <= v.b || p <= v.atilde || p <= v.btilde || p <= v.sigma {
+    if !numerator {
+        for x in [
+            &mut v.a,
+            &mut v.b,
+            &mut v.atilde,
+            &mut v.btilde,
+            &mut v.sigma,
+        ] {
+            *x %= p;
+        }
+    } else if p <= v.a || p <= v.b || p <= v.atilde || p <= v.btilde || p <= v.sigma {
         return Err(5);
     }
     let d = (l as usize - 1) / 2;
@@ -60,7 +71,8 @@ fn read(ws: &[u32], kinds: &[u32], g: bool, numerator: bool) -> Result<Values, u
     if ws.len() != end + 1 || at(ws, end) != 0xf000_0000 {
         return Err(6);
     }
-    if !section(ws, from, middle, 8, p) || !section(ws, middle, end, 9, p) {
+    let bound = if numerator { p } else { 1 << 28 };
+    if !section(ws, from, middle, 8, bound) || !section(ws, middle, end, 9, bound) {
         return Err(6);
     }
     if !nonsingular(v.a, v.b, p) || (kinds.len() == 7 && !nonsingular(v.atilde, v.btilde, p)) {
@@ -252,6 +264,7 @@ pub fn kernel(ws: &[u32], answer: &mut [u32]) -> u64 {
     let (mut g, mut n) = ([0; 128], [0; 256]);
     let (g, n) = (&mut g[..d + 1], &mut n[..2 * d + 2]);
     coefficients(ws, 4, g);
+    g.iter_mut().for_each(|c| *c %= p);
     if at(g, d) != 1 {
         return REFUSED + 8;
     }
