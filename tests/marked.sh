@@ -22,10 +22,13 @@ each_refused() {
     "$1" 6 1000000b 20000000 30000001 40000000 50000006 60000005 70000000 f0000000       # the same without coefficients
     "$1" 5 100003f1 200003f1 30000003 40000109 5000036d 60000003 7000002e $g $n f0000000 # A = p
     "$1" 5 100003f1 20000001 30000003 40000109 5000036d 60000003 700003f1 $g $n f0000000 # sigma = p
+    "$1" 5 100003f1 200003f2 30000003 40000109 5000036d 60000003 7000002e $g $n f0000000 # A = p + 1, which is 1 on a question
     "$1" 6 $header $g $n                                                                # no end
     "$1" 6 $header $g $n f0000001                                                       # an end with value 1
     "$1" 6 $header $g $n f0000000 f0000000                                              # a word after the end
     "$1" 6 $header 800003f1 80000001 $n f0000000                                        # a coefficient p
+    "$1" 6 $header 800003da 800003f2 $n f0000000                                        # a leading p + 1, which is 1 on a kernel sheet
+    "$1" 6 $header $g 900003b5 900002a6 900003c3 900003f2 f0000000                      # the same of N
     "$1" 6 $header f0000000                                                             # a question is no certificate
     "$1" 7 100003f1 20000000 30000000 40000109 5000036d 60000003 7000002e $g $n f0000000 # A = B = 0
     "$1" 8 $header 800003da 80000002 $n f0000000                                        # g with leading 2

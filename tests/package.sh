@@ -6,7 +6,7 @@
 #
 # Any step that fails, or cannot be run here, ends the script with status 1 and says which. Needs a C and a C++ compiler (CC, CXX) with the address,
 # undefined and thread sanitizers, pkg-config (PKG_CONFIG), make, nm, readelf, /dev/full, and for root setpriv; needs.sh installs them. Expectations
-# come from document 01 alone: its printed words and rows, and the order of its questions.
+# come from documents 01 and 02 alone: printed words and rows, the order of the questions, and what request E2 reduces.
 set -eu
 here=$(pwd)
 cd "$(dirname "$0")"
@@ -356,11 +356,23 @@ step "answer: document 01's questions"
     says answer 'refused 4' 1000000b 20000000 30000001 40000000 50000006 60000007 70000000 f0000000  # p = 11 with l = 7
     says answer 'refused 6' 1000000b 20000000 30000001 40000000 50000006 60000005 70000000           # with l = 5 it passes 4; there is no end
     says answer 'refused 4' 100003f1 20000001 30000003 40000109 5000036d 60000006 7000002e f0000000  # l = 6
-    says answer 'refused 5' 100003f1 200003f1 30000003 40000109 5000036d 60000003 7000002e f0000000  # A = p
     says answer 'refused 6' $header f0000000 f0000000                                                # a ninth word
     says answer 'refused 6' $header f0000001                                                         # an end with value 1
     says answer 'refused 6' $first                                                                   # a certificate is no question
     says answer 'refused 7' 100003f1 20000000 30000000 40000109 5000036d 60000003 7000002e f0000000  # A = B = 0
+}
+
+step "answer: request E2's values from p on"
+# shellcheck disable=SC2086
+{
+    says answer "$(printf '%s\n' $over_11)" 1000000b 2000000b 30000001 40000000 50000006 60000003 70000000 f0000000 # A = p is read as 0
+    says answer "$(printf '%s\n' $first)" 100003f1 200003f2 300003f4 400004fa 5000075e 60000003 7000041f f0000000   # each p more
+    says answer "$(printf '%s\n' $over_11)" 1000000b 2ffffffd 3ffffffe 4ffffffd 5ffffff8 60000003 7ffffffd f0000000 # each the last of its class
+    says answer 'refused 11' 100003f1 200003f1 30000003 40000109 5000036d 60000003 7000002e f0000000                # A = 0: 15 s_2 = 5 h_1 fails
+    says answer 'refused 7' 100003f1 200003f1 300007e2 40000109 5000036d 60000003 7000002e f0000000                 # A = p, B = 2 p
+    says answer 'refused 7' 100003f1 20000001 30000003 400003f1 50000000 60000003 7000002e f0000000                 # A~ = p, B~ = 0
+    says answer 'refused 4' 1000000b 20000000 30000001 40000000 50000006 60000019 70000000 f0000000                 # l = 3 + 2 p
+    says answer 'refused 6' $header f00003f1                                                                        # an end with value p
 }
 
 step "kernel: document 01's kernel sheets"
@@ -374,12 +386,19 @@ step "kernel: document 01's kernel sheets"
     says kernel 'refused 4' 1000000b 20000000 30000001 60000006 80000000 80000001 f0000000          # l = 6
     says kernel 'refused 4' 1000000b 20000000 30000001 60000007 80000000 80000001 f0000000          # p = 11 with l = 7
     says kernel 'refused 6' 1000000b 20000000 30000001 60000005 80000000 80000001 f0000000          # with l = 5 it passes 4; g is too short
-    says kernel 'refused 5' 1000000b 2000000b 30000001 60000003 80000000 80000001 f0000000          # A = p
-    says kernel 'refused 6' 1000000b 20000000 30000001 60000003 8000000b 80000001 f0000000          # a coefficient p
     says kernel 'refused 6' 1000000b 20000000 30000001 60000003 80000000 80000001 f0000001          # an end with value 1
     says kernel 'refused 7' 1000000b 20000000 30000000 60000003 80000000 80000001 f0000000          # A = B = 0
     says kernel 'refused 8' 1000000b 20000000 30000001 60000003 80000000 80000002 f0000000          # g with leading 2
 }
+
+step "kernel: request E2's values from p on"
+for rest in '2000000b 3000000c 60000003 8000000b 8000000c' '20000000 30000001 60000003 80000000 8000000c' '2ffffffd 3ffffffe 60000003 8ffffffd 8ffffffe'; do
+    # shellcheck disable=SC2086
+    says kernel "$(printf '%s\n' $over_11)" 1000000b $rest f0000000
+done
+says kernel 'refused 8' 1000000b 20000000 30000001 60000003 80000000 8000000b f0000000 # a leading coefficient p
+says kernel 'refused 7' 1000000b 2000000b 30000016 60000003 80000000 80000001 f0000000 # A = p, B = 2 p
+says kernel 'refused 6' 1000000b 20000000 30000001 60000003 80000000 80000001 f000000b # an end with value p
 
 step "verify and push: document 01's certificates and points"
 prints verify passes first.bin

@@ -13,16 +13,33 @@ load common
     run --separate-stderr sagepliers solve --json 1009 1 3 81 169 9 0
     [ "$status" -eq 0 ]
     [[ $output == *'"g":[336,12,2,0,1]'* ]]
-    gives 0 'certificate: p = 11, degree 3, kernel sum 0
-domain: y^2 = x^3 + 1
-codomain: y^2 = x^3 + 6
-g = x
-N = x^3 + 4' solve 11 0 1 0 6 3 0
+    gives 0 "$over_11_text" solve 11 0 1 0 6 3 0
 }
 
 @test "solve: a negative number stands for itself plus p" {
     gives 0 "$first_text" solve 1009 -1008 3 -744 877 3 -963
     gives 0 "$first_text" solve 1009 1 3 265 -132 3 46
+}
+
+@test "solve and kernel: a value of p or more stands for itself modulo p, and the certificate has what is left" {
+    gives 0 "$over_11_text" solve 11 11 1 0 6 3 0
+    gives 0 "$over_11_text" kernel 11 11 12 3 11 12
+    # 2^28 - 3 is a multiple of 11.
+    gives 0 "$over_11_text" solve 11 268435453 268435454 268435453 268435448 3 268435453
+    gives 0 "$first_text" solve 1009 1010 -1006 1274 1886 3 1055 -o out.bin
+    cmp out.bin first.bin
+    gives 0 "$first_text" kernel 1009 2019 3 3 1995 1010 -o out.bin
+    cmp out.bin first.bin
+}
+
+@test "check and push: a certificate's values are not reduced" {
+    echo '1009 1010 3 265 877 3 46 -23 1 949 678 963 1' >header.txt
+    gives 1 "header.txt: $(refusal 5)" check header.txt
+    gives 1 "$(refusal 5)" push header.txt 1008 1
+    echo '1009 1 3 265 877 3 46 -23 1010 949 678 963 1' >g.txt
+    gives 1 "g.txt: $(refusal 6)" check g.txt
+    echo '1009 1 3 265 877 3 46 -23 1 949 678 963 1010' >n.txt
+    gives 1 "n.txt: $(refusal 6)" check n.txt
 }
 
 @test "solve: -o writes the bytes, and a refusal leaves the file as it was" {

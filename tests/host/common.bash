@@ -14,13 +14,19 @@ words() {
 
 . "$BATS_TEST_DIRNAME/../marked.sh"
 
-# What the first certificate looks like.
+# What the first certificate, and the one over 11, look like.
 first_text='certificate: p = 1009, degree 3, kernel sum 46
 domain: y^2 = x^3 + x + 3
 codomain: y^2 = x^3 + 265*x + 877
 g = x + 986
 N = x^3 + 963*x^2 + 678*x + 949'
 first_json='{"form":"certificate","p":1009,"domain":[1,3],"codomain":[265,877],"degree":3,"sigma":46,"g":[986,1],"N":[949,678,963,1]}'
+
+over_11_text='certificate: p = 11, degree 3, kernel sum 0
+domain: y^2 = x^3 + 1
+codomain: y^2 = x^3 + 6
+g = x
+N = x^3 + 4'
 
 # The refusals in words, by their numbers.
 meaning() {

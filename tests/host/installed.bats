@@ -149,14 +149,14 @@ completes() {
         [ -x "$SAGEPLIERS_BIN_DIR/$name" ] || say "no program $name in $SAGEPLIERS_BIN_DIR"
     done
     for numbers in '1009 1 3 265 877 3 46' '1009 1 3 265 877 3 48' '1009 1 3 81 169 9 0' '11 0 1 0 6 3 0' '1001 1 3 265 877 3 46' \
-        '1009 0 0 1 1 3 1' '1009 1 1009 1 1 3 1'; do
+        '1009 0 0 1 1 3 1' '1009 1 1009 1 1 3 1' '11 11 1 0 6 3 0'; do
         # shellcheck disable=SC2086
         sagepliers show -q -o question.bin $numbers
         "$SAGEPLIERS_BIN_DIR/answer" <question.bin >wanted
         sagepliers solve --hex question.bin | sed 's/^\(refused [0-9]*\): .*/\1/' >got || true
         diff wanted got
     done
-    for numbers in '1009 1 3 3 -23 1' '1009 1 3 3 -22 1' '11 0 1 3 0 1' '1009 1 3 9 336 12 2 0 1' '1009 1 3 9 336 12 2 0 2'; do
+    for numbers in '1009 1 3 3 -23 1' '1009 1 3 3 -22 1' '11 0 1 3 0 1' '1009 1 3 9 336 12 2 0 1' '1009 1 3 9 336 12 2 0 2' '11 11 12 3 11 12'; do
         # shellcheck disable=SC2086
         sagepliers show -q --form=kernel -o sheet.bin $numbers
         "$SAGEPLIERS_BIN_DIR/kernel" <sheet.bin >wanted

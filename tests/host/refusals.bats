@@ -54,33 +54,38 @@ pari_sheet() {
     gives 1 "/dev/null: $(refusal 2)" check /dev/null
 }
 
-@test "solve: 2 to 7 and 11, from words and from numbers" {
+@test "solve: 2 to 4, 6, 7 and 11, from words and from numbers" {
     # shellcheck disable=SC2086
     {
         sheet_refused solve 2 $g $n
         sheet_refused solve 6 $header f0000000 f0000000 # a ninth word
         sheet_refused solve 6 $header
+        sheet_refused solve 6 $header f00003f1 # an end with value p
     }
     gives 1 "$(refusal 3)" solve 1001 1 3 265 877 3 46
     gives 1 "$(refusal 4)" solve 1009 1 3 265 877 6 46
     gives 1 "$(refusal 4)" solve 11 0 1 0 6 7 0
     gives 1 "$(refusal 4)" solve 1009 1 3 265 877 257 46
-    gives 1 "$(refusal 5)" solve 1009 1009 3 265 877 3 46
+    gives 1 "$(refusal 4)" solve 11 0 1 0 6 25 0 # 3 + 2 p
     gives 1 "$(refusal 7)" solve 1009 0 0 265 877 3 46
+    gives 1 "$(refusal 7)" solve 1009 1009 2018 265 877 3 46
+    gives 1 "$(refusal 7)" solve 1009 1 3 0 1009 3 46
+    gives 1 "$(refusal 11)" solve 1009 1009 3 265 877 3 46 # A = 0, where 15 s_2 = 5 h_1 = -265 does not hold
     gives 1 "$(refusal 11)" solve 1009 1 3 265 877 3 48
     gives 1 "$(refusal 11)" solve 1009 1 3 265 878 3 46
 }
 
-@test "kernel: 2 to 8 and 11" {
+@test "kernel: 2 to 4, 6 to 8 and 11" {
     # shellcheck disable=SC2086
     sheet_refused kernel 2 $first
     gives 1 "$(refusal 3)" kernel 1001 1 3 3 986 1
     gives 1 "$(refusal 4)" kernel 1009 1 3 6 986 1
-    gives 1 "$(refusal 5)" kernel 1009 1 1009 3 986 1
     gives 1 "$(refusal 6)" kernel 1009 1 3 3 986 1 1
-    gives 1 "$(refusal 6)" kernel 1009 1 3 3 1009 1
     gives 1 "$(refusal 7)" kernel 1009 0 0 3 986 1
+    gives 1 "$(refusal 7)" kernel 1009 1009 2018 3 986 1
     gives 1 "$(refusal 8)" kernel 1009 1 3 3 986 2
+    gives 1 "$(refusal 8)" kernel 1009 1 3 3 986 1009 # 0
+    gives 1 "$(refusal 11)" kernel 1009 1 3 3 1009 1  # x: 0 is no root of 3 x^4 + 6 x^2 + 36 x - 1
     gives 1 "$(refusal 11)" kernel 11 0 1 3 10 1
 }
 
