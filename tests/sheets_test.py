@@ -1,8 +1,8 @@
 #!/usr/bin/env python3
 """Tests of tools/sheets.py, run as a program as its users run it.
 
-Expectations are document 01's: the words that it prints for the first question, its rows, its layout of words and bytes. The sheets in crates/ that
-the programs are run on are made anew and compared.
+Expectations are document 01's: the words that it prints for the first question, its rows, its layout of words and bytes; and request E2's, where values of p
+or more are lawful. The sheets in crates/ that the programs are run on are made anew and compared.
 """
 
 import os
@@ -73,10 +73,17 @@ class Making(unittest.TestCase):
         self.assertEqual(self.made("point", "infinity"), (2**56).to_bytes(8, "little"))
 
     def test_wrong_values_are_written(self):
-        # p = 1001, l = 6, A = p are neighbours that document 01 has refused by the library, so they must be possible.
+        # p = 1001, l = 6, on a certificate A = p: neighbours that document 01 has refused by the library, so they must be possible.
         self.assertEqual(self.made("question", "1001", *QUESTION[1:])[:4], in_bytes(["100003e9"]))
         self.assertEqual(self.made("question", *QUESTION[:5], "6", "46")[20:24], in_bytes(["60000006"]))
-        self.assertEqual(self.made("question", "1009", "1009", *QUESTION[2:])[4:8], in_bytes(["200003f1"]))
+        self.assertEqual(self.made("certificate", "1009", "1009", *QUESTION[2:], *G, *N)[4:8], in_bytes(["200003f1"]))
+
+    def test_values_from_p_on_are_written(self):
+        # It is for the library to reduce them.
+        words = ["1000000b", "2000000b", "3000000c", "4fffffff", "50000006", "60000003", "70000016", "f0000000"]
+        self.assertEqual(self.made("question", "11", "11", "12", str(2**28 - 1), "6", "3", "22"), in_bytes(words))
+        words = ["1000000b", "2000000b", "3000000c", "60000003", "8000000b", "8000000c", "f0000000"]
+        self.assertEqual(self.made("kernel", "11", "11", "12", "3", "11", "12"), in_bytes(words))
 
     def test_bytes(self):
         self.assertEqual(self.made("bytes", *PRINTED), in_bytes(PRINTED))
@@ -146,8 +153,8 @@ class Reading(unittest.TestCase):
         self.remarked(self.changed(9, "80000001"), 10, "kind 9 (N_0) expected")
         self.remarked(self.changed(13, "f0000001"), 14, "the end has value 0")
         self.remarked(self.changed(13, "00000000"), 14, "kind 15 (end) expected")
-        self.remarked(self.changed(2, "300003f1"), 3, "not below p")
-        self.remarked(self.changed(12, "900003f1"), 13, "not below p")
+        for place, word in ((1, "200003f2"), (2, "300003f1"), (6, "7fffffff"), (7, "800003f1"), (12, "900003f1")):
+            self.remarked(self.changed(place, word), place + 1, "not below p")
         self.remarked(PRINTED + [END], 15, "after the end")
         self.remarked(PRINTED + [END], -1, "15 words, where the certificate has 14")
         self.remarked(PRINTED[:-1], -1, "13 words, where the certificate has 14")
@@ -157,6 +164,16 @@ class Reading(unittest.TestCase):
         self.remarked(HEADER + [END], -1, "3 bytes left over", b"xyz")
         # A remark is on its own line or word and on no other.
         self.assertEqual(sum("<-" in line or "remark" in line for line in self.shown(in_bytes(self.changed(2, "300003f1")), 1)), 1)
+
+
+    def test_no_remark_where_values_are_reduced(self):
+        question = ["1000000b", "2000000b", "3000000c", "4fffffff", "50000011", "60000003", "70000016", "f0000000"]
+        kernel = ["1000000b", "2000000b", "3000000c", "60000003", "8000000b", "8000000c", "f0000000"]
+        for words in (question, kernel):
+            lines = self.shown(in_bytes(words))
+            self.assertEqual([int(line.split()[5]) for line in lines[1:]], [int(w[1:], 16) for w in words])
+        # p, l and the end are never reduced.
+        self.remarked(question[:-1] + ["f000000b"], 8, "the end has value 0")
 
 
 class RoundTrips(unittest.TestCase):

@@ -12,7 +12,8 @@
 
 Numbers are decimal. Coefficients go from the constant term up; a negative value stands for itself plus P. Bytes go to standard output. Where
 FILE, WORD or NUMBER is left out or is -, standard input is read. Wrong values (a P that is no prime, say) are written as they are: it is the library
-that judges a sheet. Show takes a sheet, or a point's number with a certificate after it, which is what the push program reads.
+that judges a sheet. So is a value of P or more: on a question or a kernel sheet the library takes it modulo P, on a certificate it refuses it, and show has a
+remark. Show takes a sheet, or a point's number with a certificate after it, which is what the push program reads.
 
 Exit status: 0, or 1 if show has a remark, or 2 if the arguments or the input are wrong.
 
@@ -222,7 +223,7 @@ def show(data):
             name = "?"
         elif kind == END and value != 0:
             remark = "the end has value 0"
-        elif kind in CURVES + (8, 9) and p is not None and value >= p:
+        elif form == "certificate" and kind in CURVES + (8, 9) and p is not None and value >= p:
             remark = "not below p"
         remarks += remark != ""
         lines.append(f"{i:3}  {w:08x}  {name:<5}  kind {kind:<2}  {value}" + (f"  <- {remark}" if remark else ""))
