@@ -65,8 +65,8 @@ enum status command_solve(int argc, char **argv)
     return run(argc, argv, &solve, "P A B A~ B~ L SIGMA\n[FILE]",
                "Solves a question: finds the normalized isogeny of degree L from y^2 = x^3 + A*x + B to y^2 = x^3 + A~*x + B~ over the field of P elements "
                "whose kernel has abscissas of sum SIGMA, and shows its certificate.\v"
-               "The question is seven numbers, or a sheet in FILE or, without arguments, in standard input. A negative number stands for itself plus P. "
-               "A refused question leaves the FILE of -o as it was.");
+               "The question is seven numbers, or a sheet in FILE or, without arguments, in standard input. A negative number stands for itself plus P; "
+               "a value of P or more, L apart, is taken modulo P. A refused question leaves the FILE of -o as it was.");
 }
 
 enum status command_kernel(int argc, char **argv)
@@ -76,5 +76,6 @@ enum status command_kernel(int argc, char **argv)
                "Finds the codomain of the normalized isogeny of degree L from y^2 = x^3 + A*x + B over the field of P elements whose kernel polynomial is "
                "G0 + G1*x + .., and shows its certificate.\v"
                "The kernel sheet is given by its numbers, or in FILE or, without arguments, in standard input. G has (L - 1)/2 + 1 coefficients, from the "
-               "constant term up. A negative number stands for itself plus P. A refused sheet leaves the FILE of -o as it was.");
+               "constant term up. A negative number stands for itself plus P; a value of P or more, L apart, is taken modulo P. A refused sheet leaves the "
+               "FILE of -o as it was.");
 }

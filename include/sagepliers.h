@@ -11,6 +11,8 @@
  *    certificate   kinds 1 to 7, d + 1 words of kind 8, 2 d + 2 of kind 9, end    3 d + 11 words, at most SAGEPLIERS_ROOM
  *    kernel sheet  kinds 1, 2, 3, 6, d + 1 words of kind 8, end                   d + 6 words, at most 133
  * Coefficients go from the constant term up. A sheet in bytes has four bytes to a word, lowest first, whatever the order of bytes of the machine.
+ * On a question and a kernel sheet A, B, A~, B~, sigma and the coefficients of g may have any value that fits a word: it is taken modulo p, and what is
+ * left stands in the certificate. On a certificate they are below p. p and l are never reduced.
  *
  * Refusals. Each entry puts its questions to the sheet in a fixed order, and a sheet that does not pass is refused with the number of the first
  * question that is answered with no:
@@ -18,8 +20,8 @@
  *    2  the words before any coefficients are there, each of its kind; a sheet in bytes has whole words
  *    3  p is a prime from 11 to 2^28 - 1
  *    4  the degree l is odd, from 3 to 255, with 2 l - 1 < p
- *    5  the curve values, and sigma where it stands, are below p
- *    6  behind these words is what the form has and nothing else: coefficients below p, then an end with value 0
+ *    5  the curve values, and on a certificate sigma, are below p (check, push and name; other sheets are reduced)
+ *    6  behind these words is what the form has and nothing else: coefficients, on a certificate below p, then an end with value 0
  *    7  no curve on the sheet is singular
  *    8  g is monic of degree d, and sigma is that of g (rule R1); of a kernel sheet only the leading coefficient is asked
  *    9  N is that of g: N = (l x - sigma) g^2 - 2 (3 x^2 + A) g g' - 4 f (g g'' - g'^2), where f = x^3 + A x + B (rule R2)
@@ -74,13 +76,13 @@ uint32_t sagepliers_check(const uint8_t *bytes, size_t count);
  * Returns the number of the image, a point of the codomain, or SAGEPLIERS_REFUSED plus the number of the refusal. */
 uint64_t sagepliers_push(const uint8_t *bytes, size_t count, uint64_t point);
 
-/* Solve: the certificate that answers the question of `words` words. Puts questions 1 to 7, then 11.
+/* Solve: the certificate that answers the question of `words` words. Puts questions 1 to 4, 6 and 7, then 11.
  * Returns the count of the words written to the front of `answer`, or SAGEPLIERS_REFUSED plus the number of the refusal. The words of `answer`
  * after the count, and all of them after a refusal, stay as they were. */
 uint64_t sagepliers_solve(const uint32_t *sheet, size_t words, uint32_t *answer, size_t room);
 
-/* Kernel: the certificate of the domain and the kernel polynomial on the kernel sheet of `words` words, with its codomain. Puts questions 1 to 8,
- * then 11. Returns and writes as solve does. */
+/* Kernel: the certificate of the domain and the kernel polynomial on the kernel sheet of `words` words, with its codomain. Puts questions 1 to 4
+ * and 6 to 8, then 11. Returns and writes as solve does. */
 uint64_t sagepliers_kernel(const uint32_t *sheet, size_t words, uint32_t *answer, size_t room);
 
 /* Name: the j-value of the curve y^2 = x^3 + a x + b over the prime p, 1728 * 4 a^3 / (4 a^3 + 27 b^2). Puts questions 3, 5 and 7.
