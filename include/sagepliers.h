@@ -76,13 +76,13 @@ uint32_t sagepliers_check(const uint8_t *bytes, size_t count);
  * Returns the number of the image, a point of the codomain, or SAGEPLIERS_REFUSED plus the number of the refusal. */
 uint64_t sagepliers_push(const uint8_t *bytes, size_t count, uint64_t point);
 
-/* Solve: the certificate that answers the question of `words` words. Puts questions 1 to 4, 6 and 7, then 11.
+/* Solve: the certificate that answers the question of `words` words. Puts questions 1 to 7, of which 5 never fails, then 11.
  * Returns the count of the words written to the front of `answer`, or SAGEPLIERS_REFUSED plus the number of the refusal. The words of `answer`
  * after the count, and all of them after a refusal, stay as they were. */
 uint64_t sagepliers_solve(const uint32_t *sheet, size_t words, uint32_t *answer, size_t room);
 
-/* Kernel: the certificate of the domain and the kernel polynomial on the kernel sheet of `words` words, with its codomain. Puts questions 1 to 4
- * and 6 to 8, then 11. Returns and writes as solve does. */
+/* Kernel: the certificate of the domain and the kernel polynomial on the kernel sheet of `words` words, with its codomain. Puts questions 1 to 8,
+ * of which 5 never fails, then 11. Returns and writes as solve does. */
 uint64_t sagepliers_kernel(const uint32_t *sheet, size_t words, uint32_t *answer, size_t room);
 
 /* Name: the j-value of the curve y^2 = x^3 + a x + b over the prime p, 1728 * 4 a^3 / (4 a^3 + 27 b^2). Puts questions 3, 5 and 7.
