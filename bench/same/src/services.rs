@@ -25,6 +25,15 @@ fn section(ws: &[u32], from: usize, to: usize, k: u32, bound: u32) -> bool {
     (from..to).all(|i| kind(at(ws, i)) == k && value(at(ws, i)) < bound)
 }
 
+/// Nothing is divided where the value is below p already.
+fn modulo(x: u32, p: u32) -> u32 {
+    if x < p {
+        x
+    } else {
+        x % p
+    }
+}
+
 /// Questions 2 to 7 of a sheet whose header has these kinds, then g, then N where `numerator` says so. A sheet without N is no certificate: its values
 /// may be of any size, and those of the header come back modulo p.
 fn read(ws: &[u32], kinds: &[u32], g: bool, numerator: bool) -> Result<Values, u32> {
@@ -59,7 +68,7 @@ fn read(ws: &[u32], kinds: &[u32], g: bool, numerator: bool) -> Result<Values, u
             &mut v.btilde,
             &mut v.sigma,
         ] {
-            *x %= p;
+            *x = modulo(*x, p);
         }
     } else if p <= v.a || p <= v.b || p <= v.atilde || p <= v.btilde || p <= v.sigma {
         return Err(5);
@@ -264,7 +273,7 @@ pub fn kernel(ws: &[u32], answer: &mut [u32]) -> u64 {
     let (mut g, mut n) = ([0; 128], [0; 256]);
     let (g, n) = (&mut g[..d + 1], &mut n[..2 * d + 2]);
     coefficients(ws, 4, g);
-    g.iter_mut().for_each(|c| *c %= p);
+    g.iter_mut().for_each(|c| *c = modulo(*c, p));
     if at(g, d) != 1 {
         return REFUSED + 8;
     }
