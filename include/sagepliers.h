@@ -11,7 +11,7 @@
  *    certificate   kinds 1 to 7, d + 1 words of kind 8, 2 d + 2 of kind 9, end    3 d + 11 words, at most SAGEPLIERS_ROOM
  *    kernel sheet  kinds 1, 2, 3, 6, d + 1 words of kind 8, end                   d + 6 words, at most 133
  * Coefficients go from the constant term up. A sheet in bytes has four bytes to a word, lowest first, whatever the order of bytes of the machine.
- * On a question and a kernel sheet A, B, A~, B~, sigma and the coefficients of g may have any value that fits a word: it is taken modulo p, and what is
+ * On a question and a kernel sheet A, B, A~, B~, sigma and the coefficients of g may have any value of 28 bits: it is taken modulo p, and what is
  * left stands in the certificate. On a certificate they are below p. p and l are never reduced.
  *
  * Refusals. Each entry puts its questions to the sheet in a fixed order, and a sheet that does not pass is refused with the number of the first

@@ -12,8 +12,8 @@
 
 Numbers are decimal. Coefficients go from the constant term up; a negative value stands for itself plus P. Bytes go to standard output. Where
 FILE, WORD or NUMBER is left out or is -, standard input is read. Wrong values (a P that is no prime, say) are written as they are: it is the library
-that judges a sheet. So is a value of P or more: on a question or a kernel sheet the library takes it modulo P, on a certificate it refuses it, and show has a
-remark. Show takes a sheet, or a point's number with a certificate after it, which is what the push program reads.
+that judges a sheet. A value of P or more is written as it is, too: on a question or a kernel sheet the library takes it modulo P, a certificate with one it
+refuses, and show has a remark. Show takes a sheet, or a point's number with a certificate after it, which is what the push program reads.
 
 Exit status: 0, or 1 if show has a remark, or 2 if the arguments or the input are wrong.
 

@@ -32,7 +32,7 @@ use Rattle.promises.specs.declared.Image.{Image}
 use Rattle.promises.specs.declared.Image.the-variants as image
 use Rattle.promises.specs.Asked.{prime, put, g, n, Room, check-asks, push-asks, name-asks, Solvable, last-ask, Passing, Leading, Given}
 use Rattle.promises.specs.Answer.{SolveRight, KernelRight, PushRight, CertificateIn, with}
-use Rattle.marked.specs.Tests.{every, Every, every-yes, same-list, same-list-yes, below, below-yes}
+use Rattle.marked.specs.Tests.{one, one-of, every, Every, every-yes, same-list, same-list-yes, below, below-yes}
 use Rattle.marked.specs.Rules.{
   numerator,
   parts-tests,
@@ -65,12 +65,8 @@ use Rattle.marked.specs.Sheets.{
   asked-by-computing,
   prime-by-computing,
   least-by-computing,
-  fifth-tests,
-  fifth-by-computing,
-  sixth-tests,
-  sixth-by-computing,
-  seventh-tests,
-  seventh-by-computing,
+  no-test,
+  no-by-computing,
 }
 use Rattle.marked.specs.NoCodomain.{candidate, no-codomain}
 use Rattle.marked.specs.Row.{Row, Claim, Listed, question-words, kernel-words, count, filled}
@@ -124,17 +120,12 @@ module _ (asked-values : Values) where
         fill,
       )
 
-  -- 7 where the domain is no curve
-  singular-holds : Every (seventh-tests Question ws) → (before : List ℕ) → Room (length before) → SolveRight ws before before (written.Refused 7)
-  singular-holds t before room =
-      (inr (room, no-before (asked Question ws) ((11, Solvable read) ∷ []) 7 (seventh-by-computing Question ws t)), refl)
+  abbrev none-meets-test : ℕ → Bool
+  none-meets-test k = both (asked-test Question ws) (both (none-test read) (eqb k 11))
 
-  abbrev none-tests : ℕ → Bool
-  none-tests k = both (asked-test Question ws) (both (none-test read) (eqb k 11))
-
-  none-holds : (k : ℕ) → T (none-tests k) → (before : List ℕ) → Room (length before)
+  none-meets : (k : ℕ) → T (none-meets-test k) → (before : List ℕ) → Room (length before)
       → SolveRight ws before before (written.Refused k)
-  none-holds k t before room =
+  none-meets k t before room =
       let a : Bool = asked-test Question ws in
       let ta : T (asked-test Question ws) = both-left a _ t in
       let rest : T (both (none-test read) (eqb k 11)) = both-right a _ t in
@@ -150,22 +141,14 @@ module _ (asked-values : Values) where
         refl,
       )
 
-  abbrev unsolved-tests : Bool → ℕ → Bool
-  unsolved-tests true k = every (seventh-tests Question ws)
-  unsolved-tests false k = none-tests k
-
   abbrev unsolved-test : ℕ → Bool
-  unsolved-test k = unsolved-tests (eqb k 7) k
+  unsolved-test k = one (no-test Question ws k) (none-meets-test k)
 
   unsolved-by-computing : (k : ℕ) → T (unsolved-test k) → (before : List ℕ) → Room (length before) → SolveRight ws before before (written.Refused k)
-  unsolved-by-computing k = go (eqb k 7) (eqb→eq k 7)
-    where
-      go : (seventh : Bool) → (T seventh → k ≡ 7) → T (unsolved-tests seventh k) → (before : List ℕ) → Room (length before)
-          → SolveRight ws before before (written.Refused k)
-      go true is t before room =
-          subst (λ k. SolveRight ws before before (written.Refused k)) (sym (is tt))
-          (singular-holds (every-yes (seventh-tests Question ws) t) before room)
-      go false is t before room = none-holds k t before room
+  unsolved-by-computing k t before room =
+      one-of (no-test Question ws k) (none-meets-test k)
+      (λ t. (inr (room, no-before (asked Question ws) ((11, Solvable read) ∷ []) k (no-by-computing Question ws k t)), refl))
+      (λ t. none-meets k t before room) t
 
 -- ── check and push
 
@@ -225,26 +208,14 @@ module _ (ws : List ℕ) where
           )
       go false e s = inl (eqb→eq k 9 s, R2-refuted v γ ν pos (subst (λ b. T (not b)) (sym e) tt))
 
-  -- and 5 or 6 where a value is not below p
-  abbrev early-test : Bool → Bool → ℕ → Bool
-  early-test true sixth k = every (fifth-tests Certificate ws)
-  early-test false true k = every (sixth-tests Certificate ws)
-  early-test false false k = every (refused-tests k)
-
+  -- and the number of a question before them
   abbrev refused-test : ℕ → Bool
-  refused-test k = early-test (eqb k 5) (eqb k 6) k
+  refused-test k = one (no-test Certificate ws k) (every (refused-tests k))
 
   refused-holds : (k : ℕ) → T (refused-test k) → FirstNo (check-asks ws) k
-  refused-holds k = go (eqb k 5) (eqb k 6) (eqb→eq k 5) (eqb→eq k 6)
-    where
-      go : (fifth sixth : Bool) → (T fifth → k ≡ 5) → (T sixth → k ≡ 6) → T (early-test fifth sixth k) → FirstNo (check-asks ws) k
-      go true sixth is is₆ t =
-          subst (FirstNo (check-asks ws)) (sym (is tt))
-          (no-before (asked Certificate ws) rules 5 (fifth-by-computing Certificate ws (every-yes (fifth-tests Certificate ws) t)))
-      go false true is is₆ t =
-          subst (FirstNo (check-asks ws)) (sym (is₆ tt))
-          (no-before (asked Certificate ws) rules 6 (sixth-by-computing Certificate ws (every-yes (sixth-tests Certificate ws) t)))
-      go false false is is₆ t = refused-by-computing k (every-yes (refused-tests k) t)
+  refused-holds k =
+      one-of (no-test Certificate ws k) (every (refused-tests k)) (λ t. no-before (asked Certificate ws) rules k (no-by-computing Certificate ws k t))
+      (λ t. refused-by-computing k (every-yes (refused-tests k) t))
 
   abbrev given-tests : ℕ → ℕ → List Bool
   given-tests u w = ltb u (v .p) ∷ ltb w (v .p) ∷ on-curve-test (v .p) (v .a) (v .b) u w ∷ []

@@ -21,7 +21,7 @@ use Rattle.sheet.specs.Reduction.{coefficient-at}
 use Rattle.questions.specs.Questions.{AllYes, FirstNo}
 use Rattle.questions.specs.Numbered.{first-no}
 use Rattle.sheet.specs.Asked.{asked, Asked2, PrimeAllowed, DegreeAllowed, ValuesBelow, Asked6, Curves}
-use Rattle.marked.specs.Tests.{every, Every, every-yes, same-list, same-list-yes, below, below-yes, below-no}
+use Rattle.marked.specs.Tests.{one, one-of, every, Every, every-yes, same-list, same-list-yes, below, below-yes, below-no}
 use Rattle.marked.specs.Rules.{nonsingular-test, nonsingular-by-computing, singular-test, singular-by-computing}
 
 -- the codomain is asked where the header has it
@@ -138,10 +138,10 @@ module _ (form : Form) (ws : List ℕ) where
 
   -- ── refused with 5, or with 6 for a coefficient: some value is not below p
 
-  abbrev pub fifth-tests : List Bool
+  abbrev fifth-tests : List Bool
   fifth-tests = every first-tests ∷ not (below p values) ∷ []
 
-  pub fifth-by-computing : Every fifth-tests → FirstNo (asked form ws) 5
+  fifth-by-computing : Every fifth-tests → FirstNo (asked form ws) 5
   fifth-by-computing t =
       first-no (asked form ws) 5 tt (two (t 0), (three (t 0), (four (t 0), tt))) (λ b. below-no p values (t 1) (λ i l. at b i))
     where
@@ -157,10 +157,10 @@ module _ (form : Form) (ws : List ℕ) where
   abbrev inner : List ℕ
   inner = take (length rest - 1) rest
 
-  abbrev pub sixth-tests : List Bool
+  abbrev sixth-tests : List Bool
   sixth-tests = every first-tests ∷ below p values ∷ not (below p (read inner)) ∷ []
 
-  pub sixth-by-computing : Every sixth-tests → FirstNo (asked form ws) 6
+  sixth-by-computing : Every sixth-tests → FirstNo (asked form ws) 6
   sixth-by-computing t =
       first-no (asked form ws) 6 tt (two (t 0), (three (t 0), (four (t 0), (five-yes (positive (t 0)) (t 1), tt)))) (λ a.
       below-no p (read inner) (t 2) (λ i l. at a i (omega (arith, l, length-map inner (coefficientIn form p), length-take (length rest - 1) rest))))
@@ -173,12 +173,32 @@ module _ (form : Form) (ws : List ℕ) where
 
   -- ── refused with 7: the domain is no curve
 
-  abbrev pub seventh-tests : List Bool
+  abbrev seventh-tests : List Bool
   seventh-tests = every first-tests ∷ every second-tests ∷ singular-test p (v .a) (v .b) ∷ []
 
-  pub seventh-by-computing : Every seventh-tests → FirstNo (asked form ws) 7
+  seventh-by-computing : Every seventh-tests → FirstNo (asked form ws) 7
   seventh-by-computing t =
       let pos : 0 < p = positive (t 0) in
       let s : Every second-tests = every-yes second-tests (t 1) in
       first-no (asked form ws) 7 tt (two (t 0), (three (t 0), (four (t 0), (five-yes pos (s 0), (six-yes pos s, tt)))))
       (λ curves. singular-by-computing pos (v .a) (v .b) (t 2) (curves .domain))
+
+  -- ── refused with k, for one of these reasons
+
+  abbrev with-number : ℕ → ℕ → List Bool → Bool
+  with-number k number tests = both (eqb k number) (every tests)
+
+  refused-with : (k number : ℕ) (tests : List Bool) → (Every tests → FirstNo (asked form ws) number) → T (with-number k number tests)
+      → FirstNo (asked form ws) k
+  refused-with k number tests says t =
+      subst (FirstNo (asked form ws)) (sym (eqb→eq k number (both-left (eqb k number) (every tests) t)))
+      (says (every-yes tests (both-right (eqb k number) (every tests) t)))
+
+  abbrev pub no-test : ℕ → Bool
+  no-test k = one (with-number k 5 fifth-tests) (one (with-number k 6 sixth-tests) (with-number k 7 seventh-tests))
+
+  pub no-by-computing : (k : ℕ) → T (no-test k) → FirstNo (asked form ws) k
+  no-by-computing k =
+      one-of (with-number k 5 fifth-tests) (one (with-number k 6 sixth-tests) (with-number k 7 seventh-tests)) (refused-with k 5 fifth-tests fifth-by-computing)
+      (one-of (with-number k 6 sixth-tests) (with-number k 7 seventh-tests) (refused-with k 6 sixth-tests sixth-by-computing)
+      (refused-with k 7 seventh-tests seventh-by-computing))

@@ -1,5 +1,5 @@
--- Document 01's marked sheets (◆ there) as one table, with one neighbour that is not marked there and document 02's cases of E2 and E5, and the one theorem that
--- covers it: every row holds, from the rules, by computing.
+-- Document 01's marked sheets (◆ there) as one table, with one neighbour that is not marked there and document 02's cases of E2 and E5, and the one theorem
+-- that covers it: every row holds, from the rules, by computing.
 -- Assumes nothing.
 use mathlib.Core.Bool.{Bool, true}
 use mathlib.Core.List.{List, [], _∷_}
@@ -72,9 +72,9 @@ rows =
     ∷ refused-though (Q 11 0 1 0 1 3 2) (10 ∷ 1 ∷ []) (0 ∷ 1 ∷ 9 ∷ 1 ∷ []) 9
     -- g = x with R2's N, to a wrong codomain
     ∷ refused (Q 11 0 1 0 7 3 0) x x³+4 10
-    -- document 02, E2: A = p is read as A = 0; all values are taken modulo p, the largest of 28 bits too; 7 is asked of what they become
+    -- document 02, E2: A = p is read as A = 0; all values are taken modulo p, A = 2^28 − 1 among them; 7 is asked of what they become
     ∷ solves (Q 11 11 1 0 6 3 0) eleven x x³+4
-    ∷ solves (Q 11 268435453 268435454 22 17 3 11) eleven x x³+4
+    ∷ solves (Q 29 268435455 30 29 31 3 58) (Q 29 0 1 0 2 3 0) x x³+4
     ∷ unsolved (Q 11 11 22 0 6 3 0) 7
     -- every value of a kernel sheet, a leading coefficient p + 1 among them
     ∷ kernel (Q 11 11 12 0 0 3 0) (268435453 ∷ 12 ∷ []) eleven x x³+4

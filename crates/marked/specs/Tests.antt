@@ -10,6 +10,15 @@ use native.Mathlib.Omega.{arith}
 use lib.ListN.{length, getD}
 use Rattle.ring.specs.Test.{both, both-left, both-right}
 
+-- one test or another passes
+abbrev pub one : Bool → Bool → Bool
+one true b = true
+one false b = b
+
+pub one-of : (a b : Bool) {P : Type 0} → (T a → P) → (T b → P) → T (one a b) → P
+one-of true b left right t = left tt
+one-of false b left right t = right t
+
 -- every test of a list passes
 abbrev pub every : List Bool → Bool
 every [] = true

@@ -20,7 +20,7 @@ use Rattle.questions.specs.Numbered.{yes-to}
 use Rattle.sheet.specs.declared.Form.the-variants.{Question, Certificate, Kernel}
 use Rattle.sheet.specs.declared.Values.{Values}
 use Rattle.sheet.specs.Word.{kindOf, valueOf, word}
-use Rattle.sheet.specs.Form.{header, kindsOf, valueIn}
+use Rattle.sheet.specs.Form.{kindsOf, valueIn}
 use Rattle.sheet.specs.Values.{valuesOf, half, question, coefficientIn, gOf, nOf}
 use Rattle.sheet.specs.Asked.{Asked2, Asked6, ValuesBelow, Curves, asked}
 use Rattle.sheet.specs.Fields.{same}

@@ -1,8 +1,8 @@
 -- Values at or above p (document 02, E2): a question or a kernel sheet and the same sheet with its values reduced get the same answer, number and every
 -- word; and whatever the values are, neither service refuses a sheet with 5.
 -- Assumes nothing.
-use mathlib.Core.Path.{_≡_, refl, sym, subst}
-use mathlib.Core.Logic.{_↔_, _≢_}
+use mathlib.Core.Path.{_≡_, refl, sym, ap₂, subst}
+use mathlib.Core.Logic.{_↔_}
 use mathlib.Core.List.{List, [], _∷_, _++_}
 use Prim.Native.Nat.{ℕ}
 use lib.ListN.{length}
@@ -13,11 +13,11 @@ use Rattle.questions.specs.Joined.{all-front}
 use Rattle.questions.specs.Alike.{Alike, alike-refl, alike-sym, alike-yes, alike-no, alike-joined}
 use Rattle.questions.specs.Answers.{Outcome, result, refused, Writes}
 use Rattle.sheet.specs.declared.Form.{Form}
-use Rattle.sheet.specs.declared.Form.the-variants.{Question, Certificate, Kernel}
+use Rattle.sheet.specs.declared.Form.the-variants.{Question, Kernel}
 use Rattle.sheet.specs.declared.Values.{Values}
 use Rattle.sheet.specs.Values.{valuesOf, gOf}
 use Rattle.sheet.specs.Asked.{asked}
-use Rattle.sheet.specs.Reduction.{question-modulo, kernel-modulo, five-always}
+use Rattle.sheet.specs.Reduction.{Modulo, question-modulo, kernel-modulo, five-always}
 use Rattle.sheet.specs.ReducedSheet.{reduced, values-same, g-same, reduced-alike}
 use Rattle.promises.specs.declared.Written.{Written}
 use Rattle.promises.specs.declared.Written.the-variants as written
@@ -27,21 +27,20 @@ use Rattle.promises.specs.Answer.{CertificateIn, SolveRight, KernelIn, KernelRi
 
 -- ── a service that asks 1, the questions of a form, and then some of the values and of g
 
-module _ (form : Form) (modulo : form ≢ Certificate) (ws : List ℕ) (later : Values → List ℕ → Questions) where
+module _ (form : Form) (modulo : Modulo form) (ws : List ℕ) (later : Values → List ℕ → Questions) where
   abbrev asks : List ℕ → ℕ → Questions
   asks us room = (1, Room room) ∷ asked form us ++ later (valuesOf form us) (gOf form us)
 
   -- what holds of the values and the g of a sheet that passes holds of those of the reduced sheet, and the other way round
   module _ (P : Values → List ℕ → Type 0) (all : AllYes (asked form ws)) where
+    said : P (valuesOf form (reduced ws)) (gOf form (reduced ws)) ≡ P (valuesOf form ws) (gOf form ws)
+    said = let headed = yes-to (asked form ws) 2 all in ap₂ P (values-same form modulo ws headed) (g-same form modulo ws headed)
+
     to-reduced : P (valuesOf form ws) (gOf form ws) → P (valuesOf form (reduced ws)) (gOf form (reduced ws))
-    to-reduced h =
-        subst (λ v. P v (gOf form (reduced ws))) (sym (values-same form modulo ws (yes-to (asked form ws) 2 all)))
-        (subst (P (valuesOf form ws)) (sym (g-same form modulo ws (yes-to (asked form ws) 2 all))) h)
+    to-reduced h = subst (λ T. T) (sym said) h
 
     of-reduced : P (valuesOf form (reduced ws)) (gOf form (reduced ws)) → P (valuesOf form ws) (gOf form ws)
-    of-reduced h =
-        subst (P (valuesOf form ws)) (g-same form modulo ws (yes-to (asked form ws) 2 all))
-        (subst (λ v. P v (gOf form (reduced ws))) (values-same form modulo ws (yes-to (asked form ws) 2 all)) h)
+    of-reduced h = subst (λ T. T) said h
 
   -- the questions are answered alike
   asks-alike : (room : ℕ) → Alike (asks ws room) (asks (reduced ws) room)

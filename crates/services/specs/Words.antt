@@ -58,7 +58,7 @@ module _ (ws : List ℕ) (all : AllYes (asked Certificate ws)) where
   abbrev d : ℕ
   d = half (valuesOf Certificate ws)
 
-  words : Words6 Certificate (valuesOf Certificate ws .p) (half (valuesOf Certificate ws)) ws
+  words : Words6 Certificate (valuesOf Certificate ws .p) d ws
   words = asked6-words Certificate ws (yes-to (asked Certificate ws) 6 all)
 
   word-count : length ws ≡ 3 * d + 11

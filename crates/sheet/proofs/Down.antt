@@ -3,7 +3,7 @@
 use mathlib.Core.Path.{_≡_, refl, sym, _∙_, ap, subst}
 use mathlib.Core.Logic.{_↔_}
 use mathlib.Core.List.{List}
-use Prim.Native.Nat.{ℕ, suc, _+_, _*_, _-_, _^_, _≤_, _<_}
+use Prim.Native.Nat.{ℕ, suc, _+_, _*_, _^_, _≤_, _<_}
 use native.Mathlib.Decide.{decLt}
 use native.Mathlib.Omega.{arith}
 use lib.ListN.{length, getD, length-append}
@@ -13,9 +13,8 @@ use Rattle.sheet.specs.declared.Values.{Values}
 use Rattle.sheet.specs.Form.{header, body, kindsOf}
 use Rattle.sheet.specs.Place.{placeOf}
 use Rattle.sheet.specs.Kinds.{below, below-mono, kind-at, kinds-rise, header-first, place-from}
-use Rattle.sheet.specs.Values.{valuesOf, half}
+use Rattle.sheet.specs.Values.{valuesOf, half, coefficientIn}
 use Rattle.sheet.specs.Asked.{Asked6}
-use Rattle.sheet.specs.Values.{coefficientIn}
 use Rattle.sheet.specs.Leaf.{Section, Sections, Bounds}
 use Rattle.sheet.specs.Body.{last, last-after, body-some, asked6-words, words-asked6}
 use Rattle.sheet.specs.Places.{end-place}

@@ -41,7 +41,7 @@ pub record ValuesBelow (v : Values) : Type 0 where
   pub btilde : v .btilde < v .p
   pub sigma : v .sigma < v .p
 
--- 6: the words after the header are those of the form, with values below p up to the end, whose value is 0
+-- 6: the words after the header are those of the form, with coefficients that are read as values below p up to the end, whose value is 0
 pub record Asked6 (form : Form) (ws : List ℕ) : Type 0 where
   pub kinds : map kindOf (drop (length (header form)) ws) ≡ body form (half (valuesOf form ws))
   pub below : (i : ℕ) → length (header form) ≤ i → i + 1 < length ws → coefficientIn form (valuesOf form ws .p) (getD ws i 0) < valuesOf form ws .p

@@ -1,9 +1,9 @@
 -- Question 6 word by word: how many words there are, the end, and the kind and bound of each word between the header and the end.
 -- Assumes nothing.
-use mathlib.Core.Path.{_≡_, refl, sym, _∙_, ap, subst}
+use mathlib.Core.Path.{_≡_, refl, sym, _∙_, ap}
 use mathlib.Core.Logic.{_↔_}
 use mathlib.Core.List.{List, [], _∷_, _++_, map}
-use Prim.Native.Nat.{ℕ, zero, suc, _+_, _*_, _-_, _^_, _<_, _≤_}
+use Prim.Native.Nat.{ℕ, _+_, _*_, _-_, _^_, _<_, _≤_}
 use native.Mathlib.Decide.{decLt}
 use native.Mathlib.Omega.{arith}
 use lib.ListN.{length, getD, drop, replicate, length-append, length-replicate, length-map, length-drop, List·getD-map}
@@ -115,7 +115,7 @@ end-word w = (λ e. (omega arith, omega arith), λ h. omega (arith, h .0, h .1))
 
 -- ── question 6
 
--- it by words, for the p and the d that the sheet says
+-- it by words, for any p and d; below for those of the sheet
 pub record Words6 (form : Form) (p d : ℕ) (ws : List ℕ) : Type 0 where
   pub count : length ws ≡ length (kindsOf form d)
   pub end : getD ws (last form d) 0 ≡ 15 * 2 ^ 28

@@ -1,5 +1,5 @@
 -- The three forms of a sheet, each by the kinds of its words in order: a header, sections of words of one kind each, and the end. The kinds 1 to 7 are
--- those of p, A, B, Ã, B̃, ℓ and σ, 8 and 9 those of g's and N's coefficients, 15 is the end's.
+-- those of p, A, B, Ã, B̃, ℓ and σ, 8 and 9 those of g's and N's coefficients, 15 is the end's. And how a form reads a value.
 -- Assumes nothing.
 use mathlib.Core.List.{List, [], _∷_, _++_}
 use Prim.Native.Nat.{ℕ, suc, _+_, _*_, _%_}

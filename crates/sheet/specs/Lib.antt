@@ -15,5 +15,6 @@ pub mod Body
 pub mod Linear
 pub mod Places
 pub mod Accepted
+pub mod AskedAlike
 pub mod LongSheet
 pub mod ReducedSheet

@@ -5,7 +5,7 @@ use mathlib.Core.Path.{_≡_, refl, sym, _∙_, ap, ap₂, subst}
 use mathlib.Core.Logic.{_↔_}
 use mathlib.Core.Bool.{Bool, true, false, cond}
 use mathlib.Core.List.{List, map}
-use Prim.Native.Nat.{ℕ, _+_, _<_, _≤_}
+use Prim.Native.Nat.{ℕ, _<_, _≤_}
 use native.Mathlib.Decide.{decLt}
 use native.Mathlib.Omega.{arith}
 use lib.ListN.{length, getD, take}
@@ -14,11 +14,11 @@ use Rattle.questions.specs.Questions.{AllYes, FirstNo}
 use Rattle.questions.specs.Numbered.{yes-to}
 use Rattle.questions.specs.Alike.{Alike, alike-no, alike-yes, alike-sym}
 use Rattle.sheet.specs.declared.Form.{Form}
-use Rattle.sheet.specs.declared.Values.{Values}
 use Rattle.sheet.specs.Word.{kindOf, valueOf}
 use Rattle.sheet.specs.Form.{header, entry, valueIn, holds, position, mostWords}
-use Rattle.sheet.specs.Values.{valuesOf, half}
-use Rattle.sheet.specs.Asked.{Asked2, Asked6, PrimeAllowed, DegreeAllowed, ValuesBelow, Curves, asked}
+use Rattle.sheet.specs.Values.{valueAt, valuesOf, half}
+use Rattle.sheet.specs.Asked.{Asked2, Asked6, DegreeAllowed, asked}
+use Rattle.sheet.specs.AskedAlike.{Degree, asked-alike}
 use Rattle.sheet.specs.Fields.{same}
 use Rattle.sheet.specs.Header.{position-inside, short-header}
 use Rattle.sheet.specs.Body.{kinds-length, words-most}
@@ -26,7 +26,6 @@ use Rattle.sheet.specs.Body.{kinds-length, words-most}
 -- no lawful sheet is longer than the largest certificate
 lawful-length : (form : Form) (ws : List ℕ) → DegreeAllowed (valuesOf form ws .degree) (valuesOf form ws .p) → Asked6 form ws → length ws ≤ mostWords
 lawful-length form ws a4 a6 =
-    let d : ℕ = half (valuesOf form ws) in
     let few : half (valuesOf form ws) ≤ 127 = omega (arith, a4 .most) in
     omega (arith, kinds-length form (half (valuesOf form ws)) ws (a6 .kinds), words-most form (half (valuesOf form ws)) few)
 
@@ -43,67 +42,28 @@ module _ (form : Form) (ws : List ℕ) (n : ℕ) (long : mostWords < n) where
 
   pub values-front : valuesOf form (take n ws) ≡ valuesOf form ws
   values-front =
-      let read : (k : ℕ) → valueIn form (entry form 1 (take n ws)) (entry form k (take n ws)) ≡ valueIn form (entry form 1 ws) (entry form k ws) =
-      λ k. ap₂ (valueIn form) (entry-front 1) (entry-front k) in
+      let read : (k : ℕ) → valueAt form k (take n ws) ≡ valueAt form k ws = λ k. ap₂ (valueIn form) (entry-front 1) (entry-front k) in
       same (entry-front 1) (read 2) (read 3) (read 4) (read 5) (entry-front 6) (read 7)
-
-  -- what is asked of the values
-  to : (P : Values → Type 0) → P (valuesOf form (take n ws)) → P (valuesOf form ws)
-  to P h = subst P values-front h
-
-  from : (P : Values → Type 0) → P (valuesOf form ws) → P (valuesOf form (take n ws))
-  from P h = subst P (sym values-front) h
 
   front2 : map kindOf (take (length (header form)) (take n ws)) ≡ map kindOf (take (length (header form)) ws)
   front2 = ap (map kindOf) (take-take (length (header form)) n ws (omega (arith, short-header form)))
 
-  to6 : DegreeAllowed (valuesOf form (take n ws) .degree) (valuesOf form (take n ws) .p) → Asked6 form (take n ws) → Asked6 form ws
-  to6 a4 a6 = go (decLt n (length ws))
+  -- a lawful sheet is its own front
+  front6 : Degree (valuesOf form ws) → Asked6 form (take n ws) ↔ Asked6 form ws
+  front6 a4 = go (decLt n (length ws))
     where
-      go : Dec (n < length ws) → Asked6 form ws
-      go (yes l) = absurd (omega (arith, lawful-length form (take n ws) a4 a6, length-take-le n ws (omega arith)))
-      go (no l) = subst (Asked6 form) (take-all n ws (omega arith)) a6
-
-  from6 : DegreeAllowed (valuesOf form ws .degree) (valuesOf form ws .p) → Asked6 form ws → Asked6 form (take n ws)
-  from6 a4 a6 = go (decLt n (length ws))
-    where
-      go : Dec (n < length ws) → Asked6 form (take n ws)
-      go (yes l) = absurd (omega (arith, lawful-length form ws a4 a6))
-      go (no l) = subst (Asked6 form) (sym (take-all n ws (omega arith))) a6
-
-  abbrev Degree : Values → Type 0
-  Degree v = DegreeAllowed (v .degree) (v .p)
-
-  abbrev PrimeOf : Values → Type 0
-  PrimeOf v = PrimeAllowed (v .p)
-
-  seventh : (q : ℕ) → (q ≡ q) × (Curves form (valuesOf form (take n ws)) → Curves form (valuesOf form ws))
-      × (Curves form (valuesOf form ws) → Curves form (valuesOf form (take n ws))) × (Curves form (valuesOf form (take n ws)) → Unit {0})
-  seventh q = (refl, to (Curves form), from (Curves form), λ _. tt)
+      go : Dec (n < length ws) → Asked6 form (take n ws) ↔ Asked6 form ws
+      go (yes l) = (
+        λ a6. absurd (omega (arith, lawful-length form (take n ws) (subst Degree (sym values-front) a4) a6, length-take-le n ws (omega arith))),
+        λ a6. absurd (omega (arith, lawful-length form ws a4 a6)),
+      )
+      go (no l) =
+          let e : take n ws ≡ ws = take-all n ws (omega arith) in
+          (λ a6. subst (Asked6 form) e a6, λ a6. subst (Asked6 form) (sym e) a6)
 
   pub alike : Alike (asked form (take n ws)) (asked form ws)
   unfolding Asked2
-  alike = (
-    refl,
-    λ h. sym front2 ∙ h,
-    λ h. front2 ∙ h,
-    λ _. (
-      refl,
-      to PrimeOf,
-      from PrimeOf,
-      λ _. (
-        refl,
-        to Degree,
-        from Degree,
-        λ a4. (
-          refl,
-          to ValuesBelow,
-          from ValuesBelow,
-          λ _. (refl, to6 a4, from6 (to Degree a4), λ _. seventh 7),
-        ),
-      ),
-    ),
-  )
+  alike = asked-alike form (take n ws) ws (λ h. sym front2 ∙ h, λ h. front2 ∙ h) (λ _. values-front) (λ _. front6)
 
   pub front-yes : AllYes (asked form (take n ws)) ↔ AllYes (asked form ws)
   front-yes = (

@@ -1,11 +1,11 @@
 -- A question or a kernel sheet, and the same sheet with its values reduced: questions 2 to 7 are answered alike, and what is read is the same.
 -- Assumes nothing.
 use mathlib.Core.Path.{_≡_, refl, sym, _∙_, ap, ap₂, subst}
-use mathlib.Core.Logic.{_↔_, _≢_}
+use mathlib.Core.Logic.{_↔_}
 use mathlib.Core.Bool.{Bool, true, false, cond}
 use mathlib.Core.List.{List, [], _∷_, map}
 use Prim.Native.Nat.{ℕ, zero, suc, _+_, _*_, _%_, _^_, _<_, _≤_}
-use native.Mathlib.Nat.{mod-le, mod-mod, mod-eq-of-lt}
+use native.Mathlib.Nat.{mod-le, mod-mod}
 use native.Mathlib.Omega.{arith}
 use lib.ListN.{length, getD, take, drop, length-map, List·getD-map}
 use Rattle.questions.specs.Alike.{Alike}
@@ -13,21 +13,23 @@ use Rattle.sheet.specs.declared.Form.{Form}
 use Rattle.sheet.specs.declared.Form.the-variants.{Question, Certificate, Kernel}
 use Rattle.sheet.specs.declared.Values.{Values}
 use Rattle.sheet.specs.Word.{kindOf, valueOf, word}
-use Rattle.sheet.specs.Form.{header, body, kindsOf, entry, valueIn, position, holds}
-use Rattle.sheet.specs.Values.{valuesOf, half, coefficientIn, gOf}
-use Rattle.sheet.specs.Asked.{Asked2, Asked6, PrimeAllowed, DegreeAllowed, ValuesBelow, Curves, asked}
+use Rattle.sheet.specs.Form.{header, entry, valueIn, position, holds}
+use Rattle.sheet.specs.Values.{valueAt, valuesOf, half, coefficientIn, gOf}
+use Rattle.sheet.specs.Asked.{Asked2, Asked6, asked}
+use Rattle.sheet.specs.AskedAlike.{asked-alike}
+use Rattle.sheet.specs.Reduction.{Modulo, value-zero}
 use Rattle.sheet.specs.Fields.{same}
 use Rattle.sheet.specs.Leaf.{Stands, Sections}
 use Rattle.sheet.specs.Header.{asked2-stands}
 use Rattle.sheet.specs.Body.{last, Words6, asked6-words, words-asked6}
 
 -- the kinds whose values are taken modulo p: those of A, B, Ã, B̃, σ and g
-abbrev reducible : ℕ → Bool
-reducible k = holds k (2 ∷ 3 ∷ 4 ∷ 5 ∷ 7 ∷ 8 ∷ [])
+abbrev residueKind : ℕ → Bool
+residueKind k = holds k (2 ∷ 3 ∷ 4 ∷ 5 ∷ 7 ∷ 8 ∷ [])
 
 -- a word of such a kind with its value modulo p; any other stands
 abbrev pub reduceWord : ℕ → ℕ → ℕ
-reduceWord p w = cond (reducible (kindOf w)) (word (kindOf w) (valueOf w % p)) w
+reduceWord p w = cond (residueKind (kindOf w)) (word (kindOf w) (valueOf w % p)) w
 
 -- the sheet with its values reduced; p is the value of its first word
 abbrev pub reduced : List ℕ → List ℕ
@@ -39,15 +41,15 @@ module _ (p w : ℕ) where
   small : valueOf w % p ≤ valueOf w
   small = mod-le (valueOf w) p
 
-  pub kind-kept : kindOf (reduceWord p w) ≡ kindOf w
-  kind-kept = go (reducible (kindOf w))
+  kind-kept : kindOf (reduceWord p w) ≡ kindOf w
+  kind-kept = go (residueKind (kindOf w))
     where
       go : (t : Bool) → kindOf (cond t (word (kindOf w) (valueOf w % p)) w) ≡ kindOf w
       go true = omega (arith, small)
       go false = refl
 
   value-kept : valueOf (reduceWord p w) % p ≡ valueOf w % p
-  value-kept = go (reducible (kindOf w))
+  value-kept = go (residueKind (kindOf w))
     where
       go : (t : Bool) → valueOf (cond t (word (kindOf w) (valueOf w % p)) w) % p ≡ valueOf w % p
       go true =
@@ -55,21 +57,24 @@ module _ (p w : ℕ) where
           ap (λ x. x % p) e ∙ mod-mod (valueOf w) p
       go false = refl
 
-  -- p, ℓ and the end stand
-  stays : (k : ℕ) → reducible k ≡ false → kindOf w ≡ k → reduceWord p w ≡ w
-  stays k e is = ap (λ t. cond t (word (kindOf w) (valueOf w % p)) w) (ap reducible is ∙ e)
+  -- the residue itself is in it
+  becomes : (k : ℕ) → residueKind k ≡ true → kindOf w ≡ k → valueOf (reduceWord p w) ≡ valueOf w % p
+  becomes k e is = ap (λ t. valueOf (cond t (word (kindOf w) (valueOf w % p)) w)) (ap residueKind is ∙ e) ∙ omega (arith, small)
 
-  pub read-alike : (form : Form) → form ≢ Certificate → coefficientIn form p (reduceWord p w) ≡ coefficientIn form p w
-  read-alike Question n = value-kept
-  read-alike Certificate n = absurd (n refl)
-  read-alike Kernel n = value-kept
+  -- p, ℓ and the end stand
+  stays : (k : ℕ) → residueKind k ≡ false → kindOf w ≡ k → reduceWord p w ≡ w
+  stays k e is = ap (λ t. cond t (word (kindOf w) (valueOf w % p)) w) (ap residueKind is ∙ e)
+
+  read-alike : (form : Form) → Modulo form → coefficientIn form p (reduceWord p w) ≡ coefficientIn form p w
+  read-alike form modulo = modulo p (valueOf (reduceWord p w)) ∙ value-kept ∙ sym (modulo p (valueOf w))
 
 -- ── runs of words
 
 module _ (p : ℕ) where
-  kinds-kept : (ws : List ℕ) → map kindOf (map (reduceWord p) ws) ≡ map kindOf ws
-  kinds-kept [] = refl
-  kinds-kept (w ∷ ws) = ap₂ _∷_ (kind-kept p w) (kinds-kept ws)
+  -- what each word keeps
+  all-kept : (f : ℕ → ℕ) → ((w : ℕ) → f (reduceWord p w) ≡ f w) → (ws : List ℕ) → map f (map (reduceWord p) ws) ≡ map f ws
+  all-kept f kept [] = refl
+  all-kept f kept (w ∷ ws) = ap₂ _∷_ (kept w) (all-kept f kept ws)
 
   take-reduced : (n : ℕ) (ws : List ℕ) → take n (map (reduceWord p) ws) ≡ map (reduceWord p) (take n ws)
   take-reduced zero ws = refl
@@ -81,17 +86,12 @@ module _ (p : ℕ) where
   drop-reduced (suc n) [] = refl
   drop-reduced (suc n) (w ∷ ws) = drop-reduced n ws
 
-  coefficients-kept : (form : Form) → form ≢ Certificate → (ws : List ℕ)
-      → map (coefficientIn form p) (map (reduceWord p) ws) ≡ map (coefficientIn form p) ws
-  coefficients-kept form n [] = refl
-  coefficients-kept form n (w ∷ ws) = ap₂ _∷_ (read-alike p w form n) (coefficients-kept form n ws)
-
   word-at : (ws : List ℕ) (i : ℕ) → getD (map (reduceWord p) ws) i 0 ≡ reduceWord p (getD ws i 0)
   word-at ws i = List·getD-map (reduceWord p) ws i 0
 
 -- ── a sheet
 
-module _ (form : Form) (modulo : form ≢ Certificate) (ws : List ℕ) where
+module _ (form : Form) (modulo : Modulo form) (ws : List ℕ) where
   abbrev p : ℕ
   p = valueOf (getD ws 0 0)
 
@@ -99,7 +99,7 @@ module _ (form : Form) (modulo : form ≢ Certificate) (ws : List ℕ) where
   us = reduced ws
 
   two : map kindOf (take (length (header form)) us) ≡ map kindOf (take (length (header form)) ws)
-  two = ap (map kindOf) (take-reduced p (length (header form)) ws) ∙ kinds-kept p (take (length (header form)) ws)
+  two = ap (map kindOf) (take-reduced p (length (header form)) ws) ∙ all-kept p kindOf (kind-kept p) (take (length (header form)) ws)
 
   -- the first word is p's on every form
   prime-first : entry form 1 ws ≡ p
@@ -120,7 +120,7 @@ module _ (form : Form) (modulo : form ≢ Certificate) (ws : List ℕ) where
 
   -- p and ℓ, once question 2 is answered with yes
   module _ (headed : Asked2 form ws) where
-    entry-stays : (k : ℕ) → reducible k ≡ false → entry form k us ≡ entry form k ws
+    entry-stays : (k : ℕ) → residueKind k ≡ false → entry form k us ≡ entry form k ws
     unfolding Stands
     entry-stays k e = go (holds k (header form)) refl
       where
@@ -134,7 +134,7 @@ module _ (form : Form) (modulo : form ≢ Certificate) (ws : List ℕ) where
     pub values-same : valuesOf form us ≡ valuesOf form ws
     values-same =
         let over : entry form 1 us ≡ p = entry-stays 1 refl ∙ prime-first in
-        let read : (k : ℕ) → valueIn form (entry form 1 us) (entry form k us) ≡ valueIn form (entry form 1 ws) (entry form k ws) =
+        let read : (k : ℕ) → valueAt form k us ≡ valueAt form k ws =
         λ k. ap (λ q. valueIn form q (entry form k us)) over ∙ entry-read k ∙ ap (λ q. valueIn form q (entry form k ws)) (sym prime-first) in
         same (entry-stays 1 refl) (read 2) (read 3) (read 4) (read 5) (entry-stays 6 refl) (read 7)
 
@@ -145,10 +145,34 @@ module _ (form : Form) (modulo : form ≢ Certificate) (ws : List ℕ) where
         (ap (take (half (valuesOf form ws) + 1)) (drop-reduced p (length (header form)) ws)
         ∙ take-reduced p (half (valuesOf form ws) + 1) (drop (length (header form)) ws))
         ∙ subst (λ q. map (coefficientIn form q) (map (reduceWord p) rest) ≡ map (coefficientIn form q) rest) (sym prime-first)
-        (coefficients-kept p form modulo rest)
+        (all-kept p (coefficientIn form p) (λ w. read-alike p w form modulo) rest)
       where
         rest : List ℕ
         rest = take (half (valuesOf form ws) + 1) (drop (length (header form)) ws)
+
+    -- ── what the words of the reduced sheet hold is what is read
+
+    entry-becomes : (k : ℕ) → residueKind k ≡ true → entry form k us ≡ valueAt form k ws
+    unfolding Stands
+    entry-becomes k e = go (holds k (header form)) (position k (header form)) λ has. asked2-stands form ws headed k has .1
+      where
+        go : (t : Bool) (at : ℕ) → (t ≡ true → kindOf (getD ws at 0) ≡ k)
+            → cond t (valueOf (getD us at 0)) 0 ≡ valueIn form (entry form 1 ws) (cond t (valueOf (getD ws at 0)) 0)
+        go true at is =
+            ap valueOf (word-at p ws at) ∙ becomes p (getD ws at 0) k e (is refl)
+            ∙ ap (λ q. valueOf (getD ws at 0) % q) (sym prime-first) ∙ sym (modulo (entry form 1 ws) (valueOf (getD ws at 0)))
+        go false at is = sym (value-zero form (entry form 1 ws))
+
+    -- The words of A, B, Ã, B̃ and σ on the reduced sheet hold the values that are read,
+    pub entries-reduced : (entry form 2 us ≡ valuesOf form ws .a) × (entry form 3 us ≡ valuesOf form ws .b) × (entry form 4 us ≡ valuesOf form ws .atilde)
+        × (entry form 5 us ≡ valuesOf form ws .btilde) × (entry form 7 us ≡ valuesOf form ws .sigma)
+    entries-reduced = (entry-becomes 2 refl, entry-becomes 3 refl, entry-becomes 4 refl, entry-becomes 5 refl, entry-becomes 7 refl)
+
+    -- and so does each word of g.
+    pub coefficient-reduced : (i : ℕ) → kindOf (getD ws i 0) ≡ 8 → valueOf (getD us i 0) ≡ coefficientIn form (valuesOf form ws .p) (getD ws i 0)
+    coefficient-reduced i is =
+        ap valueOf (word-at p ws i) ∙ becomes p (getD ws i 0) 8 refl is
+        ∙ ap (λ q. valueOf (getD ws i 0) % q) (sym prime-first) ∙ sym (modulo (valuesOf form ws .p) (valueOf (getD ws i 0)))
 
     -- ── question 6
 
@@ -195,43 +219,7 @@ module _ (form : Form) (modulo : form ≢ Certificate) (ws : List ℕ) where
       λ a. words-asked6 form us (subst (λ (v : Values). Words6 form (v .p) (half v) us) (sym values-same) (words-same .1 (asked6-words form ws a))),
     )
 
-  -- ── the questions, in their order
-
-  -- what is asked of the values, once question 2 is answered with yes
-  to : (P : Values → Type 0) → Asked2 form ws → P (valuesOf form us) → P (valuesOf form ws)
-  to P headed h = subst P (values-same headed) h
-
-  from : (P : Values → Type 0) → Asked2 form ws → P (valuesOf form ws) → P (valuesOf form us)
-  from P headed h = subst P (sym (values-same headed)) h
-
-  abbrev PrimeOf : Values → Type 0
-  PrimeOf v = PrimeAllowed (v .p)
-
-  abbrev Degree : Values → Type 0
-  Degree v = DegreeAllowed (v .degree) (v .p)
-
   -- Questions 2 to 7 are answered for the reduced sheet as for the sheet.
   pub reduced-alike : Alike (asked form us) (asked form ws)
   unfolding Asked2
-  reduced-alike = (
-    refl,
-    λ h. sym two ∙ h,
-    λ h. two ∙ h,
-    λ headed-us.
-        let headed : Asked2 form ws = sym two ∙ headed-us in (
-          refl,
-          to PrimeOf headed,
-          from PrimeOf headed,
-          λ _. (
-            refl,
-            to Degree headed,
-            from Degree headed,
-            λ _. (
-              refl,
-              to ValuesBelow headed,
-              from ValuesBelow headed,
-              λ _. (refl, six headed .0, six headed .1, λ _. (refl, to (Curves form) headed, from (Curves form) headed, λ _. tt)),
-            ),
-          ),
-        ),
-  )
+  reduced-alike = asked-alike form us ws (λ h. sym two ∙ h, λ h. two ∙ h) values-same (λ headed _. six headed)

@@ -1,27 +1,29 @@
--- The reading of one value by form: taken modulo p on a question or a kernel sheet, as it stands on a certificate (document 02, E2).
+-- What follows from how a form reads a value (`valueIn`): on a question or a kernel sheet every value is read as one below p.
 -- Assumes nothing.
-use mathlib.Core.Path.{_≡_, refl, sym, _∙_, ap, ap₂}
-use mathlib.Core.Logic.{_↔_, _≢_}
+use mathlib.Core.Path.{_≡_, refl, sym, _∙_, ap, ap₂, subst}
+use mathlib.Core.Logic.{_↔_}
 use mathlib.Core.List.{List, [], _∷_, map}
-use Prim.Native.Nat.{ℕ, suc, _-_, _<_}
+use Prim.Native.Nat.{ℕ, suc, _-_, _%_, _<_}
 use native.Mathlib.Nat.{zero-mod, mod-lt, mod-eq-of-lt}
-use native.Mathlib.Omega.{arith}
 use lib.ListN.{length, getD, drop, List·getD-map}
 use Rattle.zmod.specs.Residues.{Reduced}
 use Rattle.sheet.specs.declared.Form.{Form}
 use Rattle.sheet.specs.declared.Form.the-variants.{Question, Certificate, Kernel}
 use Rattle.sheet.specs.Word.{kindOf, valueOf}
-use Rattle.sheet.specs.Form.{header, body, valueIn}
+use Rattle.sheet.specs.Form.{header, body, entry, valueIn}
 use Rattle.sheet.specs.Values.{valuesOf, half, coefficientIn}
 use Rattle.sheet.specs.Asked.{ValuesBelow, Asked6}
 
 -- ── the forms on which values are taken modulo p: all but the certificate
 
-pub question-modulo : Question ≢ Certificate
-question-modulo e = let z : _≡_ {A = ℕ} 0 1 = cc in omega arith
+abbrev pub Modulo : Form → Type 0
+Modulo form = (p x : ℕ) → valueIn form p x ≡ x % p
 
-pub kernel-modulo : Kernel ≢ Certificate
-kernel-modulo e = let z : _≡_ {A = ℕ} 0 1 = cc in omega arith
+pub question-modulo : Modulo Question
+question-modulo p x = refl
+
+pub kernel-modulo : Modulo Kernel
+kernel-modulo p x = refl
 
 -- ── one value
 
@@ -31,13 +33,11 @@ value-below Question l = mod-eq-of-lt l
 value-below Certificate l = refl
 value-below Kernel l = mod-eq-of-lt l
 
--- but on a certificate, whatever is read is below p
-pub value-reduced : (form : Form) → form ≢ Certificate → {p : ℕ} → 0 < p → (x : ℕ) → valueIn form p x < p
-value-reduced Question n pos x = mod-lt x pos
-value-reduced Certificate n pos x = absurd (n refl)
-value-reduced Kernel n pos x = mod-lt x pos
+-- on those forms whatever is read is below p
+pub value-reduced : (form : Form) → Modulo form → {p : ℕ} → 0 < p → (x : ℕ) → valueIn form p x < p
+value-reduced form modulo {p} pos x = subst (λ r. r < p) (sym (modulo p x)) (mod-lt x pos)
 
-value-zero : (form : Form) (p : ℕ) → valueIn form p 0 ≡ 0
+pub value-zero : (form : Form) (p : ℕ) → valueIn form p 0 ≡ 0
 value-zero Question p = zero-mod p
 value-zero Certificate p = refl
 value-zero Kernel p = zero-mod p
@@ -54,9 +54,15 @@ pub coefficients-below : (form : Form) (p : ℕ) (ws : List ℕ) → Reduced p (
 coefficients-below form p [] small = refl
 coefficients-below form p (w ∷ ws) small = ap₂ _∷_ (value-below form (small 0)) (coefficients-below form p ws (λ i. small (suc i)))
 
--- ── questions 5 and 6 of a sheet that is no certificate
+-- ── a sheet
 
-module _ (form : Form) (modulo : form ≢ Certificate) (ws : List ℕ) (positive : 0 < valuesOf form ws .p) where
+-- p and ℓ are never reduced
+pub never-reduced : (form : Form) (ws : List ℕ) → (valuesOf form ws .p ≡ entry form 1 ws) × (valuesOf form ws .degree ≡ entry form 6 ws)
+never-reduced form ws = (refl, refl)
+
+-- questions 5 and 6 where values are taken modulo p
+
+module _ (form : Form) (modulo : Modulo form) (ws : List ℕ) (positive : 0 < valuesOf form ws .p) where
   -- 5 is answered with yes whatever the values are,
   pub five-always : ValuesBelow (valuesOf form ws)
   five-always =

@@ -10,16 +10,20 @@ use Rattle.sheet.specs.declared.Values.{Values}
 use Rattle.sheet.specs.Word.{valueOf}
 use Rattle.sheet.specs.Form.{header, entry, valueIn}
 
+-- the value of a kind in the header, those of p and ℓ apart
+abbrev pub valueAt : Form → ℕ → List ℕ → ℕ
+valueAt form k ws = valueIn form (entry form 1 ws) (entry form k ws)
+
 -- the values in the header, 0 where the form has no such word
 abbrev pub valuesOf : Form → List ℕ → Values
 valuesOf form ws = record {
   p = entry form 1 ws;
-  a = valueIn form (entry form 1 ws) (entry form 2 ws);
-  b = valueIn form (entry form 1 ws) (entry form 3 ws);
-  atilde = valueIn form (entry form 1 ws) (entry form 4 ws);
-  btilde = valueIn form (entry form 1 ws) (entry form 5 ws);
+  a = valueAt form 2 ws;
+  b = valueAt form 3 ws;
+  atilde = valueAt form 4 ws;
+  btilde = valueAt form 5 ws;
   degree = entry form 6 ws;
-  sigma = valueIn form (entry form 1 ws) (entry form 7 ws);
+  sigma = valueAt form 7 ws;
 }
 
 -- d = (ℓ − 1)/2
@@ -43,8 +47,8 @@ coefficientIn form p w = valueIn form p (valueOf w)
 
 -- the values of the coefficients of g, and of N
 abbrev pub gOf : Form → List ℕ → List ℕ
-gOf form ws = map (coefficientIn form (entry form 1 ws)) (take (half (valuesOf form ws) + 1) (drop (length (header form)) ws))
+gOf form ws = map (coefficientIn form (valuesOf form ws .p)) (take (half (valuesOf form ws) + 1) (drop (length (header form)) ws))
 
 abbrev pub nOf : Form → List ℕ → List ℕ
 nOf form ws =
-    map (coefficientIn form (entry form 1 ws)) (take (2 * half (valuesOf form ws) + 2) (drop (length (header form) + (half (valuesOf form ws) + 1)) ws))
+    map (coefficientIn form (valuesOf form ws .p)) (take (2 * half (valuesOf form ws) + 2) (drop (length (header form) + (half (valuesOf form ws) + 1)) ws))

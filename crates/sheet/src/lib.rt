@@ -8,6 +8,7 @@ ghost use lib.ListN.{length, take, drop};
 ghost use Rattle.zmod.specs.Zmod.{Zmod, mk};
 ghost use Rattle.zmod.specs.Residues.{Residue};
 ghost use Rattle.isogeny.specs.Curve.{discriminant, Nonsingular};
+ghost use Rattle.sheet.specs.declared.Form.the-variants.{Certificate};
 ghost use Rattle.sheet.specs.Word.{kindOf, valueOf, wordAt, wordsOf};
 ghost use Rattle.sheet.specs.Form.{header, entry, valueIn};
 ghost use Rattle.sheet.specs.Place.{placeOf, columnOf, Cell};
@@ -129,7 +130,7 @@ fn value_in(form: Form, p: u32, x: u32) -> u32
 }
 
 // The number in the header's word of a kind; 0 where the form has no such word, or the sheet ends before it.
-pub fn entry_of(form: Form, kind: usize, ws: &[u32]) -> u32
+fn entry_of(form: Form, kind: usize, ws: &[u32]) -> u32
     requires { ⌜ kind < 8 ⌝ }
     ensures { λ r. ⌜ (r ≡ entry form kind (now (ws .entry))) × (r < 2 ^ 28) ⌝ }
 {
@@ -154,7 +155,7 @@ fn value_of(form: Form, p: u32, kind: usize, ws: &[u32]) -> u32
 }
 
 // The values of a sheet whose p and ℓ have been read.
-pub fn values_of(form: Form, p: u32, degree: u32, ws: &[u32]) -> Values
+fn values_of(form: Form, p: u32, degree: u32, ws: &[u32]) -> Values
     requires { ⌜ (0 < p) × (p ≡ entry form 1 (now ws)) × (degree ≡ entry form 6 (now ws)) ⌝ }
     ensures { λ r. ⌜ r ≡ valuesOf form (now (ws .entry)) ⌝ }
 {
@@ -272,8 +273,8 @@ fn section(ws: &[u32], from: usize, to: usize, k: usize, bound: u32) -> bool
     true
 }
 
-// Whether the words between the header and the end are of their kinds, with coefficients below p. From the end down, each kind's words stand before those
-// of the next kind that the form has.
+// Whether the words between the header and the end are of their kinds, with coefficients that are read as values below p. From the end down, each kind's
+// words stand before those of the next kind that the form has.
 fn sections(form: Form, ws: &[u32], d: usize, end: usize, p: u32) -> bool
     requires { ⌜ (d ≤ 2 ^ 28) × (end ≡ last form d) × (end < length (now ws)) × (0 < p) ⌝ }
     ensures { λ r. ⌜ (r ≡ true) ↔ Sections form d (length (header form)) end p (now (ws .entry)) ⌝ }
@@ -391,10 +392,10 @@ pub fn g_coefficients(form: Form, p: u32, ws: &[u32], d: usize, out: &mut [u32])
     coefficients(form, p, ws, from, out);
 }
 
-// The coefficients of N on a certificate over p of degree 2 d + 1.
+// The coefficients of N on a certificate of degree 2 d + 1; p changes none of them there.
 pub fn n_coefficients(p: u32, ws: &[u32], d: usize, out: &mut [u32])
     requires { ⌜ (0 < p) × (d ≤ 2 ^ 28) × (d + 8 + length (now out) ≤ length (now ws)) ⌝ }
-    ensures { λ _. ⌜ now (out .exit) ≡ map valueOf (take (length (now (out .entry))) (drop (d + 8) (now (ws .entry)))) ⌝ }
+    ensures { λ _. ⌜ now (out .exit) ≡ map (coefficientIn Certificate p) (take (length (now (out .entry))) (drop (d + 8) (now (ws .entry)))) ⌝ }
 {
     let from = place(Form::Certificate, 9, d, 0);
     coefficients(Form::Certificate, p, ws, from, out);

@@ -7,8 +7,7 @@ use Prim.Native.Nat.{ℕ}
 use lib.ListN.{length}
 use Rattle.questions.specs.Judged.{Judged}
 use Rattle.sheet.specs.declared.Form.the-variants.{Certificate}
-use Rattle.sheet.specs.Values.{valuesOf, gOf, nOf}
-use Rattle.sheet.specs.Ready.{HoldsG, HoldsN}
+use Rattle.sheet.specs.Values.{gOf, nOf}
 use Rattle.promises.specs.Asked.{rules-ask}
 use Rattle.checking.proofs.Coefficients.{ready, long, g-words, g-holds, n-words, n-holds}
 use Rattle.checking.proofs.judge.Statement.{statement}

@@ -1,11 +1,9 @@
 -- `sheet::exact` meets its contract.
 -- Assumes nothing.
 use borrow.Author.Needs.{needs}
-use mathlib.Core.Path.{_≡_, refl, _∙_}
+use mathlib.Core.Path.{_≡_}
 use mathlib.Core.Logic.{_↔_}
-use Prim.Native.Nat.{_+_, _<_}
 use native.Mathlib.Omega.{arith}
-use lib.ListN.{length}
 use Rattle.sheet.specs.Asked.{Asked6}
 use Rattle.sheet.specs.Body.{last}
 use Rattle.questions.specs.Tests.{says-no}

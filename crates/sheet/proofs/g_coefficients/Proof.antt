@@ -35,7 +35,8 @@ returns : tie.Need-returns
 returns c =
     let at = c .before .before .before .before in
     let a = at .before .before .before .before .args in
-    c .before .before .coefficients .ensures ∙ ap (λ k. map (coefficientIn (a .form) (a .p)) (take (length (a .out .now)) (drop k (a .ws .now)))) (from-header at)
+    c .before .before .coefficients .ensures
+    ∙ ap (λ k. map (coefficientIn (a .form) (a .p)) (take (length (a .out .now)) (drop k (a .ws .now)))) (from-header at)
 
 pub g-coefficients-spec : {M : Type 1} → statement M
 g-coefficients-spec = tie.close (tie.spec place-requires place-requires-2 coefficients-requires same-length returns)

@@ -1,9 +1,9 @@
 -- `sheet::read` meets its contract: after each test, what it has shown of the sheet.
 -- Assumes nothing.
 use borrow.Author.Needs.{needs}
-use mathlib.Core.Path.{_≡_, sym, ap, ap₂, subst}
+use mathlib.Core.Path.{_≡_, sym, ap₂, subst}
 use mathlib.Core.List.{List}
-use Prim.Native.Nat.{ℕ, _<_, _^_}
+use Prim.Native.Nat.{ℕ}
 use native.Mathlib.Omega.{arith}
 use Rattle.questions.specs.Numbered.{first-no}
 use Rattle.sheet.specs.declared.Form.{Form}
@@ -15,7 +15,30 @@ use Rattle.questions.specs.Tests.{refuted, shown}
 use Rattle.sheet.proofs.read.Statement.{statement}
 use Rattle.sheet.proofs.read.Tie as tie
 
--- ── the sheet, from each place
+-- ── the places: a question was answered with yes, and what had been read by then
+
+abbrev passed2 : tie.Else2 → tie.Else1
+passed2 c = c .before .before .before
+
+abbrev read-p : tie.Else2 → tie.After-entry-of
+read-p c = c .before .before
+
+abbrev passed3 : tie.Else3 → tie.Else2
+passed3 c = c .before .before .before
+
+abbrev read-degree : tie.Else3 → tie.After-entry-of2
+read-degree c = c .before .before
+
+abbrev passed4 : tie.Else4 → tie.Else3
+passed4 c = c .before .before .before
+
+abbrev read-values : tie.Else4 → tie.After-values-of
+read-values c = c .before .before
+
+abbrev passed5 : tie.Else5 → tie.Else4
+passed5 c = c .before .before
+
+-- ── the sheet, from each of them
 
 abbrev form : tie.Start → Form
 form s = s .args .form
@@ -30,60 +53,55 @@ abbrev start1 : tie.Else1 → tie.Start
 start1 c = c .before .before .before
 
 abbrev start2 : tie.Else2 → tie.Start
-start2 c = start1 (c .before .before .before)
-
--- where question 2 was answered with yes
-abbrev headed : tie.Else2 → tie.Else1
-headed c = c .before .before .before
+start2 c = start1 (passed2 c)
 
 abbrev start3 : tie.Else3 → tie.Start
-start3 c = start2 (c .before .before .before)
+start3 c = start2 (passed3 c)
 
 abbrev start4 : tie.Else4 → tie.Start
-start4 c = start3 (c .before .before .before)
+start4 c = start3 (passed4 c)
 
 abbrev start5 : tie.Else5 → tie.Start
-start5 c = start4 (c .before .before)
+start5 c = start4 (passed5 c)
 
--- what was read is what the sheet says: p, ℓ, and the values
+-- ── what was read is what the sheet says: p, ℓ, and the values
+
 prime-is : (c : tie.After-entry-of) → c .entry-of .result ≡ values (start1 (c .before)) .p
 prime-is c = c .entry-of .ensures .0
 
 degree-is : (c : tie.After-entry-of2) → c .entry-of2 .result ≡ values (start2 (c .before)) .degree
 degree-is c = c .entry-of2 .ensures .0
 
--- question 4 of what was read is question 4 of the sheet
-fourth : (c : tie.After-entry-of2)
-    → DegreeAllowed (c .entry-of2 .result) (c .before .before .before .entry-of .result)
-    ≡ DegreeAllowed (values (start2 (c .before)) .degree) (values (start2 (c .before)) .p)
-fourth c = ap₂ DegreeAllowed (degree-is c) (prime-is (c .before .before .before))
-
 values-are : (c : tie.After-values-of) → c .values-of .result ≡ values (start3 (c .before))
 values-are c = c .values-of .ensures
 
--- ── the tests that were answered with yes
+-- question 4 of what was read is question 4 of the sheet
+fourth : (c : tie.After-entry-of2)
+    → DegreeAllowed (c .entry-of2 .result) (read-p (c .before) .entry-of .result)
+    ≡ DegreeAllowed (values (start2 (c .before)) .degree) (values (start2 (c .before)) .p)
+fourth c = ap₂ DegreeAllowed (degree-is c) (prime-is (read-p (c .before)))
+
+-- ── the questions that were answered with yes
 
 two : (c : tie.Else1) → Asked2 (form (start1 c)) (words (start1 c))
 two c = shown (c .before .headed .ensures) (c .if1 .left)
 
 three : (c : tie.Else2) → PrimeAllowed (values (start2 c) .p)
-three c = subst PrimeAllowed (prime-is (c .before .before)) (shown (c .before .prime-allowed .ensures) (c .if2 .left))
+three c = subst PrimeAllowed (prime-is (read-p c)) (shown (c .before .prime-allowed .ensures) (c .if2 .left))
 
 four : (c : tie.Else3) → DegreeAllowed (values (start3 c) .degree) (values (start3 c) .p)
-four c = subst (λ T. T) (fourth (c .before .before)) (shown (c .before .degree-allowed .ensures) (c .if3 .left))
+four c = subst (λ T. T) (fourth (read-degree c)) (shown (c .before .degree-allowed .ensures) (c .if3 .left))
 
 five : (c : tie.Else4) → ValuesBelow (values (start4 c))
-five c = subst ValuesBelow (values-are (c .before .before)) (shown (c .before .values-below .ensures) (c .if4 .left))
+five c = subst ValuesBelow (values-are (read-values c)) (shown (c .before .values-below .ensures) (c .if4 .left))
 
 six : (c : tie.Else5) → Asked6 (form (start5 c)) (words (start5 c))
 six c = shown (c .before .exact .ensures) (c .if5 .left)
 
 -- 3, 4 and 5 of the values that were read
-values-known : (c : tie.Else4) → Ready (c .before .before .values-of .result)
-values-known c =
-    let read = c .before .before in
-    let degree = read .before in
-    subst Ready (sym (values-are read)) (record { prime = three (degree .before .before .before); degree = four degree; below = five c })
+known : (c : tie.Else4) → Ready (read-values c .values-of .result)
+known c =
+    subst Ready (sym (values-are (read-values c))) (record { prime = three (passed3 (passed4 c)); degree = four (passed4 c); below = five c })
 
 -- ── the needs
 
@@ -103,10 +121,11 @@ prime-allowed-requires c κs = search needs
 
 returns-2 : tie.Need-returns-2
 returns-2 c =
-    let entry = c .before .before in
-    let s = start1 (entry .before) in
-    first-no (asked (form s) (words s)) 3 tt (two (entry .before), tt)
-    (λ h. refuted (c .before .prime-allowed .ensures) (c .if2 .taken) (subst PrimeAllowed (sym (prime-is entry)) h))
+    let read = c .before .before in
+    let second = read .before in
+    let s = start1 second in
+    first-no (asked (form s) (words s)) 3 tt (two second, tt)
+    (λ h. refuted (c .before .prime-allowed .ensures) (c .if2 .taken) (subst PrimeAllowed (sym (prime-is read)) h))
 
 entry-of-requires-2 : tie.Need-entry-of-requires-2
 entry-of-requires-2 c κs = search needs
@@ -116,18 +135,18 @@ degree-allowed-requires c κs = search needs
 
 returns-3 : tie.Need-returns-3
 returns-3 c =
-    let entry = c .before .before in
-    let prime = entry .before in
-    let s = start2 prime in
-    first-no (asked (form s) (words s)) 4 tt (two (headed prime), (three prime, tt))
-    (λ h. refuted (c .before .degree-allowed .ensures) (c .if3 .taken) (subst (λ T. T) (sym (fourth entry)) h))
+    let read = c .before .before in
+    let third = read .before in
+    let s = start2 third in
+    first-no (asked (form s) (words s)) 4 tt (two (passed2 third), (three third, tt))
+    (λ h. refuted (c .before .degree-allowed .ensures) (c .if3 .taken) (subst (λ T. T) (sym (fourth read)) h))
 
 values-of-requires : tie.Need-values-of-requires
 values-of-requires c κs =
-    let entry = c .before .before in
-    let prime = entry .before in
-    let p = shown (prime .before .prime-allowed .ensures) (prime .if2 .left) in
-    (omega (arith, p .least), prime-is (prime .before .before), degree-is entry)
+    let read = read-degree c in
+    let third = passed3 c in
+    let p = shown (third .before .prime-allowed .ensures) (third .if2 .left) in
+    (omega (arith, p .least), prime-is (read-p third), degree-is read)
 
 values-below-requires : tie.Need-values-below-requires
 values-below-requires c κs = search needs
@@ -135,52 +154,46 @@ values-below-requires c κs = search needs
 returns-4 : tie.Need-returns-4
 returns-4 c =
     let read = c .before .before in
-    let degree = read .before in
-    let prime = degree .before .before .before in
-    let s = start3 degree in
-    first-no (asked (form s) (words s)) 5 tt (two (headed prime), (three prime, (four degree, tt)))
+    let fourth = read .before in
+    let third = passed3 fourth in
+    let s = start3 fourth in
+    first-no (asked (form s) (words s)) 5 tt (two (passed2 third), (three third, (four fourth, tt)))
     (λ h. refuted (c .before .values-below .ensures) (c .if4 .taken) (subst ValuesBelow (sym (values-are read)) h))
 
 exact-requires : tie.Need-exact-requires
-exact-requires c κs =
-    let known = values-known c in
-    (values-are (c .before .before), omega (arith, known .degree .most), omega (arith, known .prime .least))
+exact-requires c κs = (values-are (read-values c), omega (arith, known c .degree .most), omega (arith, known c .prime .least))
 
 returns-5 : tie.Need-returns-5
 returns-5 c =
-    let below = c .before .before in
-    let degree = below .before .before .before in
-    let prime = degree .before .before .before in
-    let s = start4 below in
-    first-no (asked (form s) (words s)) 6 tt (two (headed prime), (three prime, (four degree, (five below, tt))))
+    let fifth = c .before .before in
+    let fourth = passed4 fifth in
+    let third = passed3 fourth in
+    let s = start4 fifth in
+    first-no (asked (form s) (words s)) 6 tt (two (passed2 third), (three third, (four fourth, (five fifth, tt))))
     (refuted (c .before .exact .ensures) (c .if5 .taken))
 
 curves-requires : tie.Need-curves-requires
-curves-requires c κs =
-    let known = values-known (c .before .before) in
-    (omega (arith, known .prime .least), omega (arith, known .prime .most))
+curves-requires c κs = let known = known (passed5 c) in (omega (arith, known .prime .least), omega (arith, known .prime .most))
 
 returns-6 : tie.Need-returns-6
 returns-6 c =
-    let whole = c .before .before in
-    let below = whole .before .before in
-    let read = below .before .before in
-    let degree = read .before in
-    let prime = degree .before .before .before in
-    let s = start5 whole in
-    first-no (asked (form s) (words s)) 7 tt (two (headed prime), (three prime, (four degree, (five below, (six whole, tt)))))
-    (λ h. refuted (c .before .curves .ensures) (c .if6 .taken) (subst (Curves (form s)) (sym (values-are read)) h))
+    let sixth = c .before .before in
+    let fifth = passed5 sixth in
+    let fourth = passed4 fifth in
+    let third = passed3 fourth in
+    let s = start5 sixth in
+    first-no (asked (form s) (words s)) 7 tt (two (passed2 third), (three third, (four fourth, (five fifth, (six sixth, tt)))))
+    (λ h. refuted (c .before .curves .ensures) (c .if6 .taken) (subst (Curves (form s)) (sym (values-are (read-values fifth))) h))
 
 returns-7 : tie.Need-returns-7
 returns-7 c =
-    let whole = c .before .before in
-    let below = whole .before .before in
-    let read = below .before .before in
-    let degree = read .before in
-    let prime = degree .before .before .before in
-    let s = start5 whole in
-    let seven = subst (Curves (form s)) (values-are read) (shown (c .before .curves .ensures) (c .if6 .left)) in
-    ((two (headed prime), (three prime, (four degree, (five below, (six whole, (seven, tt)))))), values-are read)
+    let sixth = c .before .before in
+    let fifth = passed5 sixth in
+    let fourth = passed4 fifth in
+    let third = passed3 fourth in
+    let s = start5 sixth in
+    let seven = subst (Curves (form s)) (values-are (read-values fifth)) (shown (c .before .curves .ensures) (c .if6 .left)) in
+    ((two (passed2 third), (three third, (four fourth, (five fifth, (six sixth, (seven, tt)))))), values-are (read-values fifth))
 
 pub read-spec : {M : Type 1} → statement M
 read-spec =

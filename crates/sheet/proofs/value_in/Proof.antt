@@ -1,6 +1,6 @@
 -- `sheet::value_in` meets its contract. Assumes nothing.
 use borrow.Author.Needs.{needs}
-use mathlib.Core.Path.{_≡_, sym, ap}
+use mathlib.Core.Path.{sym, ap}
 use Rattle.sheet.specs.Form.{valueIn}
 use Rattle.sheet.specs.Reduction.{value-below}
 use Rattle.sheet.proofs.value_in.Statement.{statement}

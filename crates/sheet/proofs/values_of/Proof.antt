@@ -3,6 +3,7 @@ use borrow.Author.Needs.{needs}
 use mathlib.Core.Path.{_≡_, _∙_, ap}
 use Prim.Native.Nat.{ℕ}
 use Rattle.sheet.specs.Form.{entry, valueIn}
+use Rattle.sheet.specs.Values.{valueAt}
 use Rattle.sheet.specs.Fields.{same}
 use Rattle.sheet.proofs.values_of.Statement.{statement}
 use Rattle.sheet.proofs.values_of.Tie as tie
@@ -31,8 +32,7 @@ returns c =
     let s = first .before .before in
     let a = s .args in
     -- the p that was read is the sheet's
-    let over : (k : ℕ) → valueIn (a .form) (a .p) (entry (a .form) k (a .ws .now)) ≡ valueIn (a .form) (entry (a .form) 1 (a .ws .now))
-    (entry (a .form) k (a .ws .now)) =
+    let over : (k : ℕ) → valueIn (a .form) (a .p) (entry (a .form) k (a .ws .now)) ≡ valueAt (a .form) k (a .ws .now) =
     λ k. ap (λ p. valueIn (a .form) p (entry (a .form) k (a .ws .now))) (s .pre .1) in
     same (s .pre .1) (first .value-of .ensures ∙ over 2) (second .value-of2 .ensures ∙ over 3) (third .value-of3 .ensures ∙ over 4)
     (fourth .value-of4 .ensures ∙ over 5) (s .pre .2) (c .value-of5 .ensures ∙ over 7)
