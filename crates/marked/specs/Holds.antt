@@ -401,8 +401,8 @@ test (pushes v g n from to) = every (push-tests (certificate v g n) from to)
 test (kernel q h v g n) = every (codomain-tests q h v g n)
 test (no-kernel v g k) = every (no-kernel-tests v g k)
 test (refused v g n k) = refused-test (certificate v g n) k
-test (unnamed p a b k) = every (unnamed-tests p a b k)
 test (refused-though v g n k) = every (though-tests v g n k)
+test (unnamed p a b k) = every (unnamed-tests p a b k)
 test (parts v g l m n) = every (part-tests v g l m n)
 
 pub row-holds : (r : Row) → T (test r) → Claim r
@@ -413,10 +413,10 @@ row-holds (pushes v g n from to) t = push-by-computing (certificate v g n) from 
 row-holds (kernel q h v g n) t = kernel-by-computing q h v g n (every-yes (codomain-tests q h v g n) t)
 row-holds (no-kernel v g k) t = no-kernel-by-computing v g k (every-yes (no-kernel-tests v g k) t)
 row-holds (refused v g n k) t = refused-holds (certificate v g n) k t
-row-holds (unnamed p a b k) t = unnamed-by-computing p a b k (every-yes (unnamed-tests p a b k) t)
 row-holds (refused-though v g n k) t =
     let s : Every (though-tests v g n k) = every-yes (though-tests v g n k) t in (
       refused-by-computing (certificate v g n) k (every-yes (refused-tests (certificate v g n) k) (s 0)),
       R3-by-computing v g n (ltb→lt 0 (v .p) (s 1)) (s 2),
     )
+row-holds (unnamed p a b k) t = unnamed-by-computing p a b k (every-yes (unnamed-tests p a b k) t)
 row-holds (parts v g l m n) t = parts-hold v g l m n (every-yes (part-tests v g l m n) t)
