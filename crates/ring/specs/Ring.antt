@@ -1,4 +1,4 @@
--- Commutative rings: a bundle, the few laws that follow by hand, and the numbers n · 1 of a ring.
+-- Commutative rings: a bundle, the few laws that follow by hand, and the numbers n · 1 and the powers of a ring.
 -- What else holds in every commutative ring is proved by computing: `Identity`, `solve1` ...
 -- Assumes nothing.
 use mathlib.Core.Path.{_≡_, refl, sym, _∙_, ap, ap₂}
@@ -119,3 +119,9 @@ module _ (R : CRing) where
   pub pow-suc : (a : Car) (n : ℕ) → pow a (suc n) ≡ a ⊗ pow a n
   unfolding pow
   pow-suc a n = refl
+
+  pub pow-add : (a : Car) (m n : ℕ) → pow a (m + n) ≡ pow a m ⊗ pow a n
+  pow-add a zero n = ap (pow a) (N.zero-add n) ∙ sym (ap (λ x. x ⊗ pow a n) (pow-zero a) ∙ one-mul (pow a n))
+  pow-add a (suc m) n =
+      ap (pow a) (N.suc-add m n) ∙ pow-suc a (m + n) ∙ ap (λ x. a ⊗ x) (pow-add a m n) ∙ sym (mul-assoc a (pow a m) (pow a n))
+      ∙ ap (λ x. x ⊗ pow a n) (sym (pow-suc a m))

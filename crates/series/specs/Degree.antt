@@ -1,5 +1,5 @@
 -- Polynomials are sequences that are zero from some place on. Sums, products, derivatives and whatever an expression makes of polynomials are
--- polynomials; the leading coefficient of a product; cancelling a factor whose leading coefficient is a unit.
+-- polynomials; the leading coefficient of a product; cancelling a factor whose leading coefficient is a unit; degrees over a field.
 -- Assumes nothing.
 use mathlib.Core.Path.{_≡_, refl, sym, _∙_, ap, ap₂, subst, fun-ext}
 use mathlib.Core.Logic.{_⊎_, inl, inr}
@@ -12,7 +12,7 @@ use Rattle.ring.specs.Ring.{CRing, cast, cast-zero, cast-suc, pow, pow-zero, po
 use Rattle.ring.specs.Identity.{Ex, eval, at, solve3}
 use Rattle.ring.specs.Identity.Ex.{var, num, :0, :1, _:+_, _:-_, _:*_, :-_, _:^_}
 use Rattle.series.specs.Series.{Series, Seq, conv, sums, negs, scaled, const, zeros, tail, conv-zero, conv-suc, conv-zeros, conv-const, ∂, ∂-at}
-use Rattle.ring.specs.Field.{Inverse, unit-cancel}
+use Rattle.ring.specs.Field.{Inverse, Field, unit-cancel}
 
 module _ (R : CRing) where
   open CRing R using (Car, 𝟘, 𝟙, add as _⊕_, mul as _⊗_, neg, add-zero, mul-one)
@@ -184,6 +184,19 @@ module _ (R : CRing) where
     below = degree-mul m n a b (ha .below) (hb .below);
     one = top m n a b (ha .below) (hb .below) ∙ ap₂ _⊗_ (ha .one) (hb .one) ∙ mul-one 𝟙;
   }
+
+  -- over a field, a polynomial is zero or has a degree
+  pub degree : Field R → (n : ℕ) (a : Seq R) → Below n a → (a ≡ zeros R) ⊎ ((m : ℕ) × (m < n) × Leading m a)
+  degree F zero a h = inl (below-zeros a h)
+  degree F (suc n) a h = go (F .zero? (a n)) (degree F n a)
+    where
+      up : (a ≡ zeros R) ⊎ ((m : ℕ) × (m < n) × Leading m a) → (a ≡ zeros R) ⊎ ((m : ℕ) × (m < suc n) × Leading m a)
+      up (inl e) = inl e
+      up (inr (m, l, L)) = inr (m, N.le-step l, L)
+
+      go : Dec (a n ≡ 𝟘) → (Below n a → (a ≡ zeros R) ⊎ ((m : ℕ) × (m < n) × Leading m a)) → (a ≡ zeros R) ⊎ ((m : ℕ) × (m < suc n) × Leading m a)
+      go (yes e) rec = up (rec (below-drop n a h e))
+      go (no e) rec = inr (n, N.le-refl (suc n), record { below = h; unit = F .invert (a n) e })
 
   -- where b has degree n, the degree of k is that of b k less n
   pub factor-below : (n : ℕ) (b k : Seq R) → Leading n b → Poly k → (j : ℕ) → Below (n + j) (conv R b k) → Below j k

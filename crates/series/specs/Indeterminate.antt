@@ -1,10 +1,10 @@
 -- The indeterminate of `Series R`, which is x of polynomials and t of power series; numbers and elements of R as series; what the derivations
 -- d/dx and D = x · d/dx make of them.
 -- Assumes nothing.
-use mathlib.Core.Path.{_≡_, sym, _∙_, ap, ap₂, fun-ext}
+use mathlib.Core.Path.{_≡_, refl, sym, _∙_, ap, ap₂, fun-ext}
 use Prim.Native.Nat.{ℕ, zero, suc}
 use Rattle.ring.specs.Ring
-use Rattle.ring.specs.Ring.{CRing, cast, cast-zero, cast-suc}
+use Rattle.ring.specs.Ring.{CRing, cast, cast-zero, cast-suc, pow, pow-zero, pow-suc}
 use Rattle.ring.specs.Identity.{solve1, solve2}
 use Rattle.ring.specs.Identity.Ex.{num, :1, _:+_, _:-_, _:*_}
 use Rattle.series.specs.Series as S
@@ -40,6 +40,27 @@ module _ (R : CRing) where
 
   pub conv-cast : (n : ℕ) (a : Seq R) (i : ℕ) → conv R (cast (Series R) n) a i ≡ cast R n ⊗ a i
   conv-cast n a i = ap (λ f. conv R f a i) (cast-series n) ∙ conv-const R (cast R n) a i
+
+  -- ── elements of R as series: their sums, products and powers
+
+  pub const-add : (a b : Car) → const R a +ₛ const R b ≡ const R (a ⊕ b)
+  const-add a b = fun-ext go
+    where
+      go : (i : ℕ) → const R a i ⊕ const R b i ≡ const R (a ⊕ b) i
+      go zero = refl
+      go (suc i) = add-zero 𝟘
+
+  pub const-mul : (a b : Car) → const R a *ₛ const R b ≡ const R (a ⊗ b)
+  const-mul a b = fun-ext λ i. conv-const R a (const R b) i ∙ go i
+    where
+      go : (i : ℕ) → a ⊗ const R b i ≡ const R (a ⊗ b) i
+      go zero = refl
+      go (suc i) = Ring.mul-zero R a
+
+  pub const-pow : (a : Car) (n : ℕ) → pow (Series R) (const R a) n ≡ const R (pow R a n)
+  const-pow a zero = pow-zero (Series R) (const R a) ∙ ap (const R) (sym (pow-zero R a))
+  const-pow a (suc n) =
+      pow-suc (Series R) (const R a) n ∙ ap (λ y. const R a *ₛ y) (const-pow a n) ∙ const-mul a (pow R a n) ∙ ap (const R) (sym (pow-suc R a n))
 
   -- ── derivatives
 

@@ -10,3 +10,4 @@ pub mod Source
 pub mod Again
 pub mod Names
 pub mod Reduced
+pub mod LowestTerms

@@ -12,11 +12,12 @@ use Rattle.ring.specs.Identity.Ex.{var, num, :0, :1, _:+_, _:-_, _:*_, :-_, _:^
 use Rattle.ring.specs.Derivation as Deriv
 use Rattle.ring.specs.Derivative.{Along, deriv, rules, derive}
 use Rattle.series.specs.Series.{Series, Seq, Formal, const, ∂}
-use Rattle.series.specs.Degree.{Below, Poly, Polys, Monic, leading, monic-mul, factor-below, poly-cast, poly-const, poly-eval, ∂-below}
+use Rattle.series.specs.Degree.{Below, Poly, Monic, leading, monic-mul, factor-below, poly-cast, poly-const, poly-eval, poly-∂}
 use Rattle.series.specs.ConstantTerm.{cancel-first, pow-first}
 use Rattle.series.specs.Indeterminate.{ind, ∂-ind, ∂-const}
 use Rattle.series.specs.Reversal.{rev, Reversed, r-degree, r-left, r-mul, r-pow, r-ind}
 use Rattle.isogeny.specs.Rules.{Question, R1, ℓ, f, N, W}
+use Rattle.isogeny.specs.Proof.Degrees.{poly-f}
 use Rattle.isogeny.specs.Proof.Infinity as I
 use Rattle.isogeny.specs.Proof.Infinity.{reversed, quot, Ψ}
 use Rattle.isogeny.specs.Proof.Second.{second, r-second}
@@ -46,7 +47,7 @@ module _ (R : CRing) (q : Question R) where
 
   -- ── derivatives
 
-  ∂-f : ∂ R (f R q) ≡ # 3 ⊗ x ^ 2 ⊕ κ A
+  pub ∂-f : ∂ R (f R q) ≡ # 3 ⊗ x ^ 2 ⊕ κ A
   unfolding f
   ∂-f =
       derive (Series R) (Formal R) (x ∷ κ A ∷ κ B ∷ []) (:1 ∷ :0 ∷ :0 ∷ []) (∂-ind R, (∂-const R A, (∂-const R B, tt)))
@@ -159,23 +160,18 @@ module _ (R : CRing) (q : Question R) where
     abbrev u : Seq R
     u = quot R q (I.power-sums R q g)
 
-    poly-∂ : (a : Seq R) → Poly R a → Poly R (∂ R a)
-    poly-∂ a p = (p .0, ∂-below R (p .0) a (λ i l. p .1 i (omega arith)))
-
     M-poly : Poly R (M g)
-    unfolding M f
+    unfolding M
     M-poly =
         let p : Poly R g = (suc d, r1 .degree) in
-        let p₁ : Poly R (∂ R g) = poly-∂ g p in
-        let p₂ : Poly R (∂ R (∂ R g)) = poly-∂ _ p₁ in
-        let p₃ : Poly R (∂ R (∂ R (∂ R g))) = poly-∂ _ p₂ in
-        poly-eval R (xs g)
-        ((2, r-ind R .below), (poly-const R A, (f-poly, (poly-cast R (ℓ R q), (poly-const R σ, (poly-const R Ã, (p, (p₁, (p₂, (p₃, (poly-∂ _ p₃, tt)))))))))))
+        let p₁ : Poly R (∂ R g) = poly-∂ R g p in
+        let p₂ : Poly R (∂ R (∂ R g)) = poly-∂ R _ p₁ in
+        let p₃ : Poly R (∂ R (∂ R (∂ R g))) = poly-∂ R _ p₂ in
+        poly-eval R (xs g) (
+          (2, r-ind R .below),
+          (poly-const R A, (poly-f R q, (poly-cast R (ℓ R q), (poly-const R σ, (poly-const R Ã, (p, (p₁, (p₂, (p₃, (poly-∂ R _ p₃, tt)))))))))),
+        )
         (:M g)
-      where
-        f-poly : Poly R (f R q)
-        f-poly =
-            poly-eval R (x ∷ κ A ∷ κ B ∷ []) ((2, r-ind R .below), (poly-const R A, (poly-const R B, tt))) (var 0 :^ 3 :+ var 1 :* var 0 :+ var 2)
 
     -- g² is monic, so M has the degree of g² M less 2d
     M-below : Below R (suc (suc (ℓ R q))) (M g)

@@ -1,0 +1,113 @@
+-- The theorems, about polynomials over ℤ/p for a prime p ≥ ℓ (question 4 asks for more, 2ℓ − 1 < p): one page to cite. Factors are polynomials over ℤ/p,
+-- not those over a larger field; but an equation u g + v g′ = 1 is one over every larger field too. What is said here is said in `isogeny`'s `Curve` and
+-- `Rules` and in `divisibility`'s `Divides` and `Coprime`; the proofs are in `Proof`, over any field in which 1 to ℓ − 1 are not zero.
+-- Assumes nothing.
+use mathlib.Core.Logic.{_≢_}
+use mathlib.Core.Path.{_≡_, sym, _∙_, ap, subst}
+use Prim.Native.Nat.{ℕ, suc, _+_, _-_, _≤_, _<_}
+use native.Mathlib.Omega.{arith}
+use Rattle.ring.specs.Ring
+use Rattle.ring.specs.Ring.{CRing, cast, pow}
+use Rattle.ring.specs.Powers.{squared}
+use Rattle.ring.specs.Field.{Field}
+use Rattle.series.specs.Series.{Series, Seq, conv, zeros, ∂}
+use Rattle.series.specs.Degree.{Below, Poly, Leading, Monic, leading, leading-poly, leading-regular, monic-mul, monic-poly, poly-∂}
+use Rattle.zmod.specs.Zmod.{Zmod}
+use Rattle.zmod.specs.Prime.{Prime, Zmod-field, cast-nonzero, cast-inverse}
+use Rattle.isogeny.specs.Curve.{Nonsingular}
+use Rattle.isogeny.specs.Rules.{Question, Meets, ℓ, f, N}
+use Rattle.isogeny.specs.Theorems.{N-degree, N-monic}
+use Rattle.isogeny.specs.Proof.Degrees.{poly-f}
+use Rattle.divisibility.specs.Divides.{Divides, NoCommonFactor, SquareFree, divides-degree}
+use Rattle.divisibility.specs.Coprime.{Coprime, bezout-sym, coprime-pow, coprime-no-common-factor, coprime-square-free}
+use Rattle.divisibility.specs.Fraction as Fraction
+use Rattle.divisibility.specs.Irreducible.{coprime-by-irreducibles}
+use Rattle.lowest_terms.specs.Proof.Cases as Cases
+use Rattle.lowest_terms.specs.Proof.Numerator as Numerator
+
+module _ {p : ℕ} (P : Prime p) where
+  abbrev R : CRing
+  R = Zmod p
+
+  abbrev F : Field R
+  F = Zmod-field P
+
+  module _ (q : Question R) (d≥1 : 1 ≤ q .d) (nonsingular : Nonsingular R (q .A) (q .B)) (small : ℓ R q ≤ p) (g : Seq R) (meets : Meets R q g) where
+    open Question q using (d)
+
+    units : (j : ℕ) → 1 ≤ j → j < ℓ R q → cast R j ≢ R .𝟘
+    units j h l = cast-nonzero P j h (omega arith)
+
+    g-monic : Monic R d g
+    g-monic = record { below = meets .r1 .degree; one = meets .r1 .leading }
+
+    g-leading : Leading R d g
+    g-leading = leading R d g g-monic
+
+    -- ── 1. Bezout's equations: there are polynomials u and v over ℤ/p
+
+    -- with u g + v g′ = 1,
+    pub coprime-derivative : Coprime R g (∂ R g)
+    coprime-derivative =
+        coprime-by-irreducibles R F g (∂ R g) (Cases.not-derivative R F q nonsingular units g meets) d g-leading
+        (poly-∂ R g (monic-poly R d g g-monic))
+
+    -- with u g + v f = 1,
+    pub coprime-f : Coprime R g (f R q)
+    coprime-f = coprime-by-irreducibles R F g (f R q) (Cases.not-f R F q nonsingular units g meets) d g-leading (poly-f R q)
+
+    -- and with u g + v N = 1, for the N of R2.
+    pub coprime-N : Coprime R g (N R q g)
+    coprime-N = Numerator.coprime-N R q g (monic-poly R d g g-monic) (cast-inverse P 2 (omega arith) (omega arith)) coprime-f coprime-derivative
+
+    -- ── 2. factors over ℤ/p
+
+    -- g has no repeated factor: a polynomial over ℤ/p whose square divides g is a constant.
+    pub square-free : SquareFree R g
+    square-free = coprime-square-free R F g coprime-derivative
+
+    -- g has no factor in common with f = x³ + Ax + B: a polynomial over ℤ/p that divides both is a constant.
+    pub no-factor-f : NoCommonFactor R g (f R q)
+    no-factor-f = coprime-no-common-factor R F g (f R q) coprime-f
+
+    -- And it has none in common with N.
+    pub no-factor-N : NoCommonFactor R g (N R q g)
+    no-factor-N = coprime-no-common-factor R F g (N R q g) coprime-N
+
+    -- ── 3. N / g² is in lowest terms: let M / D be the same map, that is M g² = N D, with any polynomials M and D over ℤ/p
+
+    abbrev g² : Seq R
+    g² = pow (Series R) g 2
+
+    g²-leading : Leading R (d + d) g²
+    g²-leading = leading R (d + d) g² (subst (Monic R (d + d)) (squared (Series R) g) (monic-mul R d d g g g-monic g-monic))
+
+    N-leading : Leading R (ℓ R q) (N R q g)
+    N-leading = leading R (ℓ R q) (N R q g) (record { below = N-degree P q d≥1 g (meets .r1); one = N-monic P q d≥1 g (meets .r1) })
+
+    module _ (M D : Seq R) (poly-M : Poly R M) (poly-D : Poly R D) (same : conv R M g² ≡ conv R (N R q g) D) where
+      coprime-N-g² : Coprime R (N R q g) g²
+      coprime-N-g² = coprime-pow R (N R q g) g (monic-poly R d g g-monic) (bezout-sym R g (N R q g) _ coprime-N) 2
+
+      -- Then g² divides D,
+      pub denominator : Divides R g² D
+      denominator = Fraction.denominator R (N R q g) g² M D coprime-N-g² poly-M poly-D same
+
+      -- and M is N times what D is g² times.
+      pub numerator : conv R (N R q g) (denominator .cofactor) ≡ M
+      unfolding denominator
+      numerator =
+          Fraction.numerator R (N R q g) g² M D coprime-N-g² poly-M poly-D same (leading-poly R (ℓ R q) (N R q g) N-leading)
+          (leading-regular R (d + d) g² g²-leading)
+
+      -- So, if D is not 0, its degree is ℓ − 1 or more,
+      pub denominator-degree : D ≢ zeros R → (n : ℕ) → Below R (suc n) D → ℓ R q - 1 ≤ n
+      denominator-degree nonzero n below =
+          let h : d + d ≤ n = divides-degree R (d + d) g² D g²-leading denominator nonzero n below in
+          omega arith
+
+      -- and that of M is ℓ or more: ℓ is the degree of the map.
+      pub numerator-degree : D ≢ zeros R → (n : ℕ) → Below R (suc n) M → ℓ R q ≤ n
+      numerator-degree nonzero =
+          divides-degree R (ℓ R q) (N R q g) M N-leading (record { cofactor = denominator .cofactor; poly = denominator .poly; is = numerator })
+          (λ e. nonzero (leading-regular R (ℓ R q) (N R q g) N-leading D poly-D (sym same ∙ ap (λ y. conv R y g²) e ∙ Ring.zero-mul (Series R) g²)))

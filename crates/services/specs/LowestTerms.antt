@@ -1,0 +1,143 @@
+-- Kernels free of repetition (document 02, E12), about the words of every sheet that check lets pass, whoever wrote them; what solve and kernel write is
+-- such a sheet (`Solve`, `Kernel`). Polynomials and their factors are over ℤ/p, the field of the sheet's p; g and N are those on the sheet.
+-- Assumes nothing.
+use mathlib.Core.Logic.{_≢_}
+use mathlib.Core.Path.{_≡_, sym, _∙_, ap, subst}
+use mathlib.Core.List.{List}
+use Prim.Native.Nat.{ℕ, suc, _-_, _≤_}
+use native.Mathlib.Omega.{arith}
+use Rattle.ring.specs.Ring.{CRing, pow}
+use Rattle.series.specs.Series.{Series, Seq, conv, zeros, ∂}
+use Rattle.series.specs.Degree.{Below, Poly}
+use Rattle.zmod.specs.Zmod.{Zmod}
+use Rattle.zmod.specs.Prime.{Prime}
+use Rattle.isogeny.specs.Curve.{Nonsingular}
+use Rattle.isogeny.specs.Rules as Rules
+use Rattle.isogeny.specs.Rules.{Question, Meets}
+use Rattle.divisibility.specs.Divides.{Divides, NoCommonFactor, SquareFree}
+use Rattle.divisibility.specs.Coprime.{Coprime}
+use Rattle.lowest_terms.specs.Theorems as Theorems
+use Rattle.questions.specs.Numbered.{yes-to}
+use Rattle.sheet.specs.declared.Form.the-variants.{Certificate}
+use Rattle.sheet.specs.Values.{valuesOf}
+use Rattle.sheet.specs.Asked.{Curves}
+use Rattle.sheet.specs.Ready.{Ready, ready, half-least, degree-half, degree-below}
+use Rattle.promises.specs.declared.Verdict.the-variants as verdict
+use Rattle.promises.specs.Asked as Asked
+use Rattle.promises.specs.Asked.{prime, put, check-asks}
+use Rattle.promises.specs.Answer.{CheckRight}
+use Rattle.services.specs.Push.{check-asked}
+use Rattle.services.specs.Source.{certificate-N, certificate-meets}
+
+-- Check's verdict on the words is that they pass.
+module _ (ws : List ℕ) (passes : CheckRight ws verdict.Passes) where
+  abbrev p : ℕ
+  p = prime Certificate ws
+
+  abbrev R : CRing
+  R = Zmod p
+
+  -- the degree on the sheet
+  abbrev ℓ : ℕ
+  ℓ = valuesOf Certificate ws .degree
+
+  abbrev q : Question R
+  q = put Certificate ws
+
+  -- x³ + Ax + B
+  abbrev f : Seq R
+  f = Rules.f R q
+
+  abbrev g : Seq R
+  g = Asked.g Certificate ws
+
+  abbrev N : Seq R
+  N = Asked.n Certificate ws
+
+  abbrev g² : Seq R
+  g² = pow (Series R) g 2
+
+  -- ── what its questions say
+
+  known : Ready (valuesOf Certificate ws)
+  known = ready Certificate ws (check-asked ws (passes .0))
+
+  is-prime : Prime p
+  is-prime = known .prime .prime
+
+  d≥1 : 1 ≤ q .d
+  d≥1 = half-least (valuesOf Certificate ws) known
+
+  nonsingular : Nonsingular R (q .A) (q .B)
+  nonsingular = let curves : Curves Certificate (valuesOf Certificate ws) = yes-to (check-asks ws) 7 (passes .0) in curves .domain
+
+  small : Rules.ℓ R q ≤ p
+  small = omega (arith, degree-below (valuesOf Certificate ws) known, degree-half (valuesOf Certificate ws) known)
+
+  N-is : N ≡ Rules.N R q g
+  N-is = certificate-N ws (passes .0)
+
+  meets : Meets R q g
+  meets = certificate-meets ws (passes .0)
+
+  -- ── factors over ℤ/p
+
+  -- g has no repeated factor: a polynomial over ℤ/p whose square divides g is a constant.
+  pub square-free : SquareFree R g
+  square-free = Theorems.square-free is-prime q d≥1 nonsingular small g meets
+
+  -- g has no factor of degree 1 or more in common with f: a polynomial over ℤ/p that divides both is a constant.
+  pub no-factor-f : NoCommonFactor R g f
+  no-factor-f = Theorems.no-factor-f is-prime q d≥1 nonsingular small g meets
+
+  -- And g has none in common with N.
+  pub no-factor-N : NoCommonFactor R g N
+  no-factor-N = subst (NoCommonFactor R g) (sym N-is) (Theorems.no-factor-N is-prime q d≥1 nonsingular small g meets)
+
+  -- ── the same in equations, which are true over every larger field too: there are polynomials u and v over ℤ/p
+
+  -- with u g + v g′ = 1,
+  pub coprime-derivative : Coprime R g (∂ R g)
+  coprime-derivative = Theorems.coprime-derivative is-prime q d≥1 nonsingular small g meets
+
+  -- with u g + v f = 1,
+  pub coprime-f : Coprime R g f
+  coprime-f = Theorems.coprime-f is-prime q d≥1 nonsingular small g meets
+
+  -- and with u g + v N = 1.
+  pub coprime-N : Coprime R g N
+  coprime-N = subst (Coprime R g) (sym N-is) (Theorems.coprime-N is-prime q d≥1 nonsingular small g meets)
+
+  -- ── ℓ is the degree of the map in lowest terms: let M / D be N / g² in other words, that is M g² = N D, with any polynomials M and D over ℤ/p
+
+  module _ (M D : Seq R) (poly-M : Poly R M) (poly-D : Poly R D) (same : conv R M g² ≡ conv R N D) where
+    same-N : conv R M g² ≡ conv R (Rules.N R q g) D
+    same-N = same ∙ ap (λ y. conv R y D) N-is
+
+    -- Then g² divides D,
+    pub denominator : Divides R g² D
+    denominator = Theorems.denominator is-prime q d≥1 nonsingular small g meets M D poly-M poly-D same-N
+
+    -- and M is N times what D is g² times.
+    pub numerator : conv R N (denominator .cofactor) ≡ M
+    unfolding denominator
+    numerator =
+        ap (λ y. conv R y (denominator .cofactor)) N-is ∙ Theorems.numerator is-prime q d≥1 nonsingular small g meets M D poly-M poly-D same-N
+
+    -- So, if D is not 0, the degree of D is ℓ − 1 or more,
+    pub denominator-degree : D ≢ zeros R → (n : ℕ) → Below R (suc n) D → ℓ - 1 ≤ n
+    denominator-degree nonzero n below =
+        omega (
+          arith,
+          Theorems.denominator-degree is-prime q d≥1 nonsingular small g meets M D poly-M poly-D same-N nonzero n below,
+          degree-half (valuesOf Certificate ws) known,
+        )
+
+    -- and that of M is ℓ or more.
+    pub numerator-degree : D ≢ zeros R → (n : ℕ) → Below R (suc n) M → ℓ ≤ n
+    numerator-degree nonzero n below =
+        omega (
+          arith,
+          Theorems.numerator-degree is-prime q d≥1 nonsingular small g meets M D poly-M poly-D same-N nonzero n below,
+          degree-half (valuesOf Certificate ws) known,
+        )
