@@ -1,6 +1,6 @@
 -- Bezout's combinations u a + v b of polynomials, and coprime polynomials: those with u a + v b = 1.
 -- Assumes nothing.
-use mathlib.Core.Path.{_≡_, sym, _∙_, ap, subst}
+use mathlib.Core.Path.{_≡_, refl, sym, _∙_, ap, ap₂, subst}
 use mathlib.Core.Logic.{_⊎_, inl, inr, _≢_}
 use Prim.Native.Nat.{ℕ, zero, suc, _≤_, _<_}
 use native.Mathlib.Omega.{arith}
@@ -13,6 +13,7 @@ use Rattle.ring.specs.Identity.Ex.{:0, :1, _:+_, _:-_, _:*_}
 use Rattle.series.specs.Series.{Series, Seq, const, zeros, ∂, ∂-leibniz}
 use Rattle.series.specs.Degree.{Below, Poly, Leading, degree, poly-zeros, poly-const, const-below, poly-add, poly-neg, poly-mul, poly-∂}
 use Rattle.series.specs.Indeterminate.{const-mul}
+use Rattle.series.specs.Value.{at, at-add, at-mul, at-const}
 use Rattle.divisibility.specs.Divides.{Divides, NoCommonFactor, SquareFree, divides-refl, divides-degree, divides-sum}
 use Rattle.divisibility.specs.Congruence.{Congruent}
 
@@ -117,6 +118,21 @@ module _ (R : CRing) where
   pub coprime-pow : (a b : Seq R) → Poly R b → Coprime a b → (n : ℕ) → Coprime a (pow (Series R) b n)
   coprime-pow a b pb h zero = subst (Coprime a) (sym (pow-zero (Series R) b)) (coprime-const a 𝟙 (𝟙, R .mul-one 𝟙))
   coprime-pow a b pb h (suc n) = subst (Coprime a) (sym (pow-suc (Series R) b n)) (coprime-mul a b _ pb h (coprime-pow a b pb h n))
+
+  -- where a is zero, b is not
+  pub coprime-at : 𝟙 ≢ 𝟘 → (a b : Seq R) (pa : Poly R a) (pb : Poly R b) → Coprime a b → (x : Car) → at R a pa x ≡ 𝟘 → at R b pb x ≢ 𝟘
+  coprime-at apart a b pa pb h x a-zero b-zero =
+      apart (sym (at-const R 𝟙 (poly-const R 𝟙) x) ∙ at-add R (h .u *ₛ a) (h .v *ₛ b) 1ₛ pua pvb (poly-const R 𝟙) x (h .is)
+      ∙ ap₂ (R .add)
+      (at-mul R (h .u) a _ (h .poly-u) pa pua x refl ∙ ap (R .mul _) a-zero ∙ Ring.mul-zero R _)
+      (at-mul R (h .v) b _ (h .poly-v) pb pvb x refl ∙ ap (R .mul _) b-zero ∙ Ring.mul-zero R _)
+      ∙ R .add-zero 𝟘)
+    where
+      pua : Poly R (h .u *ₛ a)
+      pua = poly-mul R (h .u) a (h .poly-u) pa
+
+      pvb : Poly R (h .v *ₛ b)
+      pvb = poly-mul R (h .v) b (h .poly-v) pb
 
   -- ── over a field: coprime polynomials have no common factor
 

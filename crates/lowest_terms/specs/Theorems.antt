@@ -10,18 +10,22 @@ use Rattle.ring.specs.Ring
 use Rattle.ring.specs.Ring.{CRing, cast, pow}
 use Rattle.ring.specs.Powers.{squared}
 use Rattle.ring.specs.Field.{Field}
+use Rattle.ring.specs.Identity.{solve1}
+use Rattle.ring.specs.Identity.Ex.{:0, _:^_}
 use Rattle.series.specs.Series.{Series, Seq, conv, zeros, ∂}
-use Rattle.series.specs.Degree.{Below, Poly, Leading, Monic, leading, leading-poly, leading-regular, monic-mul, monic-poly, poly-∂}
+use Rattle.series.specs.Degree.{Below, Poly, Leading, Monic, leading, leading-poly, leading-regular, monic-mul, monic-poly, poly-∂, ∂-below}
+use Rattle.series.specs.Value.{value}
 use Rattle.zmod.specs.Zmod.{Zmod}
 use Rattle.zmod.specs.Prime.{Prime, Zmod-field, cast-nonzero, cast-inverse}
-use Rattle.isogeny.specs.Curve.{Nonsingular}
-use Rattle.isogeny.specs.Rules.{Question, Meets, ℓ, f, N}
+use Rattle.isogeny.specs.Curve.{Nonsingular, OnCurve}
+use Rattle.isogeny.specs.Rules.{Question, Meets, ℓ, f, N, g-at}
 use Rattle.isogeny.specs.Theorems.{N-degree, N-monic}
 use Rattle.isogeny.specs.Proof.Degrees.{poly-f}
 use Rattle.divisibility.specs.Divides.{Divides, NoCommonFactor, SquareFree, divides-degree}
-use Rattle.divisibility.specs.Coprime.{Coprime, bezout-sym, coprime-pow, coprime-no-common-factor, coprime-square-free}
+use Rattle.divisibility.specs.Coprime.{Coprime, bezout-sym, coprime-pow, coprime-at, coprime-no-common-factor, coprime-square-free}
 use Rattle.divisibility.specs.Fraction as Fraction
 use Rattle.divisibility.specs.Irreducible.{coprime-by-irreducibles}
+use Rattle.lowest_terms.specs.Proof.Cubic.{f-at}
 use Rattle.lowest_terms.specs.Proof.Cases as Cases
 use Rattle.lowest_terms.specs.Proof.Numerator as Numerator
 
@@ -33,7 +37,7 @@ module _ {p : ℕ} (P : Prime p) where
   F = Zmod-field P
 
   module _ (q : Question R) (d≥1 : 1 ≤ q .d) (nonsingular : Nonsingular R (q .A) (q .B)) (small : ℓ R q ≤ p) (g : Seq R) (meets : Meets R q g) where
-    open Question q using (d)
+    open Question q using (A, B, d)
 
     units : (j : ℕ) → 1 ≤ j → j < ℓ R q → cast R j ≢ R .𝟘
     units j h l = cast-nonzero P j h (omega arith)
@@ -74,7 +78,19 @@ module _ {p : ℕ} (P : Prime p) where
     pub no-factor-N : NoCommonFactor R g (N R q g)
     no-factor-N = coprime-no-common-factor R F g (N R q g) coprime-N
 
-    -- ── 3. N / g² is in lowest terms: let M / D be the same map, that is M g² = N D, with any polynomials M and D over ℤ/p
+    -- ── 3. roots in ℤ/p
+
+    -- Every root of g is a simple one: where g(u) = 0, g′(u) is not 0.
+    pub simple-root : (u : R .Car) → g-at R q g u ≡ R .𝟘 → value R d (∂ R g) u ≢ R .𝟘
+    simple-root = coprime-at R (F .apart) g (∂ R g) (suc d, meets .r1 .degree) (d, ∂-below R d g (meets .r1 .degree)) coprime-derivative
+
+    -- And it is the abscissa of no point of order 2: where g(u) = 0, a point (u, v) of the domain has a v that is not 0, so (u, v) and (u, −v) are two.
+    pub two-points : (u v : R .Car) → OnCurve R A B u v → g-at R q g u ≡ R .𝟘 → v ≢ R .𝟘
+    two-points u v on root zero =
+        coprime-at R (F .apart) g (f R q) (suc d, meets .r1 .degree) (poly-f R q) coprime-f u root
+        (f-at R q u v on ∙ ap (λ y. pow R y 2) zero ∙ solve1 R (λ y. :0 :^ 2) (λ y. :0) tt (R .𝟘))
+
+    -- ── 4. N / g² is in lowest terms: let M / D be the same map, that is M g² = N D, with any polynomials M and D over ℤ/p
 
     abbrev g² : Seq R
     g² = pow (Series R) g 2

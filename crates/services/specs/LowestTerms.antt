@@ -9,7 +9,8 @@ use native.Mathlib.Omega.{arith}
 use Rattle.ring.specs.Ring.{CRing, pow}
 use Rattle.series.specs.Series.{Series, Seq, conv, zeros, ∂}
 use Rattle.series.specs.Degree.{Below, Poly}
-use Rattle.zmod.specs.Zmod.{Zmod}
+use Rattle.series.specs.Value.{value}
+use Rattle.zmod.specs.Zmod.{Elt, Zmod, mk}
 use Rattle.zmod.specs.Prime.{Prime}
 use Rattle.isogeny.specs.Curve.{Nonsingular}
 use Rattle.isogeny.specs.Rules as Rules
@@ -24,7 +25,7 @@ use Rattle.sheet.specs.Asked.{Curves}
 use Rattle.sheet.specs.Ready.{Ready, ready, half-least, degree-half, degree-below}
 use Rattle.promises.specs.declared.Verdict.the-variants as verdict
 use Rattle.promises.specs.Asked as Asked
-use Rattle.promises.specs.Asked.{prime, put, check-asks}
+use Rattle.promises.specs.Asked.{OnDomain, prime, put, check-asks}
 use Rattle.promises.specs.Answer.{CheckRight}
 use Rattle.services.specs.Push.{check-asked}
 use Rattle.services.specs.Source.{certificate-N, certificate-meets}
@@ -107,6 +108,16 @@ module _ (ws : List ℕ) (passes : CheckRight ws verdict.Passes) where
   -- and with u g + v N = 1.
   pub coprime-N : Coprime R g N
   coprime-N = subst (Coprime R g) (sym N-is) (Theorems.coprime-N is-prime q d≥1 nonsingular small g meets)
+
+  -- ── roots in ℤ/p, and points
+
+  -- Every root of g is a simple one: where g(u) = 0, g′(u) is not 0.
+  pub simple-root : (u : Elt p) → Rules.g-at R q g u ≡ mk p 0 → value R (q .d) (∂ R g) u ≢ mk p 0
+  simple-root = Theorems.simple-root is-prime q d≥1 nonsingular small g meets
+
+  -- No point of order 2 goes to infinity: a point (u, v) of the domain with g(u) = 0 has a v that is not 0, so that (u, v) and (u, −v) are two.
+  pub two-points : (u v : ℕ) → OnDomain (valuesOf Certificate ws) u v → Rules.g-at R q g (mk p u) ≡ mk p 0 → v ≢ 0
+  two-points u v on root zero = Theorems.two-points is-prime q d≥1 nonsingular small g meets (mk p u) (mk p v) (on .on) root (ap (mk p) zero)
 
   -- ── ℓ is the degree of the map in lowest terms: let M / D be N / g² in other words, that is M g² = N D, with any polynomials M and D over ℤ/p
 

@@ -1,7 +1,7 @@
 -- The image of a point: R3 taken at u, where g(u) can be cancelled, is the codomain's equation for the image of (u, v).
 -- Assumes nothing.
 use mathlib.Core.Logic.{_≢_}
-use mathlib.Core.Path.{_≡_, refl, sym, _∙_, ap, ap₂, fun-ext}
+use mathlib.Core.Path.{_≡_, sym, _∙_, ap, ap₂, fun-ext}
 use mathlib.Core.List.{List, [], _∷_}
 use Prim.Native.Nat.{ℕ, zero, suc, _*_}
 use native.Mathlib.Omega.{arith}
@@ -9,11 +9,12 @@ use Rattle.ring.specs.Ring
 use Rattle.ring.specs.Ring.{CRing, cast, pow, pow-zero, pow-suc}
 use Rattle.ring.specs.Field.{Inverse, unit-cancel}
 use Rattle.ring.specs.Identity.{solve2, solve3, solve5}
-use Rattle.ring.specs.Identity.Ex.{var, num, :0, :1, _:+_, _:-_, _:*_, _:^_}
+use Rattle.ring.specs.Identity.Ex.{var, num, :1, _:+_, _:-_, _:*_, _:^_}
 use Rattle.series.specs.Series.{Seq, const, ∂}
 use Rattle.series.specs.Degree.{Below, Poly, Polys, const-below, ∂-below}
 use Rattle.series.specs.Indeterminate.{ind}
 use Rattle.series.specs.Value.{value, at-same, at-eval, at-const}
+use Rattle.series.specs.Binomial.{ind-monic, ind-value}
 use Rattle.isogeny.specs.Curve.{OnCurve}
 use Rattle.isogeny.specs.Rules.{Question, R3, ℓ, f, W, left, right, g-at, N-at, W-at, Image}
 use Rattle.isogeny.specs.Proof.Degrees.{W-below, left-below, right-below}
@@ -64,16 +65,6 @@ module _ (R : CRing) (q : Question R) (g n : Seq R) (g-below : Below R (suc (q .
 
   -- ── R3 at u
 
-  ind-below : Below R 2 (ind R)
-  unfolding ind
-  ind-below zero l = absurd (omega arith)
-  ind-below (suc zero) l = absurd (omega arith)
-  ind-below (suc (suc i)) l = refl
-
-  ind-at : value R 2 (ind R) u ≡ u
-  unfolding value ind
-  ind-at = solve2 R (λ u y. :0 :+ u :* (:1 :+ u :* :0)) (λ u y. u) tt u 𝟘
-
   const-at : (c : Car) → value R 1 (const R c) u ≡ c
   const-at c = at-const R c (1, const-below R c) u
 
@@ -81,13 +72,13 @@ module _ (R : CRing) (q : Question R) (g n : Seq R) (g-below : Below R (suc (q .
   names = ind R ∷ const R A ∷ const R B ∷ const R Ã ∷ const R B̃ ∷ g ∷ n ∷ W R q g n ∷ []
 
   abbrev polys : Polys R names
-  polys = ((2, ind-below), ((1, const-below R A), ((1, const-below R B), ((1, const-below R Ã), ((1, const-below R B̃), (poly-g, (poly-n, (poly-w, tt))))))))
+  polys = ((2, ind-monic R .below), ((1, const-below R A), ((1, const-below R B), ((1, const-below R Ã), ((1, const-below R B̃), (poly-g, (poly-n, (poly-w, tt))))))))
 
   left-at : (below : Below R (suc (3 * ℓ R q)) (left R q g n)) → value R (suc (3 * ℓ R q)) (left R q g n) u ≡ (u ^ 3 ⊕ A ⊗ u ⊕ B) ⊗ w ^ 2
   unfolding left f
   left-at below =
       at-eval R names polys ((var 0 :^ 3 :+ var 1 :* var 0 :+ var 2) :* var 7 :^ 2) (suc (3 * ℓ R q), below) u
-      ∙ ap₂ (λ y a. (y ^ 3 ⊕ a ⊗ y ⊕ value R 1 (const R B) u) ⊗ w ^ 2) ind-at (const-at A)
+      ∙ ap₂ (λ y a. (y ^ 3 ⊕ a ⊗ y ⊕ value R 1 (const R B) u) ⊗ w ^ 2) (ind-value R u) (const-at A)
       ∙ ap (λ b. (u ^ 3 ⊕ A ⊗ u ⊕ b) ⊗ w ^ 2) (const-at B)
 
   right-at : (below : Below R (suc (3 * ℓ R q)) (right R q g n)) → value R (suc (3 * ℓ R q)) (right R q g n) u ≡ N ^ 3 ⊕ Ã ⊗ N ⊗ G ^ 4 ⊕ B̃ ⊗ G ^ 6
