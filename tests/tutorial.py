@@ -4,7 +4,7 @@
     SAGEPLIERS_LIB_DIR=directory/of/libsagepliers.a SAGEPLIERS_BIN_DIR=directory/of/programs tests/tutorial.py
 
 The package is installed into a temporary directory first. A command must end with status 0. Exit status 0 if all is as on the page, else 1. Needs make,
-a C compiler and pkg-config; needs.sh installs them.
+a C compiler, pkg-config and PARI/GP; needs.sh installs them.
 """
 
 import os
@@ -74,7 +74,7 @@ def call(*command):
 def main():
     library = os.path.join(given_directory("SAGEPLIERS_LIB_DIR", ["libsagepliers.a"]), "libsagepliers.a")
     programs = given_directory("SAGEPLIERS_BIN_DIR", ["answer", "kernel", "verify", "push"])
-    for tool in ("make", "cc", "pkg-config"):
+    for tool in ("make", "cc", "pkg-config", "gp"):
         if shutil.which(tool) is None:
             fail(f"{tool} is missing; tests/needs.sh installs what the tests need")
 
