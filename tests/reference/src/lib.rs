@@ -14,6 +14,7 @@
 pub mod brute;
 pub mod call;
 pub mod curve;
+pub mod euclid;
 pub mod field;
 pub mod generate;
 pub mod marked;
@@ -21,6 +22,7 @@ pub mod mistakes;
 pub mod poly;
 pub mod primes;
 pub mod random;
+pub mod repetition;
 pub mod rules;
 pub mod services;
 pub mod sheet;

@@ -1,0 +1,112 @@
+//! Request E12: in a passing certificate g has no repeated factor, and no factor of
+//! degree 1 or more in common with f or with N. Here are the greatest common divisors
+//! that tell, and sheets for which one of them is not 1.
+
+use crate::curve::Curve;
+use crate::field::Field;
+use crate::generate::random_monic;
+use crate::poly::Poly;
+use crate::random::Random;
+use crate::rules;
+use crate::services;
+use crate::sheet::{Certificate, Question};
+
+/// What g is held against, each with the greatest common divisor.
+pub type CommonFactors = [(&'static str, Poly); 3];
+
+/// gcd(g, g'), gcd(g, f) and gcd(g, N) of a certificate, whether it passes or not.
+/// All are 1 exactly if g is as request E12 says.
+pub fn common_factors(certificate: &Certificate) -> CommonFactors {
+    let q = &certificate.question;
+    let (g, n) = certificate.polynomials();
+    let f = rules::cubic(q.field(), q.a, q.b);
+    [
+        ("g'", g.gcd(&g.derivative())),
+        ("f", g.gcd(&f)),
+        ("N", g.gcd(&n)),
+    ]
+}
+
+/// Whether all three are 1.
+pub fn is_free(certificate: &Certificate) -> bool {
+    let common = common_factors(certificate);
+    common.iter().all(|(_, gcd)| gcd.degree() == Some(0))
+}
+
+/// Over p with l = p + 2, which question 4 refuses. For a root r of f the power
+/// g = (x - r)^((p + 1)/2) meets R1 to R3: twice the exponent is 1 in the field, so
+/// R2 gives N/g^2 = x + v/(x - r) with v = f'(r). That is the normalized isogeny of
+/// degree 2 that takes (r, 0) to infinity, with h_1 = v and h_2 = rv.
+pub fn power_of_root(curve: &Curve, root: u64) -> Certificate {
+    let Curve { field: k, a, b } = *curve;
+    assert_eq!(curve.cubic(root), 0, "{root} is no root of f");
+    let v = k.add(k.mul(k.of(3), k.mul(root, root)), a);
+    let a_t = k.sub(a, k.mul(k.of(5), v));
+    let b_t = k.sub(b, k.mul(k.of(7), k.mul(root, v)));
+    let exponent = (k.p() as usize).div_ceil(2);
+    let g = Poly::with_roots(k, &vec![root; exponent]);
+    let (l, sigma) = (k.p() + 2, rules::sigma(&g, exponent));
+    let n = rules::r2(a, b, l, sigma, &g);
+    services::certificate(Question::of([k.p(), a, b, a_t, b_t, l, sigma]), &g, &n)
+}
+
+/// The roots of a polynomial in a small field, by trying each element.
+pub fn roots(poly: &Poly) -> Vec<u64> {
+    let all = 0..poly.field().p();
+    all.filter(|&u| poly.value(u) == 0).collect()
+}
+
+/// A curve for which f has this root.
+pub fn curve_with_root(random: &mut Random, field: Field, root: u64) -> Curve {
+    loop {
+        let a = random.below(field.p());
+        let b = field.neg(field.mul(root, field.add(field.mul(root, root), a)));
+        if crate::brute::is_curve(field.p(), a, b) {
+            return Curve { field, a, b };
+        }
+    }
+}
+
+/// Monic polynomials of degree d that a square divides: of one linear factor, of a
+/// factor of half the degree, and as high a power of one linear factor as there is.
+pub fn with_repeated_factor(random: &mut Random, field: Field, d: usize) -> Vec<Poly> {
+    let linear = random_monic(random, field, 1);
+    let half = random_monic(random, field, d / 2);
+    let power = Poly::with_roots(field, &vec![random.below(field.p()); d]);
+    let mut list = Vec::new();
+    if d >= 2 {
+        list.push(linear.square().mul(&random_monic(random, field, d - 2)));
+        list.push(half.square().mul(&random_monic(random, field, d % 2)));
+        list.push(power);
+    }
+    list
+}
+
+/// Monic polynomials of degree d that have this factor in common with f: once beside
+/// any others, and nothing but factors of f, as far as there are three of them.
+pub fn with_factor_of_f(random: &mut Random, curve: &Curve, root: u64, d: usize) -> Vec<Poly> {
+    let k = curve.field;
+    let linear = Poly::with_roots(k, &[root]);
+    let f = rules::cubic(k, curve.a, curve.b);
+    let (other, _) = f.div_rem(&linear);
+    let mut list = vec![linear.mul(&random_monic(random, k, d - 1))];
+    for factor in [other, f] {
+        if let Some(rest) = factor.degree().and_then(|degree| d.checked_sub(degree)) {
+            list.push(factor.mul(&random_monic(random, k, rest)));
+        }
+    }
+    list
+}
+
+/// The map of a certificate written with a factor c too many: g c for g and N c^2 for
+/// N. R1 and R3 hold, for a degree that is not the map's.
+pub fn inflated(certificate: &Certificate, c: &Poly) -> Certificate {
+    let q = &certificate.question;
+    let (g, n) = certificate.polynomials();
+    let g = g.mul(c);
+    let d = g.degree().expect("a product of monic polynomials");
+    let mut question = q.clone();
+    question.l = 2 * d as u64 + 1;
+    question.sigma = rules::sigma(&g, d);
+    services::certificate(question, &g, &n.mul(&c.square()))
+}
