@@ -1,7 +1,7 @@
 #!/bin/sh
 # Compares the libsagepliers.a in the directory SAGEPLIERS_LIB_DIR with the
 # independent implementation. Arguments go to the comparison (--quick,
-# --count N, --threads N, --differences N, --only TEXT).
+# --count N, --threads N, --differences N, --only TEXT, --watch-only).
 set -eu
 here=$(pwd)
 cd "$(dirname "$0")"

@@ -16,6 +16,8 @@ log=$CARGO_TARGET_DIR/selftest.log
 unset SAGEPLIERS_FAULT
 "$compare" --quick
 echo "no fault: passed"
+"$compare" --quick --watch-only >"$log"
+echo "no fault, certificates watched alone: passed"
 
 missed=0
 found=0
@@ -40,5 +42,15 @@ must_find() {
 for fault in $faults; do must_find "$fault" --quick; done
 # What the quick form leaves out.
 must_find divisors-below-root --only 'every p'
+# Where every answer is taken for right, the watch on certificates has to do without expectations.
+watched=$(printf '%s\n' "$faults" | grep '^factor-') || fail "there is no fault for the watch on certificates"
+for fault in $watched; do
+    must_find "$fault" --quick --watch-only
+    grep -q '^  certificate: gcd(g, ' "$log" || fail "$fault: it was not the watch that found it"
+done
+SAGEPLIERS_FAULT=push-negative "$compare" --quick --watch-only >"$log" 2>&1 || fail "--watch-only compares points"
+# A library that refuses everything leaves nothing to watch.
+if SAGEPLIERS_FAULT=refuse-everything "$compare" --quick --watch-only >"$log" 2>&1; then fail "no certificate was missed"; fi
+grep -q '^too few certificates' "$log" || fail "the comparison does not say that there were no certificates"
 echo "$found found, $missed missed"
 [ "$missed" -eq 0 ]

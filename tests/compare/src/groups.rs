@@ -11,6 +11,7 @@ pub mod numerator;
 pub mod points;
 pub mod primes;
 pub mod reduction;
+pub mod repetition;
 pub mod search;
 
 use crate::judge::Judge;
@@ -55,6 +56,7 @@ fn by_document(quick: bool) -> Vec<Group> {
         group("primes", move |judge| primes::run(judge, quick)),
         group("points", points::run),
         group("numerator", move |judge| numerator::run(judge, quick)),
+        group("repetition", move |judge| repetition::run(judge, quick)),
     ]
 }
 

@@ -1,17 +1,20 @@
 //! Puts calls to the library and compares everything it may touch: the
 //! returned number, every word of the answer buffer, the words around it, and
-//! the sheet, which must stay as it was.
+//! the sheet, which must stay as it was. Certificates that it writes or lets pass
+//! are watched as request E12 wants.
 
-use std::sync::atomic::{AtomicU64, Ordering};
+use std::sync::atomic::{AtomicBool, AtomicU64, Ordering};
 use std::time::{Duration, Instant};
 
-use reference::call::{Call, Reply};
+use reference::call::{Call, Reply, INFINITY};
 use reference::random::Random;
+use reference::sheet;
 
 use crate::coverage::Coverage;
 use crate::entries;
 use crate::guarded::{Guarded, Side};
 use crate::report;
+use crate::watch::Watch;
 
 /// Words around the answer that are watched on the side without a guard page.
 const MARGIN: usize = 64;
@@ -20,10 +23,17 @@ const LARGEST_ROOM: usize = 8192;
 
 static DIFFERENCES: AtomicU64 = AtomicU64::new(0);
 static ENOUGH: AtomicU64 = AtomicU64::new(u64::MAX);
+static WATCH_ONLY: AtomicBool = AtomicBool::new(false);
 
 /// From now on the run ends at so many differences.
 pub fn end_at(differences: u64) {
     ENOUGH.store(differences, Ordering::SeqCst);
+}
+
+/// From now on every answer is taken for right, so that nothing but the watch on
+/// certificates can find a difference.
+pub fn watch_only() {
+    WATCH_ONLY.store(true, Ordering::SeqCst);
 }
 
 /// Differences so far, of all threads.
@@ -36,6 +46,7 @@ pub struct Judge {
     cases: u64,
     notes: Vec<String>,
     coverage: Coverage,
+    watch: Watch,
     /// Time spent inside the library, with the comparing where the clock is read once for many calls.
     inside: Duration,
     sheet: Guarded,
@@ -52,6 +63,8 @@ struct Seen {
     /// negative before the answer.
     words: Vec<(isize, u32, u32)>,
     sheet_changed: bool,
+    /// What is wrong with the certificate that was written or passed, a line each.
+    certificate: Vec<String>,
 }
 
 impl Seen {
@@ -61,7 +74,13 @@ impl Seen {
             number,
             words: Vec::new(),
             sheet_changed: false,
+            certificate: Vec::new(),
         }
+    }
+
+    /// Whether this is another answer than the expected one.
+    fn differs(&self, expected: &Reply) -> bool {
+        self.number != expected.number || !self.words.is_empty() || self.sheet_changed
     }
 }
 
@@ -78,6 +97,7 @@ impl Judge {
             cases: 0,
             notes: Vec::new(),
             coverage: Coverage::default(),
+            watch: Watch::default(),
             inside: Duration::ZERO,
             sheet: Guarded::new(CAPACITY),
             answer: Guarded::new(CAPACITY),
@@ -91,6 +111,10 @@ impl Judge {
 
     pub fn coverage(&self) -> &Coverage {
         &self.coverage
+    }
+
+    pub fn into_watch(self) -> Watch {
+        self.watch
     }
 
     pub fn inside(&self) -> Duration {
@@ -139,24 +163,27 @@ impl Judge {
         report::running(call, self.group);
         let seen = put(self);
         report::finished();
-        if seen.number != expected.number || !seen.words.is_empty() || seen.sheet_changed {
-            self.report(call, expected, &seen);
+        let compared = !WATCH_ONLY.load(Ordering::Relaxed) && seen.differs(expected);
+        if compared || !seen.certificate.is_empty() {
+            self.report(call, compared.then_some(expected), &seen);
         }
     }
 
     fn put(&mut self, call: &Call, expected: &Reply) -> Seen {
         match call {
             Call::Check { bytes } => {
-                self.with_bytes(bytes, |bytes| u64::from(entries::check(bytes)))
+                let check = |bytes: &[u8]| u64::from(entries::check(bytes));
+                self.with_bytes(bytes, ("check", 0), check)
             }
             Call::Push { bytes, point } => {
-                self.with_bytes(bytes, |bytes| entries::push(bytes, *point))
+                let push = |bytes: &[u8]| entries::push(bytes, *point);
+                self.with_bytes(bytes, ("push", INFINITY), push)
             }
             Call::Solve { sheet, room } => {
-                self.with_answer(sheet, *room, &expected.words, entries::solve)
+                self.with_answer("solve", sheet, *room, &expected.words, entries::solve)
             }
             Call::Kernel { sheet, room } => {
-                self.with_answer(sheet, *room, &expected.words, entries::kernel)
+                self.with_answer("kernel", sheet, *room, &expected.words, entries::kernel)
             }
             Call::Name { p, a, b } => {
                 Seen::number(timed(&mut self.inside, || entries::name(*p, *a, *b)))
@@ -164,7 +191,13 @@ impl Judge {
         }
     }
 
-    fn with_bytes(&mut self, bytes: &[u8], entry: impl Fn(&[u8]) -> u64) -> Seen {
+    /// The sheet has passed if the number is at most the one beside the entry's name.
+    fn with_bytes(
+        &mut self,
+        bytes: &[u8],
+        (name, passed): (&str, u64),
+        entry: impl Fn(&[u8]) -> u64,
+    ) -> Seen {
         let side = match self.cases % 5 {
             0 | 1 => Side::End,
             2 | 3 => Side::Start,
@@ -172,15 +205,23 @@ impl Judge {
         };
         let lent = self.sheet.bytes(side, bytes.len());
         lent.copy_from_slice(bytes);
+        let number = timed(&mut self.inside, || entry(lent));
+        let certificate = if number <= passed {
+            self.watch.look(name, sheet::words_of(bytes).as_deref())
+        } else {
+            Vec::new()
+        };
         Seen {
-            number: timed(&mut self.inside, || entry(lent)),
+            number,
             words: Vec::new(),
             sheet_changed: lent != bytes,
+            certificate,
         }
     }
 
     fn with_answer(
         &mut self,
+        name: &str,
         sheet: &[u32],
         room: usize,
         written: &[u32],
@@ -215,26 +256,38 @@ impl Judge {
                 }
             }
         }
+        let certificate = match watched[first..first + room].get(..number as usize) {
+            Some(answer) => self.watch.look(name, Ok(answer)),
+            None => Vec::new(),
+        };
         Seen {
             number,
             words,
             sheet_changed: lent != sheet,
+            certificate,
         }
     }
 
-    fn report(&self, call: &Call, expected: &Reply, seen: &Seen) {
+    /// What was expected is reported unless that was not compared or is as it should be.
+    fn report(&self, call: &Call, expected: Option<&Reply>, seen: &Seen) {
         let mut text = format!("DIFFERENCE in group {}, case {}\n", self.group, self.cases);
         report::describe(&mut text, call).expect("a string takes any text");
-        let (wanted, got) = (
-            report::meaning(expected.number),
-            report::meaning(seen.number),
-        );
-        text += &format!("  number: expected {wanted}, got {got}\n");
-        for (i, wanted, got) in seen.words.iter().take(20) {
+        let got = report::meaning(seen.number);
+        text += &match expected {
+            Some(reply) => format!(
+                "  number: expected {}, got {got}\n",
+                report::meaning(reply.number)
+            ),
+            None => format!("  number: {got}\n"),
+        };
+        for (i, wanted, got) in seen.words.iter().take(expected.map_or(0, |_| 20)) {
             text += &format!("  answer word {i}: expected {wanted:08x}, got {got:08x}\n");
         }
-        if seen.sheet_changed {
+        if expected.is_some() && seen.sheet_changed {
             text += "  the sheet was changed\n";
+        }
+        for line in &seen.certificate {
+            text += &format!("  certificate: {line}\n");
         }
         eprint!("{text}");
         let differences = DIFFERENCES.fetch_add(1, Ordering::SeqCst) + 1;

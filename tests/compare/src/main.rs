@@ -7,6 +7,7 @@ mod groups;
 mod guarded;
 mod judge;
 mod report;
+mod watch;
 
 use std::process::ExitCode;
 use std::sync::atomic::{AtomicUsize, Ordering};
@@ -16,6 +17,7 @@ use std::time::Instant;
 use coverage::Coverage;
 use groups::Group;
 use judge::Judge;
+use watch::Watch;
 
 pub struct Options {
     pub quick: bool,
@@ -24,6 +26,8 @@ pub struct Options {
     threads: usize,
     /// The run ends at so many differences.
     differences: u64,
+    /// Nothing is compared; certificates are watched.
+    watch_only: bool,
     /// Only groups whose name contains this.
     only: String,
 }
@@ -32,10 +36,11 @@ pub struct Options {
 struct Totals {
     cases: u64,
     coverage: Coverage,
+    watch: Watch,
 }
 
-const USAGE: &str =
-    "usage: compare [--quick] [--count N] [--threads N] [--differences N] [--only TEXT]";
+const USAGE: &str = "usage: compare [--quick] [--count N] [--threads N] [--differences N] \
+    [--only TEXT] [--watch-only]";
 
 fn parse(arguments: impl Iterator<Item = String>) -> Option<Options> {
     let mut arguments = arguments;
@@ -45,6 +50,7 @@ fn parse(arguments: impl Iterator<Item = String>) -> Option<Options> {
         count: 0,
         threads: 2,
         differences: 10,
+        watch_only: false,
         only: String::new(),
     };
     while let Some(argument) = arguments.next() {
@@ -54,6 +60,7 @@ fn parse(arguments: impl Iterator<Item = String>) -> Option<Options> {
             "--threads" => options.threads = arguments.next()?.parse().ok()?,
             "--differences" => options.differences = arguments.next()?.parse().ok()?,
             "--only" => options.only = arguments.next()?,
+            "--watch-only" => options.watch_only = true,
             _ => return None,
         }
     }
@@ -74,6 +81,7 @@ fn run(group: &Group, totals: &Mutex<Totals>) {
     let mut totals = totals.lock().expect("no thread panics");
     totals.cases += cases;
     totals.coverage.merge(judge.coverage());
+    totals.watch.merge(judge.into_watch());
 }
 
 /// Runs all groups. Several threads call the entries at once: they have no
@@ -99,14 +107,23 @@ fn main() -> ExitCode {
         return ExitCode::from(2);
     };
     judge::end_at(options.differences);
+    if options.watch_only {
+        judge::watch_only();
+    }
     report::catch_faults();
     let start = Instant::now();
     let mut groups = groups::all(&options);
     groups.retain(|group| group.name.contains(&options.only));
-    let Totals { cases, coverage } = run_all(&groups, options.threads.max(1));
+    let totals = run_all(&groups, options.threads.max(1));
+    let Totals {
+        cases,
+        coverage,
+        watch,
+    } = totals;
     for line in coverage.lines() {
         println!("{line}");
     }
+    println!("{}", watch.line());
     let (differences, seconds) = (judge::differences(), start.elapsed().as_secs_f64());
     println!("total: {cases} cases, {differences} differences, {seconds:.1} s");
     let impossible = coverage.impossible().join(", ");
@@ -117,6 +134,10 @@ fn main() -> ExitCode {
     let whole = options.only.is_empty();
     if whole && !coverage.is_complete() {
         eprintln!("some outcome of document 01 never came up");
+        return ExitCode::FAILURE;
+    }
+    if whole && !watch.is_complete(options.quick) {
+        eprintln!("too few certificates came up: of an entry none, or not of every degree");
         return ExitCode::FAILURE;
     }
     if differences == 0 {

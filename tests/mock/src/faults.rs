@@ -4,6 +4,7 @@
 mod numerator;
 mod primes;
 mod reduction;
+mod repetition;
 
 use std::sync::OnceLock;
 
@@ -149,6 +150,30 @@ pub const FAULTS: &[(&str, Fault)] = &[
         "parts-exchanged-passes",
         Fault::Output(numerator::exchanged_passes),
     ),
+    (
+        "factor-repeated-passes",
+        Fault::Output(repetition::repeated_passes),
+    ),
+    (
+        "factor-repeated-pushes",
+        Fault::Output(repetition::repeated_pushes),
+    ),
+    (
+        "factor-repeated-solved",
+        Fault::Output(repetition::repeated_solved),
+    ),
+    (
+        "factor-repeated-kernel",
+        Fault::Output(repetition::repeated_kernel),
+    ),
+    ("factor-of-f-passes", Fault::Output(repetition::of_f_passes)),
+    ("factor-of-f-kernel", Fault::Output(repetition::of_f_kernel)),
+    ("factor-of-n-passes", Fault::Output(repetition::of_n_passes)),
+    (
+        "factor-of-n-written",
+        Fault::Output(repetition::of_n_written),
+    ),
+    ("factor-beyond-4", Fault::Output(repetition::beyond_4)),
     ("r3-not-asked", Fault::Output(r3_not_asked)),
     ("r3-to-degree-2l", Fault::Output(r3_to_degree_2l)),
     ("r3-highest-only", Fault::Output(r3_highest_only)),

@@ -9,7 +9,7 @@ use crate::poly::Poly;
 use crate::random::Random;
 use crate::rules;
 use crate::services;
-use crate::sheet::{Certificate, Question};
+use crate::sheet::{self, Certificate, Question, Reading, Refusal, G, N, QUESTION_HEAD};
 
 /// What g is held against, each with the greatest common divisor.
 pub type CommonFactors = [(&'static str, Poly); 3];
@@ -31,6 +31,22 @@ pub fn common_factors(certificate: &Certificate) -> CommonFactors {
 pub fn is_free(certificate: &Certificate) -> bool {
     let common = common_factors(certificate);
     common.iter().all(|(_, gcd)| gcd.degree() == Some(0))
+}
+
+/// A certificate of any odd degree: questions 2, 3, 5 and 6, with 4 for the others. What
+/// question 4 leaves out need not be free.
+pub fn read_any_degree(words: &[u32]) -> Result<Certificate, Refusal> {
+    let [p, a, b, a_t, b_t, l, sigma] = sheet::ask_head(words, QUESTION_HEAD)?;
+    sheet::ask_prime(p)?;
+    if l < 3 || l % 2 == 0 {
+        return Err(4);
+    }
+    let reading = Reading::Strict;
+    let [a, b, a_t, b_t, sigma] = sheet::ask_values([a, b, a_t, b_t, sigma], p, reading)?;
+    let question = Question::of([p, a, b, a_t, b_t, l, sigma]);
+    let runs = [(G, question.d() + 1), (N, 2 * question.d() + 2)];
+    let [g, n] = sheet::ask_rest(&words[QUESTION_HEAD.len()..], runs, p, reading)?;
+    Ok(Certificate { question, g, n })
 }
 
 /// Over p with l = p + 2, which question 4 refuses. For a root r of f the power
@@ -67,23 +83,24 @@ pub fn curve_with_root(random: &mut Random, field: Field, root: u64) -> Curve {
     }
 }
 
-/// Monic polynomials of degree d that a square divides: of one linear factor, of a
-/// factor of half the degree, and as high a power of one linear factor as there is.
+/// Monic polynomials of degree d that a square divides, from d = 2 on: that of a linear
+/// factor, that of a factor with half the degree, and all powers of a linear factor.
 pub fn with_repeated_factor(random: &mut Random, field: Field, d: usize) -> Vec<Poly> {
-    let linear = random_monic(random, field, 1);
-    let half = random_monic(random, field, d / 2);
-    let power = Poly::with_roots(field, &vec![random.below(field.p()); d]);
-    let mut list = Vec::new();
-    if d >= 2 {
-        list.push(linear.square().mul(&random_monic(random, field, d - 2)));
-        list.push(half.square().mul(&random_monic(random, field, d % 2)));
-        list.push(power);
+    if d < 2 {
+        return Vec::new();
     }
-    list
+    let mut multiple = |degree: usize| {
+        let factor = random_monic(random, field, degree);
+        let other = random_monic(random, field, d - 2 * degree);
+        factor.square().mul(&other)
+    };
+    let (linear, half) = (multiple(1), multiple(d / 2));
+    let power = Poly::with_roots(field, &vec![random.below(field.p()); d]);
+    vec![linear, half, power]
 }
 
-/// Monic polynomials of degree d that have this factor in common with f: once beside
-/// any others, and nothing but factors of f, as far as there are three of them.
+/// Monic polynomials of degree d that are multiples of a factor of f: of x - r for its
+/// root r, of the other factor, and of f itself, as far as the degree allows it.
 pub fn with_factor_of_f(random: &mut Random, curve: &Curve, root: u64, d: usize) -> Vec<Poly> {
     let k = curve.field;
     let linear = Poly::with_roots(k, &[root]);
@@ -96,6 +113,14 @@ pub fn with_factor_of_f(random: &mut Random, curve: &Curve, root: u64, d: usize)
         }
     }
     list
+}
+
+/// The identity of a curve in the form of a certificate, of degree 1.
+pub fn identity(curve: &Curve) -> Certificate {
+    let Curve { field, a, b } = *curve;
+    let question = Question::of([field.p(), a, b, a, b, 1, 0]);
+    let (one, x) = (Poly::of(field, &[1]), Poly::of(field, &[0, 1]));
+    services::certificate(question, &one, &x)
 }
 
 /// The map of a certificate written with a factor c too many: g c for g and N c^2 for

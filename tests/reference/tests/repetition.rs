@@ -14,7 +14,7 @@ use reference::poly::Poly;
 use reference::primes::sieve;
 use reference::random::Random;
 use reference::repetition::{self, common_factors, is_free, power_of_root, roots};
-use reference::rules;
+use reference::rules::{self, R3};
 use reference::services::{self, Checked};
 use reference::sheet::{self, Certificate};
 
@@ -183,6 +183,41 @@ fn lowest_terms_by_trying_every_fraction() {
     let longer = repetition::inflated(&marked::smallest(), &factor);
     let [_, g, n] = polynomials(&marked::smallest());
     assert_eq!(fractions(&longer, 2), [(n, g.square())]);
+}
+
+/// The sheets that the comparison puts with a factor too many have one. Those of a map
+/// of lower degree meet R1 and R3, so that nothing but R2 refuses them.
+#[test]
+fn sheets_with_a_factor_too_many() {
+    let mut random = Random::new(20);
+    let has = |certificate: &Certificate, place: usize| {
+        common_factors(certificate)[place].1.degree() > Some(0)
+    };
+    for p in [11, 13, 101, 1009, LARGEST] {
+        let field = Field::new(p);
+        let root = random.below(p);
+        let curve = repetition::curve_with_root(&mut random, field, root);
+        for d in [1, 2, 3, 7, 24].into_iter().filter(|d| 4 * d + 1 < p) {
+            let (l, d) = (2 * d + 1, d as usize);
+            for g in repetition::with_repeated_factor(&mut random, field, d) {
+                assert!(has(&generate::candidate(&curve, l, &g), 0), "{g:?}");
+            }
+            for g in repetition::with_factor_of_f(&mut random, &curve, root, d) {
+                assert!(has(&generate::candidate(&curve, l, &g), 1), "{g:?}");
+            }
+            for map in [repetition::identity(&curve), marked::smallest()] {
+                let k = map.question.field();
+                let longer = repetition::inflated(&map, &random_monic(&mut random, k, d));
+                let q = &longer.question;
+                let (g, _) = longer.polynomials();
+                assert!(rules::r1(&g, q.d(), q.sigma) && has(&longer, 2));
+                assert!(R3::of(&longer).holds(q.a_t, q.b_t));
+                if sheet::ask_degree(q.l, q.p).is_ok() {
+                    assert_eq!(services::check(&longer.words()), Checked::Refused(9));
+                }
+            }
+        }
+    }
 }
 
 /// By R2 N is 4fg'^2 modulo g, so a factor of g and N is repeated in g or divides f:

@@ -1,0 +1,82 @@
+//! Request E12, watched on every certificate that the library writes or lets pass,
+//! whatever was expected: g is prime to its derivative, to f and to N. It is read from
+//! the words with any odd degree, so that a wrong question 4 shows here too.
+
+use std::collections::{BTreeSet, HashSet};
+
+use reference::repetition::{common_factors, read_any_degree};
+use reference::sheet::{Certificate, Refusal};
+
+/// The entries that write certificates or let them pass.
+pub const ENTRIES: [&str; 4] = ["check", "push", "solve", "kernel"];
+
+#[derive(Default)]
+pub struct Watch {
+    /// How often each entry wrote a certificate or let one pass.
+    counts: [u64; ENTRIES.len()],
+    /// The words of those that were found in order, to be worked out once for a group.
+    free: HashSet<Vec<u32>>,
+    degrees: BTreeSet<u64>,
+}
+
+impl Watch {
+    /// What is wrong with the words that an entry wrote or let pass, a line each. Bytes
+    /// that are no words come with the number of the question that they fail.
+    pub fn look(&mut self, entry: &str, words: Result<&[u32], &Refusal>) -> Vec<String> {
+        let place = ENTRIES.iter().position(|&name| name == entry);
+        self.counts[place.expect("an entry with certificates")] += 1;
+        if words.is_ok_and(|words| self.free.contains(words)) {
+            return Vec::new();
+        }
+        let mut found = match words.map_err(|&number| number).and_then(read_any_degree) {
+            Ok(certificate) => self.look_at(&certificate),
+            Err(number) => vec![format!("not of the form, by question {number}")],
+        };
+        if let (Ok(words), false) = (words, found.is_empty()) {
+            found.push(format!("words {words:08x?}"));
+        }
+        found
+    }
+
+    fn look_at(&mut self, certificate: &Certificate) -> Vec<String> {
+        let common = common_factors(certificate);
+        let not_one = common.iter().filter(|(_, gcd)| gcd.coefficients() != [1]);
+        let found: Vec<String> = not_one
+            .map(|(other, gcd)| format!("gcd(g, {other}) is {:x?}", gcd.coefficients()))
+            .collect();
+        if found.is_empty() {
+            self.free.insert(certificate.words());
+            self.degrees.insert(certificate.question.l);
+        }
+        found
+    }
+
+    pub fn merge(&mut self, other: Watch) {
+        let counts = self.counts.iter_mut().zip(other.counts);
+        counts.for_each(|(sum, count)| *sum += count);
+        self.free.extend(other.free);
+        self.degrees.extend(other.degrees);
+    }
+
+    /// One line: how many there were, and which degrees they have.
+    pub fn line(&self) -> String {
+        let by_entry = ENTRIES.iter().zip(self.counts);
+        let by_entry: Vec<String> = by_entry.map(|(name, n)| format!("{name} {n}")).collect();
+        let (first, last) = (self.degrees.first(), self.degrees.last());
+        let degrees = match first.zip(last) {
+            Some((first, last)) => format!("{} degrees from {first} to {last}", self.degrees.len()),
+            None => "no degree".to_string(),
+        };
+        format!(
+            "certificates: {}; {} different ones looked at, of {degrees}",
+            by_entry.join(", "),
+            self.free.len()
+        )
+    }
+
+    /// Whether every entry had certificates, and in the full form every odd degree.
+    pub fn is_complete(&self, quick: bool) -> bool {
+        let all = (3..=255).step_by(2).all(|l| self.degrees.contains(&l));
+        self.counts.iter().all(|&count| count > 0) && (quick || all) && !self.free.is_empty()
+    }
+}
