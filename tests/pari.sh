@@ -1,7 +1,8 @@
 #!/bin/sh
 # Compares kernel, solve, push, name and question 3 with PARI/GP: some 5,000 kernels
-# of every odd degree, points and j-values with them, and primes. SAGEPLIERS_LIB_DIR
-# names the directory of libsagepliers.a. Without gp it fails; needs.sh installs it.
+# of every odd degree, free of repetition, points and j-values with them, and primes.
+# SAGEPLIERS_LIB_DIR names the directory of libsagepliers.a. Without gp it fails;
+# needs.sh installs it.
 set -eu
 here=$(pwd)
 cd "$(dirname "$0")"

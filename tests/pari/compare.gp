@@ -1,9 +1,9 @@
 \\ Computes with PARI what the library answered, for the calls that the driver writes: isogeny for each kernel, then goes for points through that
-\\ isogeny, parts for the N of any g, name for curves, permitted for primes, and finish with how many of each there must have been. The last line is the
-\\ verdict.
+\\ isogeny, beyond for certificates that question 4 alone refuses, parts for the N of any g, name for curves, permitted for primes, and finish with how
+\\ many of each there must have been. The last line is the verdict.
 
 differences = 0;
-isogenies = points = infinities = sums = names = numbers = 0;
+isogenies = points = infinities = refused = sums = names = numbers = 0;
 
 differs(what) = {
   differences++;
@@ -14,6 +14,23 @@ differs(what) = {
 terms(a, b, l, sigma, G) = {
   my(D = G^2, L = deriv(D) / D);
   [(l * x - sigma) * D, -(3 * x^2 + a) * L * D, -2 * (x^3 + a * x + b) * deriv(L) * D];
+};
+
+\\ Whether two polynomials have no factor of degree 1 or more in common: by their greatest common divisor, and as multiples of them have the sum 1.
+coprime(G, H) = {
+  my([u, v, d] = bezout(G, H));
+  poldegree(gcd(G, H)) == 0 && poldegree(d) == 0 && u / d * G + v / d * H == 1;
+};
+
+\\ Numerator and denominator in lowest terms, the denominator monic.
+reduced(R) = my(D = denominator(R), c = pollead(D)); [numerator(R) / c, D / c];
+
+\\ Request E12 for the domain's f.
+free(F, G, N, l) = {
+  if (!issquarefree(G) || !coprime(G, deriv(G)), differs(["g is repeated", here]));
+  if (!coprime(G, F), differs(["g and f", here]));
+  if (!coprime(G, N), differs(["g and N", here]));
+  if (reduced(N / G^2) != [N, G^2] || poldegree(N) != l, differs(["lowest terms", here]));
 };
 
 \\ The domain (a, b), the codomain (at, bt), sigma, g and N over p: codomain, numerators of both coordinates and kernel polynomial.
@@ -29,6 +46,7 @@ isogeny(p, a, b, at, bt, l, sigma, g, n) = {
   if (map[3] != G, differs(["g", here]));
   if (map[2] != y * W, differs(["numerator of y", here]));
   if (-2 * polcoef(G, (l - 3) / 2) != sigma * one, differs(["sigma", here]));
+  free((x^3 + a * x + b) * one, G, N, l);
 };
 
 \\ The point P must go to Q through the last isogeny.
@@ -37,6 +55,25 @@ goes(P, Q) = {
   points++;
   if (Q == [0], infinities++);
   if (R != Q, differs(["point", here, P, Q, R]));
+};
+
+\\ A certificate with l = p + 2: R1 to R3 hold, and g is a power of a factor x - r of f. The map is PARI's isogeny of degree 2 with the kernel polynomial
+\\ x - r, and these are the greatest common divisors.
+beyond(p, a, b, at, bt, l, sigma, g, n) = {
+  my(one = Mod(1, p), G = Polrev(g) * one, N = Polrev(n) * one, F = (x^3 + a * x + b) * one, d = (l - 1) / 2, W, H, R);
+  refused++;
+  here = [p, a, b, l];
+  W = deriv(N) * G - 2 * N * deriv(G);
+  if (l != p + 2 || poldegree(G) != d || pollead(G) != 1 || -2 * polcoef(G, d - 1) != sigma * one, differs(["R1 beyond question 4", here]));
+  if (vecsum(terms(a, b, l, sigma, G)) != N, differs(["R2 beyond question 4", here]));
+  if (F * W^2 != N^3 + at * N * G^4 + bt * G^6, differs(["R3 beyond question 4", here]));
+  H = gcd(G, F) / pollead(gcd(G, F));
+  R = ellisogeny(ellinit([a, b], p), H);
+  if (poldegree(H) != 1 || G != H^d || issquarefree(G), differs(["a power of x - r", here]));
+  if (gcd(G, deriv(G)) % H^(d - 1) != 0 || poldegree(gcd(G, deriv(G))) != d - 1 || N % G != 0, differs(["common factors", here]));
+  if (coprime(G, deriv(G)) || coprime(G, F) || coprime(G, N), differs(["coprime beyond question 4", here]));
+  if (R[1] != [0, 0, 0, at, bt] * one || R[2][1] / R[2][3]^2 != N / G^2, differs(["isogeny of degree 2", here]));
+  if (apply(poldegree, reduced(N / G^2)) != [2, 1], differs(["lowest terms beyond question 4", here]));
 };
 
 \\ The parts of N, for a g that may be anything.
@@ -58,8 +95,9 @@ permitted(m, n, list) = {
   if (list != if (from <= to, primes([from, to]), []), differs(["primes", m, n]));
 };
 
-finish(i, m, f, s, k, n) = {
-  if ([isogenies, points, infinities, sums, names, numbers] != [i, m, f, s, k, n], differs("the script was cut short"));
+finish(i, m, f, r, s, k, n) = {
+  if ([isogenies, points, infinities, refused, sums, names, numbers] != [i, m, f, r, s, k, n], differs("the script was cut short"));
   print("PARI/GP ", strjoin(apply(n -> Str(n), version()[1..3]), "."), ": ", isogenies, " kernels, ", points, " points, ", infinities, " of them to infinity, ",
-    sums, " times the parts of N, ", names, " names, ", numbers, " numbers prime or not: ", differences, " differences");
+    refused, " certificates beyond question 4, ", sums, " times the parts of N, ", names, " names, ", numbers, " numbers prime or not: ", differences,
+    " differences");
 };
