@@ -3,7 +3,8 @@
  * Isogenies. The domain is y^2 = x^3 + A x + B over the field of p elements, the codomain y^2 = x^3 + A~ x + B~, and the degree l is odd. An isogeny is
  * given by two polynomials: the kernel polynomial g, of degree d = (l - 1)/2, whose roots are the abscissas of the kernel, and the numerator N. It takes
  * (x, y) to (F, y F') with F = N/g^2; that no other factor stands before F' is what normalized means. sigma is twice the sum of the
- * roots of g, since a root is the abscissa of a point and of its negative.
+ * roots of g, since a root is the abscissa of a point and of its negative. On a certificate that passes, g is square-free and coprime to
+ * x^3 + A x + B and to N: no root is counted too often, and N/g^2 is in lowest terms.
  *
  * Words and sheets. A word has 32 bits, four of kind above 28 of value. Kinds: 1 p, 2 A, 3 B, 4 A~, 5 B~, 6 l, 7 sigma, 8 a coefficient
  * of g, 9 a coefficient of N, 15 the end, with value 0. A sheet is a run of words:

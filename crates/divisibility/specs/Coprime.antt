@@ -177,9 +177,9 @@ module _ (R : CRing) where
             ring4 : (c c′ k y : Seq R) → c *ₛ (c′ *ₛ k +ₛ y) ≡ c′ *ₛ (c *ₛ k) +ₛ c *ₛ y
             ring4 = solve4 (Series R) (λ c c′ k y. c :* (c′ :* k :+ y)) (λ c c′ k y. c′ :* (c :* k) :+ c :* y) tt
 
-    -- a polynomial of degree 1 or more is not coprime to what it divides
-    pub coprime-not : (n : ℕ) (a b : Seq R) → 1 ≤ n → Leading R n a → Coprime a b → Divides R a b → ⊥
-    coprime-not n a b h L c D = absurd (F .apart (one-zero (L .unit)))
+    -- a divisor of degree 1 or more is not coprime to what it divides
+    pub divisor-not-coprime : (n : ℕ) (a b : Seq R) → 1 ≤ n → Leading R n a → Coprime a b → Divides R a b → ⊥
+    divisor-not-coprime n a b h L c D = absurd (F .apart (one-zero (L .unit)))
       where
         null : a n ≡ 𝟘
         null = coprime-no-common-factor a b c a (suc n, L .below) (divides-refl R a) D n h

@@ -65,7 +65,7 @@ module _ (R : CRing) where
       product-below : Below R (n + 0) (b *ₛ h .cofactor)
       product-below i l = ap (λ f. f i) (h .is) ∙ below i (omega arith)
 
-  -- so a divisor's degree is at most the degree
+  -- so a divisor's degree is at most that of what it divides, if that is not zero
   pub divides-degree : (n : ℕ) (b a : Seq R) → Leading R n b → Divides b a → a ≢ zeros R → (m : ℕ) → Below R (suc m) a → n ≤ m
   divides-degree n b a L h nonzero m below = go (decLe n m)
     where

@@ -36,7 +36,7 @@ module _ (R : CRing) where
   gcd-sym : (a b : Seq R) (n : ℕ) (c : Seq R) → Gcd a b n c → Gcd b a n c
   gcd-sym a b n c G = record { monic = G .monic; left = G .right; right = G .left; bezout = bezout-sym R a b c (G .bezout) }
 
-  -- that of a and b is that of a and b modulo a
+  -- the one of a and b is the one of a and r, where b = r modulo a
   pub gcd-modulo : (a b r : Seq R) → Congruent R a b r → (n : ℕ) (c : Seq R) → Gcd a r n c → Gcd a b n c
   gcd-modulo a b r h n c G = record {
     monic = G .monic;
@@ -75,7 +75,7 @@ module _ (R : CRing) where
         ∙ ap (λ x. x *ₛ a) (const-unit R (a n) (L .unit)) ∙ Ring.one-mul (Series R) a;
   }
 
-  -- that of a and 0, where Euclid's algorithm ends
+  -- the one of a and 0, where Euclid's algorithm ends
   pub gcd-zeros : (n : ℕ) (a b : Seq R) (L : Leading R n a) → b ≡ zeros R → Gcd a b n (normalized n a L)
   unfolding normalized
   gcd-zeros n a b L e = record {

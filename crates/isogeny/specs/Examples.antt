@@ -10,9 +10,9 @@ use Rattle.ring.specs.Ring.{CRing, cast, pow}
 use Rattle.ring.specs.Identity.{solve1, solve2}
 use Rattle.ring.specs.Identity.Ex.{var, num, :0, :1, _:+_, _:-_, _:*_, :-_, _:^_}
 use Rattle.ring.specs.Derivative.{derive}
-use Rattle.series.specs.Series.{Series, Seq, Formal, const, ∂, ∂-at, sum}
-use Rattle.series.specs.Degree.{Below}
+use Rattle.series.specs.Series.{Series, Seq, Formal, const, ∂, sum}
 use Rattle.series.specs.Indeterminate.{ind, ∂-ind, ∂-const, conv-cast}
+use Rattle.series.specs.Binomial.{ind-monic}
 use Rattle.series.specs.Reversal.{rev}
 use Rattle.isogeny.specs.Rules.{Question, R1, Meets, f, N, W, left, right}
 use Rattle.isogeny.specs.Expansion.{Newton, expansion, PowerSums, power-sums, Short}
@@ -97,12 +97,7 @@ module _ (R : CRing) (B : R .Car) where
 
   r1 : R1 R q x
   unfolding ind
-  r1 = record { degree = below; leading = refl; sigma = solve1 R (λ y. :0) (λ y. :- (num 2 :* :0)) tt (R .𝟘) }
-    where
-      below : Below R 2 x
-      below zero l = absurd (omega arith)
-      below (suc zero) l = absurd (omega arith)
-      below (suc (suc i)) l = refl
+  r1 = record { degree = ind-monic R .below; leading = refl; sigma = solve1 R (λ y. :0) (λ y. :- (num 2 :* :0)) tt (R .𝟘) }
 
   -- the rules can be met
   pub meets : Meets R q x

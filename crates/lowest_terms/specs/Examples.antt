@@ -1,4 +1,4 @@
--- The theorems apply: over every prime p > 3, for `isogeny`'s example y² = x³ + B with B not 0, where g = x and N = x³ + 4 B.
+-- The theorems' hypotheses can be met: over every prime p > 3, by `isogeny`'s example y² = x³ + B with B not 0, where g = x and N = x³ + 4 B.
 -- Assumes nothing.
 use mathlib.Core.Path.{_∙_}
 use mathlib.Core.Logic.{_≢_}

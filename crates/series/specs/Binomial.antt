@@ -3,7 +3,6 @@
 use mathlib.Core.Path.{_≡_, refl, sym, _∙_, ap, ap₂, subst}
 use mathlib.Core.Logic.{_≢_}
 use Prim.Native.Nat.{ℕ, zero, suc, _+_, _*_}
-use native.Mathlib.Nat as N
 use native.Mathlib.Omega.{arith}
 use Rattle.ring.specs.Ring
 use Rattle.ring.specs.Ring.{CRing, cast, cast-suc, pow, pow-zero, pow-suc}
@@ -11,8 +10,8 @@ use Rattle.ring.specs.Identity.{solve1, solve2, solve3, solve4}
 use Rattle.ring.specs.Identity.Ex.{num, :0, :1, _:+_, _:*_, _:^_}
 use Rattle.series.specs.Series as S
 use Rattle.series.specs.Series.{Series, Seq, const, head-then, ∂, ∂-at, ∂-leibniz}
-use Rattle.series.specs.Degree.{Below, Monic, monic-mul, const-below}
-use Rattle.series.specs.Indeterminate.{ind, conv-ind, conv-cast, cast-series}
+use Rattle.series.specs.Degree.{Below, Poly, Monic, monic-mul, const-below}
+use Rattle.series.specs.Indeterminate.{ind, conv-ind, conv-cast}
 use Rattle.series.specs.Value.{value, value-same, value-conv}
 
 module _ (R : CRing) where
@@ -60,6 +59,9 @@ module _ (R : CRing) where
       below zero l = absurd (omega arith)
       below (suc zero) l = absurd (omega arith)
       below (suc (suc i)) l = refl
+
+  abbrev pub poly-ind : Poly R (ind R)
+  poly-ind = (2, ind-monic .below)
 
   pub ind-value : (u : Car) → value R 2 (ind R) u ≡ u
   unfolding ind value

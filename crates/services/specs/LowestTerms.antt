@@ -1,14 +1,15 @@
 -- Kernels free of repetition (document 02, E12), about the words of every sheet that check lets pass, whoever wrote them; what solve and kernel write is
--- such a sheet (`Solve`, `Kernel`). Polynomials and their factors are over ℤ/p, the field of the sheet's p; g and N are those on the sheet.
+-- such a sheet. Polynomials and their factors are over ℤ/p, the field of the sheet's p; ℓ, g and N are those on the sheet.
 -- Assumes nothing.
 use mathlib.Core.Logic.{_≢_}
 use mathlib.Core.Path.{_≡_, sym, _∙_, ap, subst}
 use mathlib.Core.List.{List}
 use Prim.Native.Nat.{ℕ, suc, _-_, _≤_}
 use native.Mathlib.Omega.{arith}
+use lib.ListN.{take}
 use Rattle.ring.specs.Ring.{CRing, pow}
 use Rattle.series.specs.Series.{Series, Seq, conv, zeros, ∂}
-use Rattle.series.specs.Degree.{Below, Poly}
+use Rattle.series.specs.Degree.{Below, Poly, Monic}
 use Rattle.series.specs.Value.{value}
 use Rattle.zmod.specs.Zmod.{Elt, Zmod, mk}
 use Rattle.zmod.specs.Prime.{Prime}
@@ -24,10 +25,13 @@ use Rattle.sheet.specs.Values.{valuesOf}
 use Rattle.sheet.specs.Asked.{Curves}
 use Rattle.sheet.specs.Ready.{Ready, ready, half-least, degree-half, degree-below}
 use Rattle.promises.specs.declared.Verdict.the-variants as verdict
+use Rattle.promises.specs.declared.Written.the-variants as written
 use Rattle.promises.specs.Asked as Asked
 use Rattle.promises.specs.Asked.{OnDomain, prime, put, check-asks}
-use Rattle.promises.specs.Answer.{CheckRight}
+use Rattle.promises.specs.Answer.{CheckRight, SolveRight, KernelRight}
 use Rattle.services.specs.Push.{check-asked}
+use Rattle.services.specs.Solve.{solve-certified}
+use Rattle.services.specs.Kernel.{kernel-certified}
 use Rattle.services.specs.Source.{certificate-N, certificate-meets}
 
 -- Check's verdict on the words is that they pass.
@@ -91,7 +95,7 @@ module _ (ws : List ℕ) (passes : CheckRight ws verdict.Passes) where
   pub no-factor-f : NoCommonFactor R g f
   no-factor-f = Theorems.no-factor-f is-prime q d≥1 nonsingular small g meets
 
-  -- And g has none in common with N.
+  -- And none in common with N: a polynomial over ℤ/p that divides g and N is a constant.
   pub no-factor-N : NoCommonFactor R g N
   no-factor-N = subst (NoCommonFactor R g) (sym N-is) (Theorems.no-factor-N is-prime q d≥1 nonsingular small g meets)
 
@@ -115,12 +119,29 @@ module _ (ws : List ℕ) (passes : CheckRight ws verdict.Passes) where
   pub simple-root : (u : Elt p) → Rules.g-at R q g u ≡ mk p 0 → value R (q .d) (∂ R g) u ≢ mk p 0
   simple-root = Theorems.simple-root is-prime q d≥1 nonsingular small g meets
 
-  -- No point of order 2 goes to infinity: a point (u, v) of the domain with g(u) = 0 has a v that is not 0, so that (u, v) and (u, −v) are two.
-  pub two-points : (u v : ℕ) → OnDomain (valuesOf Certificate ws) u v → Rules.g-at R q g (mk p u) ≡ mk p 0 → v ≢ 0
-  two-points u v on root zero = Theorems.two-points is-prime q d≥1 nonsingular small g meets (mk p u) (mk p v) (on .on) root (ap (mk p) zero)
+  -- No point of order 2 goes to infinity: a point (u, v) of the domain with g(u) = 0 has a v that is not 0.
+  pub ordinate-nonzero : (u v : ℕ) → OnDomain (valuesOf Certificate ws) u v → Rules.g-at R q g (mk p u) ≡ mk p 0 → v ≢ 0
+  ordinate-nonzero u v on root zero =
+      Theorems.ordinate-nonzero is-prime q d≥1 nonsingular small g meets (mk p u) (mk p v) (on .on) root (ap (mk p) zero)
 
-  -- ── ℓ is the degree of the map in lowest terms: let M / D be N / g² in other words, that is M g² = N D, with any polynomials M and D over ℤ/p
+  -- ── ℓ is the degree of the map in lowest terms
 
+  ℓ-is : Rules.ℓ R q ≡ ℓ
+  ℓ-is = omega (arith, degree-half (valuesOf Certificate ws) known)
+
+  -- N is monic of degree ℓ,
+  pub N-exact : Monic R ℓ N
+  N-exact = subst (λ n. Monic R n N) ℓ-is (subst (Monic R (Rules.ℓ R q)) (sym N-is) (Theorems.N-exact is-prime q d≥1 nonsingular small g meets))
+
+  -- g² is monic of degree ℓ − 1,
+  pub g²-exact : Monic R (ℓ - 1) g²
+  g²-exact = subst (λ n. Monic R (n - 1) g²) ℓ-is (Theorems.g²-exact is-prime q d≥1 nonsingular small g meets)
+
+  -- and they are coprime: u N + v g² = 1 for some polynomials u and v over ℤ/p.
+  pub coprime-N-g² : Coprime R N g²
+  coprime-N-g² = subst (λ y. Coprime R y g²) (sym N-is) (Theorems.coprime-N-g² is-prime q d≥1 nonsingular small g meets)
+
+  -- Let M / D be the same fraction as N / g², that is M g² = N D, with any polynomials M and D over ℤ/p.
   module _ (M D : Seq R) (poly-M : Poly R M) (poly-D : Poly R D) (same : conv R M g² ≡ conv R N D) where
     same-N : conv R M g² ≡ conv R (Rules.N R q g) D
     same-N = same ∙ ap (λ y. conv R y D) N-is
@@ -129,7 +150,7 @@ module _ (ws : List ℕ) (passes : CheckRight ws verdict.Passes) where
     pub denominator : Divides R g² D
     denominator = Theorems.denominator is-prime q d≥1 nonsingular small g meets M D poly-M poly-D same-N
 
-    -- and M is N times what D is g² times.
+    -- and M = N k where D = g² k.
     pub numerator : conv R N (denominator .cofactor) ≡ M
     unfolding denominator
     numerator =
@@ -138,17 +159,17 @@ module _ (ws : List ℕ) (passes : CheckRight ws verdict.Passes) where
     -- So, if D is not 0, the degree of D is ℓ − 1 or more,
     pub denominator-degree : D ≢ zeros R → (n : ℕ) → Below R (suc n) D → ℓ - 1 ≤ n
     denominator-degree nonzero n below =
-        omega (
-          arith,
-          Theorems.denominator-degree is-prime q d≥1 nonsingular small g meets M D poly-M poly-D same-N nonzero n below,
-          degree-half (valuesOf Certificate ws) known,
-        )
+        subst (λ l. l - 1 ≤ n) ℓ-is (Theorems.denominator-degree is-prime q d≥1 nonsingular small g meets M D poly-M poly-D same-N nonzero n below)
 
     -- and that of M is ℓ or more.
     pub numerator-degree : D ≢ zeros R → (n : ℕ) → Below R (suc n) M → ℓ ≤ n
     numerator-degree nonzero n below =
-        omega (
-          arith,
-          Theorems.numerator-degree is-prime q d≥1 nonsingular small g meets M D poly-M poly-D same-N nonzero n below,
-          degree-half (valuesOf Certificate ws) known,
-        )
+        subst (λ l. l ≤ n) ℓ-is (Theorems.numerator-degree is-prime q d≥1 nonsingular small g meets M D poly-M poly-D same-N nonzero n below)
+
+-- What solve writes is such a sheet,
+pub solve-passes : (ws before after : List ℕ) (c : ℕ) → SolveRight ws before after (written.Count c) → CheckRight (take c after) verdict.Passes
+solve-passes ws before after c h = (solve-certified ws before after c h, tt)
+
+-- and so is what kernel writes.
+pub kernel-passes : (ws before after : List ℕ) (c : ℕ) → KernelRight ws before after (written.Count c) → CheckRight (take c after) verdict.Passes
+kernel-passes ws before after c h = (kernel-certified ws before after c h, tt)

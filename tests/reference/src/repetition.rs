@@ -1,6 +1,6 @@
-//! Request E12: in a passing certificate g has no repeated factor, and no factor of
-//! degree 1 or more in common with f or with N. Here are the greatest common divisors
-//! that tell, and sheets for which one of them is not 1.
+//! Request E12: where a certificate passes, its kernel polynomial is square-free and
+//! coprime to f and to N. Here are the greatest common divisors that tell, and sheets for
+//! which one of them is not 1.
 
 use crate::curve::Curve;
 use crate::field::Field;
@@ -33,8 +33,8 @@ pub fn is_free(certificate: &Certificate) -> bool {
     common.iter().all(|(_, gcd)| gcd.degree() == Some(0))
 }
 
-/// A certificate of any odd degree: questions 2, 3, 5 and 6, with 4 for the others. What
-/// question 4 leaves out need not be free.
+/// A certificate of any odd degree from 3 on, by questions 2, 3, 5 and 6; another degree
+/// gets 4. What question 4 leaves out need not be free.
 pub fn read_any_degree(words: &[u32]) -> Result<Certificate, Refusal> {
     let [p, a, b, a_t, b_t, l, sigma] = sheet::ask_head(words, QUESTION_HEAD)?;
     sheet::ask_prime(p)?;
@@ -84,7 +84,7 @@ pub fn curve_with_root(random: &mut Random, field: Field, root: u64) -> Curve {
 }
 
 /// Monic polynomials of degree d that a square divides, from d = 2 on: that of a linear
-/// factor, that of a factor with half the degree, and all powers of a linear factor.
+/// factor, that of a factor with half the degree, and the d-th power of a linear one.
 pub fn with_repeated_factor(random: &mut Random, field: Field, d: usize) -> Vec<Poly> {
     if d < 2 {
         return Vec::new();

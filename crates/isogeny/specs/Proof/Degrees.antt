@@ -9,7 +9,7 @@ use Rattle.ring.specs.Ring.{CRing, cast, pow}
 use Rattle.ring.specs.Identity.{solve3, solve5}
 use Rattle.ring.specs.Identity.Ex.{num, :1, _:+_, _:-_, _:*_, _:^_}
 use Rattle.series.specs.Series.{Series, Seq, const, D, ∂}
-use Rattle.series.specs.Degree.{Below, Poly}
+use Rattle.series.specs.Degree.{Below}
 use Rattle.series.specs.Indeterminate.{ind, D-is}
 use Rattle.series.specs.Reversal.{rev, Reversed, r-degree, r-left, r-right, r-add, r-neg, r-mul, r-pow, r-up, r-const, r-cast, r-ind, r-down, r-D}
 use Rattle.isogeny.specs.Rules.{Question, R3, ℓ, f, W, left, right}
@@ -47,9 +47,6 @@ module _ (R : CRing) (q : Question R) where
       r-right R
       (solve3 (Series R) (λ t a b. :1 :^ 3 :+ t :* (t :* (a :* :1)) :+ t :* (t :* (t :* b))) (λ t a b. :1 :+ a :* t :^ 2 :+ b :* t :^ 3) tt x (κ A) (κ B))
       (r-add R (r-add R (r-pow R (r-ind R) 3) (r-up R (r-up R (r-mul R (r-const R A) (r-ind R))))) (r-up R (r-up R (r-up R (r-const R B)))))
-
-  pub poly-f : Poly R (f R q)
-  poly-f = (4, r-f .below)
 
   module _ (g n : Seq R) where
     pub xW : x ⊗ W R q g n ≡ D R n ⊗ g ⊖ # 2 ⊗ n ⊗ D R g

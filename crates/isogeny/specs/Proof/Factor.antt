@@ -15,9 +15,10 @@ use Rattle.series.specs.Series.{Series, Seq, Formal, const, ∂}
 use Rattle.series.specs.Degree.{Below, Poly, Monic, leading, monic-mul, factor-below, poly-cast, poly-const, poly-eval, poly-∂}
 use Rattle.series.specs.ConstantTerm.{cancel-first, pow-first}
 use Rattle.series.specs.Indeterminate.{ind, ∂-ind, ∂-const}
-use Rattle.series.specs.Reversal.{rev, Reversed, r-degree, r-left, r-mul, r-pow, r-ind}
+use Rattle.series.specs.Binomial.{poly-ind}
+use Rattle.series.specs.Reversal.{rev, Reversed, r-degree, r-left, r-mul, r-pow}
 use Rattle.isogeny.specs.Rules.{Question, R1, ℓ, f, N, W}
-use Rattle.isogeny.specs.Proof.Degrees.{poly-f}
+use Rattle.isogeny.specs.Proof.Cubic.{poly-f, ∂-f}
 use Rattle.isogeny.specs.Proof.Infinity as I
 use Rattle.isogeny.specs.Proof.Infinity.{reversed, quot, Ψ}
 use Rattle.isogeny.specs.Proof.Second.{second, r-second}
@@ -44,14 +45,6 @@ module _ (R : CRing) (q : Question R) where
 
   abbrev x : Seq R
   x = ind R
-
-  -- ── derivatives
-
-  pub ∂-f : ∂ R (f R q) ≡ # 3 ⊗ x ^ 2 ⊕ κ A
-  unfolding f
-  ∂-f =
-      derive (Series R) (Formal R) (x ∷ κ A ∷ κ B ∷ []) (:1 ∷ :0 ∷ :0 ∷ []) (∂-ind R, (∂-const R A, (∂-const R B, tt)))
-      (var 0 :^ 3 :+ var 1 :* var 0 :+ var 2) (num 3 :* var 0 :^ 2 :+ var 1) tt tt
 
   -- ── as expressions in x, A, f, ℓ, σ, Ã, g and its derivatives up to the fourth
 
@@ -110,7 +103,7 @@ module _ (R : CRing) (q : Question R) where
 
     along : Along (Series R) (Formal R) (at (Series R) xs) xs es
     along =
-        (∂-ind R, (∂-const R A, (∂-f, (Deriv.d-cast (Series R) (Formal R) (ℓ R q), (∂-const R σ, (∂-const R Ã, (refl, (refl, (refl, (refl, tt))))))))))
+        (∂-ind R, (∂-const R A, (∂-f R q, (Deriv.d-cast (Series R) (Formal R) (ℓ R q), (∂-const R σ, (∂-const R Ã, (refl, (refl, (refl, (refl, tt))))))))))
 
     -- the derivative of an expression
     abbrev :∂ : Ex → Ex
@@ -168,7 +161,7 @@ module _ (R : CRing) (q : Question R) where
         let p₂ : Poly R (∂ R (∂ R g)) = poly-∂ R _ p₁ in
         let p₃ : Poly R (∂ R (∂ R (∂ R g))) = poly-∂ R _ p₂ in
         poly-eval R (xs g) (
-          (2, r-ind R .below),
+          poly-ind R,
           (poly-const R A, (poly-f R q, (poly-cast R (ℓ R q), (poly-const R σ, (poly-const R Ã, (p, (p₁, (p₂, (p₃, (poly-∂ R _ p₃, tt)))))))))),
         )
         (:M g)

@@ -11,12 +11,11 @@ use Rattle.ring.specs.Field.{Inverse, unit-cancel}
 use Rattle.ring.specs.Identity.{solve2, solve3, solve5}
 use Rattle.ring.specs.Identity.Ex.{var, num, :1, _:+_, _:-_, _:*_, _:^_}
 use Rattle.series.specs.Series.{Seq, const, ∂}
-use Rattle.series.specs.Degree.{Below, Poly, Polys, const-below, ∂-below}
-use Rattle.series.specs.Indeterminate.{ind}
+use Rattle.series.specs.Degree.{Below, Poly, Polys, poly-const, ∂-below}
 use Rattle.series.specs.Value.{value, at-same, at-eval, at-const}
-use Rattle.series.specs.Binomial.{ind-monic, ind-value}
 use Rattle.isogeny.specs.Curve.{OnCurve}
 use Rattle.isogeny.specs.Rules.{Question, R3, ℓ, f, W, left, right, g-at, N-at, W-at, Image}
+use Rattle.isogeny.specs.Proof.Cubic.{poly-f, f-at}
 use Rattle.isogeny.specs.Proof.Degrees.{W-below, left-below, right-below}
 
 module _ (R : CRing) (q : Question R) (g n : Seq R) (g-below : Below R (suc (q .d)) g) (n-below : Below R (suc (ℓ R q)) n) (u : R .Car) where
@@ -65,27 +64,21 @@ module _ (R : CRing) (q : Question R) (g n : Seq R) (g-below : Below R (suc (q .
 
   -- ── R3 at u
 
-  const-at : (c : Car) → value R 1 (const R c) u ≡ c
-  const-at c = at-const R c (1, const-below R c) u
-
   abbrev names : List (Seq R)
-  names = ind R ∷ const R A ∷ const R B ∷ const R Ã ∷ const R B̃ ∷ g ∷ n ∷ W R q g n ∷ []
+  names = f R q ∷ const R Ã ∷ const R B̃ ∷ g ∷ n ∷ W R q g n ∷ []
 
   abbrev polys : Polys R names
-  polys = ((2, ind-monic R .below), ((1, const-below R A), ((1, const-below R B), ((1, const-below R Ã), ((1, const-below R B̃), (poly-g, (poly-n, (poly-w, tt))))))))
+  polys = (poly-f R q, (poly-const R Ã, (poly-const R B̃, (poly-g, (poly-n, (poly-w, tt))))))
 
   left-at : (below : Below R (suc (3 * ℓ R q)) (left R q g n)) → value R (suc (3 * ℓ R q)) (left R q g n) u ≡ (u ^ 3 ⊕ A ⊗ u ⊕ B) ⊗ w ^ 2
-  unfolding left f
-  left-at below =
-      at-eval R names polys ((var 0 :^ 3 :+ var 1 :* var 0 :+ var 2) :* var 7 :^ 2) (suc (3 * ℓ R q), below) u
-      ∙ ap₂ (λ y a. (y ^ 3 ⊕ a ⊗ y ⊕ value R 1 (const R B) u) ⊗ w ^ 2) (ind-value R u) (const-at A)
-      ∙ ap (λ b. (u ^ 3 ⊕ A ⊗ u ⊕ b) ⊗ w ^ 2) (const-at B)
+  unfolding left
+  left-at below = at-eval R names polys (var 0 :* var 5 :^ 2) (suc (3 * ℓ R q), below) u ∙ ap (λ y. y ⊗ w ^ 2) (f-at R q u)
 
   right-at : (below : Below R (suc (3 * ℓ R q)) (right R q g n)) → value R (suc (3 * ℓ R q)) (right R q g n) u ≡ N ^ 3 ⊕ Ã ⊗ N ⊗ G ^ 4 ⊕ B̃ ⊗ G ^ 6
   unfolding right
   right-at below =
-      at-eval R names polys (var 6 :^ 3 :+ var 3 :* var 6 :* var 5 :^ 4 :+ var 4 :* var 5 :^ 6) (suc (3 * ℓ R q), below) u
-      ∙ ap₂ (λ a b. N ^ 3 ⊕ a ⊗ N ⊗ G ^ 4 ⊕ b ⊗ G ^ 6) (const-at Ã) (const-at B̃)
+      at-eval R names polys (var 4 :^ 3 :+ var 1 :* var 4 :* var 3 :^ 4 :+ var 2 :* var 3 :^ 6) (suc (3 * ℓ R q), below) u
+      ∙ ap₂ (λ a b. N ^ 3 ⊕ a ⊗ N ⊗ G ^ 4 ⊕ b ⊗ G ^ 6) (at-const R Ã (poly-const R Ã) u) (at-const R B̃ (poly-const R B̃) u)
 
   -- f(u) W(u)² = N(u)³ + Ã N(u) g(u)⁴ + B̃ g(u)⁶
   pub R3-at : R3 R q g n → (u ^ 3 ⊕ A ⊗ u ⊕ B) ⊗ w ^ 2 ≡ N ^ 3 ⊕ Ã ⊗ N ⊗ G ^ 4 ⊕ B̃ ⊗ G ^ 6

@@ -1,5 +1,5 @@
--- An irreducible factor π of g, where g meets the rules: g = πᵐ k with k coprime to π. If π divided f, 2 m would be 1; so it does not, m is 1, and π does
--- not divide g′. Over any field in which 1 to ℓ − 1 are not zero.
+-- An irreducible factor π of g, where g meets the rules, over any field in which 1 to ℓ − 1 are not zero: g = πᵐ k with k coprime to π. If π divided f,
+-- 2 m would be 1 in the field; so it does not, m is 1, and π does not divide g′.
 -- Assumes nothing.
 use mathlib.Core.Path.{_≡_, sym, _∙_, ap, ap₂, subst, fun-ext}
 use mathlib.Core.Logic.{_≢_}
@@ -21,10 +21,9 @@ use Rattle.isogeny.specs.Curve.{Nonsingular}
 use Rattle.isogeny.specs.Rules as Rules
 use Rattle.isogeny.specs.Rules.{Question, Meets, ℓ}
 use Rattle.isogeny.specs.Source as Source
-use Rattle.isogeny.specs.Proof.Degrees.{poly-f}
-use Rattle.isogeny.specs.Proof.Factor.{∂-f}
+use Rattle.isogeny.specs.Proof.Cubic.{poly-f, ∂-f}
 use Rattle.divisibility.specs.Divides.{Divides, divides-zero, divides-degree}
-use Rattle.divisibility.specs.Coprime.{Coprime, coprime-mul, coprime-pow, coprime-const, coprime-not}
+use Rattle.divisibility.specs.Coprime.{Coprime, coprime-mul, coprime-pow, coprime-const, divisor-not-coprime}
 use Rattle.divisibility.specs.Irreducible.{Irreducible, coprime-undivided, Multiplicity, multiplicity}
 use Rattle.lowest_terms.specs.Proof.Cubic.{poly-quadratic, poly-line, square-free-f}
 use Rattle.lowest_terms.specs.Proof.Factor as Factor
@@ -70,7 +69,7 @@ module _ (R : CRing) (F : Field R) (q : Question R) (nonsingular : Nonsingular R
 
   -- ── an irreducible factor π of degree e
 
-  module _ (e : ℕ) (π : Seq R) (I : Irreducible R F e π) (π∣g : Divides R π g) where
+  module _ (e : ℕ) (π : Seq R) (I : Irreducible R e π) (π∣g : Divides R π g) where
     L : Leading R e π
     L = leading R e π (I .monic)
 
@@ -79,17 +78,17 @@ module _ (R : CRing) (F : Field R) (q : Question R) (nonsingular : Nonsingular R
 
     -- π cannot both divide a and be coprime to it
     refute : (a : Seq R) → Coprime R π a → Divides R π a → ⊥
-    refute a = coprime-not R F e π a (I .positive) L
+    refute a = divisor-not-coprime R F e π a (I .positive) L
 
     -- π divides g, so its degree is at most d
     degree-most : e ≤ d
     degree-most = divides-degree R e π g L π∣g g-nonzero d (meets .r1 .degree)
 
-    -- the numbers 1 to ℓ − 1 are units
+    -- the numbers 1 to ℓ − 1 are units, so π is coprime to them
     number : (j : ℕ) → 1 ≤ j → j < ℓ R q → Coprime R π (# j)
     number j h l = subst (Coprime R π) (sym (cast-series R j)) (coprime-const R π (cast R j) (F .invert (cast R j) (units j h l)))
 
-    -- π′ has a lower degree than π and is not zero
+    -- π is coprime to π′, which has a lower degree and is not zero
     separable : Coprime R π (∂ R π)
     separable = coprime-undivided R F e π I (∂ R π) (poly-∂ R π poly-π) undivided
       where
@@ -125,7 +124,7 @@ module _ (R : CRing) (F : Field R) (q : Question R) (nonsingular : Nonsingular R
 
     -- ── g = πᵐ k
 
-    module _ (μ : Multiplicity R F π g (suc d)) where
+    module _ (μ : Multiplicity R π g (suc d)) where
       open Multiplicity μ using (m, k, below as m-below, poly as poly-k, is, coprime as coprime-k)
 
       -- m is d at most and 1 at least
@@ -323,7 +322,7 @@ module _ (R : CRing) (F : Field R) (q : Question R) (nonsingular : Nonsingular R
 
     -- ── for use
 
-    multiplicity-g : Multiplicity R F π g (suc d)
+    multiplicity-g : Multiplicity R π g (suc d)
     multiplicity-g = multiplicity R F e π I (suc d) g (meets .r1 .degree) g-nonzero
 
     pub not-f : Divides R π f → ⊥

@@ -1,7 +1,7 @@
 -- The polynomials in R2 beside g: f = x³ + A x + B, f′ = 3 x² + A and ℓ x − σ. f has no repeated factor where 4 A³ + 27 B² is not zero, for that is a
--- combination of f and f′; and f(u) is v² where the point (u, v) is on the curve.
+-- combination of f and f′.
 -- Assumes nothing.
-use mathlib.Core.Path.{_≡_, sym, _∙_, ap, ap₂}
+use mathlib.Core.Path.{_≡_, _∙_, ap, ap₂}
 use mathlib.Core.List.{List, [], _∷_}
 use Prim.Native.Nat.{ℕ}
 use Rattle.ring.specs.Ring.{CRing, cast, pow}
@@ -11,13 +11,11 @@ use Rattle.ring.specs.Identity.Ex.{var, num, _:+_, _:-_, _:*_, :-_, _:^_}
 use Rattle.series.specs.Series.{Series, Seq, const, ∂}
 use Rattle.series.specs.Degree.{Poly, Polys, poly-eval, poly-const, poly-cast}
 use Rattle.series.specs.Indeterminate.{ind, cast-series, const-add, const-mul, const-pow}
-use Rattle.series.specs.Value.{at, at-eval, at-const}
-use Rattle.series.specs.Binomial.{ind-monic, ind-value}
-use Rattle.isogeny.specs.Curve.{Nonsingular, OnCurve, discriminant}
+use Rattle.series.specs.Binomial.{poly-ind}
+use Rattle.isogeny.specs.Curve.{Nonsingular, discriminant}
 use Rattle.isogeny.specs.Rules.{Question, ℓ, f}
 use Rattle.isogeny.specs.Source.{line, quadratic}
-use Rattle.isogeny.specs.Proof.Degrees.{poly-f}
-use Rattle.isogeny.specs.Proof.Factor.{∂-f}
+use Rattle.isogeny.specs.Proof.Cubic.{∂-f}
 use Rattle.divisibility.specs.Divides.{SquareFree}
 use Rattle.divisibility.specs.Coprime.{Bezout, bezout-unit, coprime-square-free}
 
@@ -48,22 +46,14 @@ module _ (R : CRing) (q : Question R) where
   xs = x ∷ κ A ∷ κ B ∷ []
 
   abbrev polys : Polys R xs
-  polys = ((2, ind-monic R .below), (poly-const R A, (poly-const R B, tt)))
+  polys = (poly-ind R, (poly-const R A, (poly-const R B, tt)))
 
   pub poly-quadratic : Poly R (quadratic R q)
   poly-quadratic = poly-eval R xs polys (num 3 :* var 0 :^ 2 :+ var 1)
 
   pub poly-line : Poly R (line R q)
   poly-line =
-      poly-eval R (x ∷ # (ℓ R q) ∷ κ σ ∷ []) ((2, ind-monic R .below), (poly-cast R (ℓ R q), (poly-const R σ, tt))) (var 1 :* var 0 :- var 2)
-
-  -- f(u) is u³ + A u + B, so f(u) = v² is the equation of the curve
-  pub f-at : (u v : R .Car) → OnCurve R A B u v → at R (f R q) (poly-f R q) u ≡ pow R v 2
-  unfolding f OnCurve
-  f-at u v on =
-      at-eval R xs polys (var 0 :^ 3 :+ var 1 :* var 0 :+ var 2) (poly-f R q) u
-      ∙ ap₂ (λ y a. R .add (R .add (pow R y 3) (R .mul a y)) (at R (κ B) (poly-const R B) u)) (ind-value R u) (at-const R A (poly-const R A) u)
-      ∙ ap (R .add (R .add (pow R u 3) (R .mul A u))) (at-const R B (poly-const R B) u) ∙ sym on
+      poly-eval R (x ∷ # (ℓ R q) ∷ κ σ ∷ []) (poly-ind R, (poly-cast R (ℓ R q), (poly-const R σ, tt))) (var 1 :* var 0 :- var 2)
 
   -- 4 A³ + 27 B² = u f + v f′
   abbrev u : Seq R

@@ -37,10 +37,11 @@ abbrev :ã : Ex
 abbrev :b̃ : Ex
 :b̃ = var 8
 
+-- M′ k − 2 M k′
 abbrev :U : Ex
 :U = :M′ :* :k :- num 2 :* :M :* :k′
 
--- what R3 leaves, before and after a division by π³
+-- what R3 leaves; and the same with π f and π M for f and M, divided by π³
 abbrev pub :whole : Ex
 :whole = :f :* (:π :* :U :- num 2 :* :π′ :* :k :* :M) :^ 2 :- (:M :^ 3 :+ :ã :* :π :^ 4 :* :M :* :k :^ 4 :+ :b̃ :* :π :^ 6 :* :k :^ 6)
 
@@ -54,7 +55,7 @@ abbrev pub :S : Ex
 abbrev pub :S₁ : Ex
 :S₁ = :ã :* :π :* :M :* :k :^ 4 :+ :b̃ :* :π :^ 2 :* :k :^ 6 :+ num 2 :* :f :* :π′ :* :k :* :M :* :U :- :f :* :π :* :U :^ 2
 
--- in π, j = c − 1, Z, E, S
+-- π T = (c − 1) c² Z³, in π, j = c − 1, Z, E, S
 abbrev pub :T : Ex
 :T =
     :- ((num 2 :* (var 1 :+ :1) :* var 2 :* var 3 :+ var 0 :* var 3 :^ 2) :* (var 1 :* var 2 :+ var 0 :* var 3))

@@ -13,7 +13,7 @@ use Rattle.series.specs.Indeterminate.{cast-series}
 use Rattle.isogeny.specs.Rules as Rules
 use Rattle.isogeny.specs.Rules.{Question}
 use Rattle.isogeny.specs.Source as Source
-use Rattle.isogeny.specs.Proof.Degrees.{poly-f}
+use Rattle.isogeny.specs.Proof.Cubic.{poly-f}
 use Rattle.divisibility.specs.Congruence.{Congruent}
 use Rattle.divisibility.specs.Coprime.{Coprime, bezout-modulo, coprime-mul, coprime-const, coprime-pow}
 use Rattle.lowest_terms.specs.Proof.Cubic.{poly-quadratic, poly-line}

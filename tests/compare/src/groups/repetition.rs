@@ -1,6 +1,6 @@
 //! Request E12 from the other side: sheets on which g has a repeated factor, a factor
-//! in common with f, or one in common with N. Whatever else they meet, none passes: that
-//! is expected by the request, and by the reference only what solve makes of their values.
+//! in common with f, or one in common with N. Whatever else they meet, none passes, as the
+//! request says; the reference is asked only what solve makes of their values.
 
 use reference::brute::is_curve;
 use reference::call::{Call, INFINITY};
