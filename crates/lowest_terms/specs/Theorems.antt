@@ -97,22 +97,22 @@ module _ {p : ℕ} (P : Prime p) where
     g² = pow (Series R) g 2
 
     -- N is monic of degree ℓ,
-    pub N-exact : Monic R (ℓ R q) (N R q g)
-    N-exact = record { below = N-degree P q d≥1 g (meets .r1); one = N-monic P q d≥1 g (meets .r1) }
+    pub monic-N : Monic R (ℓ R q) (N R q g)
+    monic-N = record { below = N-degree P q d≥1 g (meets .r1); one = N-monic P q d≥1 g (meets .r1) }
 
     -- g² is monic of degree ℓ − 1,
-    pub g²-exact : Monic R (ℓ R q - 1) g²
-    g²-exact = subst (λ n. Monic R n g²) (omega arith) (subst (Monic R (d + d)) (squared (Series R) g) (monic-mul R d d g g g-monic g-monic))
+    pub monic-g² : Monic R (ℓ R q - 1) g²
+    monic-g² = subst (λ n. Monic R n g²) (omega arith) (subst (Monic R (d + d)) (squared (Series R) g) (monic-mul R d d g g g-monic g-monic))
 
     -- and they are coprime: u N + v g² = 1 for some polynomials u and v over ℤ/p.
     pub coprime-N-g² : Coprime R (N R q g) g²
     coprime-N-g² = coprime-pow R (N R q g) g (monic-poly R d g g-monic) (bezout-sym R g (N R q g) _ coprime-N) 2
 
     N-leading : Leading R (ℓ R q) (N R q g)
-    N-leading = leading R (ℓ R q) (N R q g) N-exact
+    N-leading = leading R (ℓ R q) (N R q g) monic-N
 
     g²-leading : Leading R (ℓ R q - 1) g²
-    g²-leading = leading R (ℓ R q - 1) g² g²-exact
+    g²-leading = leading R (ℓ R q - 1) g² monic-g²
 
     -- Let M / D be the same fraction as N / g², that is M g² = N D, with any polynomials M and D over ℤ/p.
     module _ (M D : Seq R) (poly-M : Poly R M) (poly-D : Poly R D) (same : conv R M g² ≡ conv R (N R q g) D) where

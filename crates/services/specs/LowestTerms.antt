@@ -130,12 +130,12 @@ module _ (ws : List ℕ) (passes : CheckRight ws verdict.Passes) where
   ℓ-is = omega (arith, degree-half (valuesOf Certificate ws) known)
 
   -- N is monic of degree ℓ,
-  pub N-exact : Monic R ℓ N
-  N-exact = subst (λ n. Monic R n N) ℓ-is (subst (Monic R (Rules.ℓ R q)) (sym N-is) (Theorems.N-exact is-prime q d≥1 nonsingular small g meets))
+  pub monic-N : Monic R ℓ N
+  monic-N = subst (λ n. Monic R n N) ℓ-is (subst (Monic R (Rules.ℓ R q)) (sym N-is) (Theorems.monic-N is-prime q d≥1 nonsingular small g meets))
 
   -- g² is monic of degree ℓ − 1,
-  pub g²-exact : Monic R (ℓ - 1) g²
-  g²-exact = subst (λ n. Monic R (n - 1) g²) ℓ-is (Theorems.g²-exact is-prime q d≥1 nonsingular small g meets)
+  pub monic-g² : Monic R (ℓ - 1) g²
+  monic-g² = subst (λ n. Monic R (n - 1) g²) ℓ-is (Theorems.monic-g² is-prime q d≥1 nonsingular small g meets)
 
   -- and they are coprime: u N + v g² = 1 for some polynomials u and v over ℤ/p.
   pub coprime-N-g² : Coprime R N g²
