@@ -7,6 +7,17 @@ use crate::rules::{self, R3};
 use crate::services;
 use crate::sheet::{self, Certificate, Question};
 
+/// Primes and degrees so small that every g can be tried for every curve.
+pub const TINY: [(u64, u64); 7] = [
+    (11, 3),
+    (13, 3),
+    (17, 3),
+    (19, 3),
+    (23, 3),
+    (11, 5),
+    (13, 5),
+];
+
 /// All monic polynomials of degree d.
 pub fn all_monic(field: Field, d: usize) -> impl Iterator<Item = Poly> {
     let p = field.p();

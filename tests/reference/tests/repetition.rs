@@ -4,7 +4,7 @@
 
 use std::collections::HashSet;
 
-use reference::brute::{all_isogenies, all_monic, all_pairs, is_curve};
+use reference::brute::{all_isogenies, all_monic, all_pairs, is_curve, TINY};
 use reference::call::Call;
 use reference::curve::Curve;
 use reference::field::Field;
@@ -73,15 +73,7 @@ fn common_divisors(a: &Poly, b: &Poly) -> Vec<Poly> {
 /// Every question and every g that meets the rules under question 4.
 #[test]
 fn no_common_divisor_on_any_certificate_over_small_fields() {
-    for (p, l) in [
-        (11, 3),
-        (13, 3),
-        (17, 3),
-        (19, 3),
-        (23, 3),
-        (11, 5),
-        (13, 5),
-    ] {
+    for (p, l) in TINY {
         let certificates = passing(p, l);
         assert!(certificates.len() >= 50, "{p}, {l}: {}", certificates.len());
         for certificate in certificates {

@@ -2,7 +2,7 @@
 
 use std::collections::HashMap;
 
-use reference::brute::{all_isogenies, all_monic, all_pairs, is_curve};
+use reference::brute::{all_isogenies, all_monic, all_pairs, is_curve, TINY};
 use reference::call::{Call, Reply};
 use reference::field::Field;
 use reference::random::Random;
@@ -88,15 +88,7 @@ fn solve_over_tiny_fields() {
 
 #[test]
 fn kernel_over_tiny_fields() {
-    for (p, l) in [
-        (11, 3),
-        (13, 3),
-        (17, 3),
-        (19, 3),
-        (23, 3),
-        (11, 5),
-        (13, 5),
-    ] {
+    for (p, l) in TINY {
         kernel_agrees(p, l);
     }
 }

@@ -25,7 +25,8 @@ use Rattle.isogeny.specs.Proof.Cubic.{poly-f, ∂-f}
 use Rattle.divisibility.specs.Divides.{Divides, divides-zero, divides-degree}
 use Rattle.divisibility.specs.Coprime.{Coprime, coprime-mul, coprime-pow, coprime-const, divisor-not-coprime}
 use Rattle.divisibility.specs.Irreducible.{Irreducible, coprime-undivided, Multiplicity, multiplicity}
-use Rattle.lowest_terms.specs.Proof.Cubic.{poly-quadratic, poly-line, square-free-f}
+use Rattle.lowest_terms.specs.Proof.Discriminant.{square-free-f}
+use Rattle.lowest_terms.specs.Proof.Numerator.{poly-quadratic, poly-line}
 use Rattle.lowest_terms.specs.Proof.Factor as Factor
 use Rattle.lowest_terms.specs.Proof.Factor.{numerator, rest, :M, :E, :M₁, :E₁}
 use Rattle.lowest_terms.specs.Proof.Modulo as Modulo
@@ -101,10 +102,10 @@ module _ (R : CRing) (F : Field R) (q : Question R) (nonsingular : Nonsingular R
             ∙ sym (∂-at R π (e - 1)) ∙ ap (λ s. s (e - 1)) (divides-zero R e π (∂ R π) L (∂-below R e π (I .monic .below)) D))
 
     -- M = c Z + π E and Z M² = M³ + π S cannot hold with Z coprime to π and 2 ≤ c = j + 1 < ℓ
-    finish : (j : ℕ) → 1 ≤ j → suc j < ℓ R q → (Z E S M : Seq R) → Poly R Z → Poly R E → Poly R S → Coprime R π Z
+    impossible : (j : ℕ) → 1 ≤ j → suc j < ℓ R q → (Z E S M : Seq R) → Poly R Z → Poly R E → Poly R S → Coprime R π Z
         → M ≡ # (suc j) ⊗ Z ⊕ π ⊗ E → Z ⊗ M ^ 2 ≡ M ^ 3 ⊕ π ⊗ S → ⊥
     unfolding Modulo.T
-    finish j h l Z E S M pZ pE pS cZ hM hS =
+    impossible j h l Z E S M pZ pE pS cZ hM hS =
         refute (# j ⊗ (# j ⊕ 𝟙) ^ 2 ⊗ Z ^ 3)
         (coprime-mul R π _ _ (poly-mul R _ _ (poly-cast R j) (poly-pow R _ poly-next 2))
         (coprime-mul R π _ _ (poly-cast R j) (number j h (omega arith))
@@ -252,7 +253,7 @@ module _ (R : CRing) (F : Field R) (q : Question R) (nonsingular : Nonsingular R
         f-case =
             let l : m ≤ d = m≤d in
             let h : 1 ≤ m = m≥1 in
-            finish (2 * m - 1) (omega arith) (omega arith) Y E₁ (Modulo.S₁ K (Formal R) π k f₁ M₁ (κ Ã) (κ B̃)) M₁
+            impossible (2 * m - 1) (omega arith) (omega arith) Y E₁ (Modulo.S₁ K (Formal R) π k f₁ M₁ (κ Ã) (κ B̃)) M₁
             poly-Y poly-E₁ (poly-letters f₁ M₁ (D .poly) poly-M₁ :S₁) coprime-Y
             (M₁-is ∙ ap (λ y. y ⊗ Y ⊕ π ⊗ E₁) (sym (cast-mul K 2 m) ∙ ap #_ (omega arith)))
             (Modulo.modulo-once K (Formal R) π k f₁ M₁ (κ Ã) (κ B̃) once)
@@ -301,7 +302,7 @@ module _ (R : CRing) (F : Field R) (q : Question R) (nonsingular : Nonsingular R
           go (yes l) = let h : 1 ≤ m = m≥1 in omega arith
           go (no h) =
               let l : m ≤ d = m≤d in
-              absurd (finish (m - 1) (omega arith) (omega arith) Z E₀ (Modulo.S K (Formal R) π k f M (κ Ã) (κ B̃)) M
+              absurd (impossible (m - 1) (omega arith) (omega arith) Z E₀ (Modulo.S K (Formal R) π k f M (κ Ã) (κ B̃)) M
               poly-Z poly-E₀ (poly-letters f M (poly-f R q) poly-M :S) coprime-Z
               (M-is ∙ ap (λ i. # i ⊗ Z ⊕ π ⊗ E₀) (omega arith)) (Modulo.modulo K (Formal R) π k f M (κ Ã) (κ B̃) R3-left))
 

@@ -1,4 +1,5 @@
--- N modulo g: by R2 it is f (2 g′)², so g is coprime to N where it is coprime to f and to g′ and 2 is a unit.
+-- The N of R2: ℓ x − σ and f′ = 3 x² + A, which it is made of beside f and g, are polynomials; modulo g it is f (2 g′)², so g is coprime to N where it is
+-- coprime to f and to g′ and 2 is a unit.
 -- Assumes nothing.
 use mathlib.Core.Path.{sym, subst}
 use mathlib.Core.List.{[], _∷_}
@@ -6,17 +7,28 @@ use Prim.Native.Nat.{ℕ}
 use Rattle.ring.specs.Ring.{CRing, cast, pow}
 use Rattle.ring.specs.Field.{Inverse}
 use Rattle.ring.specs.Identity.{solve6}
-use Rattle.ring.specs.Identity.Ex.{var, num, _:-_, _:*_, _:^_}
-use Rattle.series.specs.Series.{Series, Seq, ∂}
-use Rattle.series.specs.Degree.{Poly, poly-eval, poly-cast, poly-mul, poly-∂}
-use Rattle.series.specs.Indeterminate.{cast-series}
+use Rattle.ring.specs.Identity.Ex.{var, num, _:+_, _:-_, _:*_, _:^_}
+use Rattle.series.specs.Series.{Series, Seq, const, ∂}
+use Rattle.series.specs.Degree.{Poly, poly-eval, poly-const, poly-cast, poly-mul, poly-∂}
+use Rattle.series.specs.Indeterminate.{ind, cast-series}
+use Rattle.series.specs.Binomial.{poly-ind}
 use Rattle.isogeny.specs.Rules as Rules
-use Rattle.isogeny.specs.Rules.{Question}
+use Rattle.isogeny.specs.Rules.{Question, ℓ}
 use Rattle.isogeny.specs.Source as Source
 use Rattle.isogeny.specs.Proof.Cubic.{poly-f}
 use Rattle.divisibility.specs.Congruence.{Congruent}
 use Rattle.divisibility.specs.Coprime.{Coprime, bezout-modulo, coprime-mul, coprime-const, coprime-pow}
-use Rattle.lowest_terms.specs.Proof.Cubic.{poly-quadratic, poly-line}
+
+module _ (R : CRing) (q : Question R) where
+  open Question q using (A, σ)
+
+  pub poly-quadratic : Poly R (Source.quadratic R q)
+  poly-quadratic = poly-eval R (ind R ∷ const R A ∷ []) (poly-ind R, (poly-const R A, tt)) (num 3 :* var 0 :^ 2 :+ var 1)
+
+  pub poly-line : Poly R (Source.line R q)
+  poly-line =
+      poly-eval R (ind R ∷ cast (Series R) (ℓ R q) ∷ const R σ ∷ []) (poly-ind R, (poly-cast R (ℓ R q), (poly-const R σ, tt)))
+      (var 1 :* var 0 :- var 2)
 
 module _ (R : CRing) (q : Question R) (g : Seq R) (poly-g : Poly R g) where
   open CRing (Series R) using (add as _⊕_, mul as _⊗_, neg)

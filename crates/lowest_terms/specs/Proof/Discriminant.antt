@@ -1,5 +1,4 @@
--- The polynomials in R2 beside g: f = x³ + A x + B, f′ = 3 x² + A and ℓ x − σ. f has no repeated factor where 4 A³ + 27 B² is not zero, for that is a
--- combination of f and f′.
+-- f = x³ + A x + B has no repeated factor where 4 A³ + 27 B² is not zero, for that is a combination of f and f′ = 3 x² + A.
 -- Assumes nothing.
 use mathlib.Core.Path.{_≡_, _∙_, ap, ap₂}
 use mathlib.Core.List.{List, [], _∷_}
@@ -9,18 +8,18 @@ use Rattle.ring.specs.Field.{Field}
 use Rattle.ring.specs.Identity.{solve3}
 use Rattle.ring.specs.Identity.Ex.{var, num, _:+_, _:-_, _:*_, :-_, _:^_}
 use Rattle.series.specs.Series.{Series, Seq, const, ∂}
-use Rattle.series.specs.Degree.{Poly, Polys, poly-eval, poly-const, poly-cast}
+use Rattle.series.specs.Degree.{Polys, poly-eval, poly-const}
 use Rattle.series.specs.Indeterminate.{ind, cast-series, const-add, const-mul, const-pow}
 use Rattle.series.specs.Binomial.{poly-ind}
 use Rattle.isogeny.specs.Curve.{Nonsingular, discriminant}
-use Rattle.isogeny.specs.Rules.{Question, ℓ, f}
-use Rattle.isogeny.specs.Source.{line, quadratic}
+use Rattle.isogeny.specs.Rules.{Question, f}
+use Rattle.isogeny.specs.Source.{quadratic}
 use Rattle.isogeny.specs.Proof.Cubic.{∂-f}
 use Rattle.divisibility.specs.Divides.{SquareFree}
 use Rattle.divisibility.specs.Coprime.{Bezout, bezout-unit, coprime-square-free}
 
 module _ (R : CRing) (q : Question R) where
-  open Question q using (A, B, σ)
+  open Question q using (A, B)
   open CRing (Series R) using (add as _⊕_, mul as _⊗_, neg)
 
   infixl 65 _⊕_ _⊖_
@@ -47,13 +46,6 @@ module _ (R : CRing) (q : Question R) where
 
   abbrev polys : Polys R xs
   polys = (poly-ind R, (poly-const R A, (poly-const R B, tt)))
-
-  pub poly-quadratic : Poly R (quadratic R q)
-  poly-quadratic = poly-eval R xs polys (num 3 :* var 0 :^ 2 :+ var 1)
-
-  pub poly-line : Poly R (line R q)
-  poly-line =
-      poly-eval R (x ∷ # (ℓ R q) ∷ κ σ ∷ []) (poly-ind R, (poly-cast R (ℓ R q), (poly-const R σ, tt))) (var 1 :* var 0 :- var 2)
 
   -- 4 A³ + 27 B² = u f + v f′
   abbrev u : Seq R
