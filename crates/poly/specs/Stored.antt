@@ -1,41 +1,19 @@
--- The invariant of a loop that goes through a slice from the front and stores one word a turn, and what it leaves: `Stored P xs₀ xs k` where the
--- words before k have the property P of their place, and those from k on are still the words of xs₀.
+-- What a loop that stores the residues of a polynomial's coefficients leaves.
 -- Assumes nothing.
-use mathlib.Core.Path.{_≡_, refl, sym, _∙_, ap}
+use mathlib.Core.Path.{_≡_, sym, _∙_, ap}
 use mathlib.Core.List.{List}
-use Prim.Native.Nat.{ℕ, _+_, _≤_, _<_}
+use Prim.Native.Nat.{ℕ, _≤_, _<_}
 use native.Mathlib.Decide.{decLt}
 use native.Mathlib.Omega.{arith}
-use lib.ListN.{length, getD, set, length-set}
-use Rattle.slices.specs.Filling.{Filled, Kept, filled-none, filled-more, kept-all, kept-more}
+use lib.ListN.{length, getD}
+use Rattle.slices.specs.Stored.{Stored, word-kept}
 use Rattle.series.specs.Series.{Seq}
 use Rattle.zmod.specs.Zmod.{Zmod, mk}
 use Rattle.zmod.specs.Residues.{Residue, Reduced, Residues, poly, poly-at, residues-filled}
 
-pub record Stored (P : ℕ → ℕ → Type 0) (xs₀ xs : List ℕ) (k : ℕ) : Type 0 where
-  pub same-length : length xs ≡ length xs₀
-  pub within : k ≤ length xs
-  pub filled : Filled P xs k
-  pub kept : Kept xs₀ xs k
-
 -- each word is the residue of a's coefficient
 abbrev pub Of : (p : ℕ) → Seq (Zmod p) → ℕ → ℕ → Type 0
 Of p a j v = Residue p (a j) v
-
-pub stored-none : (P : ℕ → ℕ → Type 0) (xs : List ℕ) → Stored P xs xs 0
-stored-none P xs = record { same-length = refl; within = omega arith; filled = filled-none P xs; kept = kept-all xs }
-
-pub stored-more : (P : ℕ → ℕ → Type 0) (xs₀ xs : List ℕ) (k v : ℕ) → k < length xs → Stored P xs₀ xs k → P k v → Stored P xs₀ (set xs k v) (k + 1)
-stored-more P xs₀ xs k v inside h here = record {
-  same-length = length-set xs k v ∙ h .same-length;
-  within = omega (arith, length-set xs k v);
-  filled = filled-more P xs k v inside (h .filled) here;
-  kept = kept-more xs₀ xs k v (h .kept);
-}
-
--- the word that the next turn overwrites is still there
-pub word-kept : (P : ℕ → ℕ → Type 0) (xs₀ xs : List ℕ) (k : ℕ) → Stored P xs₀ xs k → getD xs k 0 ≡ getD xs₀ k 0
-word-kept P xs₀ xs k h = h .kept k (omega arith)
 
 pub poly-kept : (p : ℕ) (P : ℕ → ℕ → Type 0) (xs₀ xs : List ℕ) (k : ℕ) → Stored P xs₀ xs k → mk p (getD xs k 0) ≡ poly p xs₀ k
 poly-kept p P xs₀ xs k h = ap (mk p) (word-kept P xs₀ xs k h) ∙ sym (poly-at p xs₀ k)

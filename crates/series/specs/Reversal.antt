@@ -48,9 +48,20 @@ module _ (R : CRing) where
   shift zero a = a
   shift (suc k) a = head-then R 𝟘 (shift k a)
 
+  pub shift-low : (k : ℕ) (a : Seq R) (i : ℕ) → i < k → shift k a i ≡ 𝟘
+  unfolding shift
+  shift-low zero a i h = absurd (omega arith)
+  shift-low (suc k) a zero h = refl
+  shift-low (suc k) a (suc i) h = shift-low k a i (omega arith)
+
+  pub shift-at : (k : ℕ) (a : Seq R) (i : ℕ) → shift k a (k + i) ≡ a i
+  unfolding shift
+  shift-at zero a i = ap a (N.zero-add i)
+  shift-at (suc k) a i = ap (shift (suc k) a) (N.suc-add k i) ∙ shift-at k a i
+
   -- ── products with tᵏ
 
-  conv-shift : (k : ℕ) (a b : Seq R) → conv R (shift k a) b ≡ shift k (conv R a b)
+  pub conv-shift : (k : ℕ) (a b : Seq R) → conv R (shift k a) b ≡ shift k (conv R a b)
   unfolding shift
   conv-shift zero a b = refl
   conv-shift (suc k) a b =

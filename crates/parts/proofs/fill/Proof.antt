@@ -9,7 +9,8 @@ use Rattle.zmod.specs.Zmod.{Zmod}
 use Rattle.zmod.specs.Residues.{residue-same}
 use Rattle.isogeny.specs.Rules.{linear-part, first-logarithmic-part, second-logarithmic-part}
 use Rattle.sheet.specs.Values.{question}
-use Rattle.poly.specs.Stored.{Stored, Of, stored-none, stored-more, stored-all}
+use Rattle.slices.specs.Stored.{Stored, stored-none, stored-more}
+use Rattle.poly.specs.Stored.{Of, stored-all}
 use Rattle.rules.specs.Products.{Products}
 use Rattle.parts.proofs.fill.Statement.{statement}
 use Rattle.parts.proofs.fill.Tie as tie

@@ -8,7 +8,8 @@ use lib.ListN.{length, getD}
 use Rattle.series.specs.Series.{conv, sums}
 use Rattle.zmod.specs.Zmod.{Zmod}
 use Rattle.zmod.specs.Residues.{poly}
-use Rattle.poly.specs.Stored.{Stored, Of, stored-none, stored-more, stored-all, word-kept}
+use Rattle.slices.specs.Stored.{Stored, stored-none, stored-more, word-kept}
+use Rattle.poly.specs.Stored.{Of, stored-all}
 use Rattle.poly.proofs.Laws.{add-product-turn}
 use Rattle.poly.proofs.add_product.Statement.{statement}
 use Rattle.poly.proofs.add_product.Tie as tie

@@ -9,7 +9,8 @@ use lib.ListN.{length, getD}
 use Rattle.series.specs.Series.{sums, scaled}
 use Rattle.zmod.specs.Zmod.{Zmod, mk}
 use Rattle.zmod.specs.Residues.{poly}
-use Rattle.poly.specs.Stored.{Stored, Of, stored-none, stored-more, stored-front, word-kept}
+use Rattle.slices.specs.Stored.{Stored, stored-none, stored-more, word-kept}
+use Rattle.poly.specs.Stored.{Of, stored-front}
 use Rattle.poly.proofs.Laws.{add-nothing, add-scaled-turn}
 use Rattle.poly.proofs.add_scaled.Statement.{statement}
 use Rattle.poly.proofs.add_scaled.Tie as tie

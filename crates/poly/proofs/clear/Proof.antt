@@ -5,7 +5,7 @@ use native.Mathlib.Omega.{arith}
 use borrow.Author.Needs.{needs}
 use lib.ListN.{length, replicate, length-replicate, getD-replicate}
 use lib.Seq.{ext-getD}
-use Rattle.poly.specs.Stored.{Stored, stored-none, stored-more}
+use Rattle.slices.specs.Stored.{Stored, stored-none, stored-more}
 use Rattle.poly.proofs.clear.Statement.{statement}
 use Rattle.poly.proofs.clear.Tie as tie
 

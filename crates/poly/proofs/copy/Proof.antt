@@ -6,7 +6,7 @@ use borrow.Author.Needs.{needs}
 use lib.ListN.{length, getD}
 use Rattle.zmod.specs.Zmod.{mk}
 use Rattle.zmod.specs.Residues.{poly, poly-at}
-use Rattle.poly.specs.Stored.{Stored, stored-none, stored-more}
+use Rattle.slices.specs.Stored.{Stored, stored-none, stored-more}
 use Rattle.zmod.specs.Residues.{residues-filled}
 use Rattle.poly.proofs.copy.Statement.{statement}
 use Rattle.poly.proofs.copy.Tie as tie

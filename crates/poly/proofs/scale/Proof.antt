@@ -5,7 +5,8 @@ use lib.ListN.{length, getD}
 use Rattle.series.specs.Series.{scaled}
 use Rattle.zmod.specs.Zmod.{Zmod, mk}
 use Rattle.zmod.specs.Residues.{poly}
-use Rattle.poly.specs.Stored.{Stored, Of, stored-none, stored-more, stored-all, word-kept}
+use Rattle.slices.specs.Stored.{Stored, stored-none, stored-more, word-kept}
+use Rattle.poly.specs.Stored.{Of, stored-all}
 use Rattle.poly.proofs.Laws.{scale-turn}
 use Rattle.poly.proofs.scale.Statement.{statement}
 use Rattle.poly.proofs.scale.Tie as tie

@@ -5,7 +5,8 @@ use borrow.Author.Needs.{needs}
 use lib.ListN.{length}
 use Rattle.zmod.specs.Zmod.{Zmod}
 use Rattle.zmod.specs.Residues.{poly}
-use Rattle.poly.specs.Stored.{Stored, Of, stored-none, stored-more, stored-all}
+use Rattle.slices.specs.Stored.{Stored, stored-none, stored-more}
+use Rattle.poly.specs.Stored.{Of, stored-all}
 use Rattle.rules.specs.Numerator.{bend-from}
 use Rattle.rules.proofs.bend_of.Statement.{statement}
 use Rattle.rules.proofs.bend_of.Tie as tie

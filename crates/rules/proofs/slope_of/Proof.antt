@@ -6,7 +6,8 @@ use lib.ListN.{length}
 use Rattle.series.specs.Series.{negs, ∂}
 use Rattle.zmod.specs.Zmod.{Zmod}
 use Rattle.zmod.specs.Residues.{poly}
-use Rattle.poly.specs.Stored.{Stored, Of, stored-none, stored-more, stored-all}
+use Rattle.slices.specs.Stored.{Stored, stored-none, stored-more}
+use Rattle.poly.specs.Stored.{Of, stored-all}
 use Rattle.rules.proofs.slope_of.Statement.{statement}
 use Rattle.rules.proofs.slope_of.Tie as tie
 

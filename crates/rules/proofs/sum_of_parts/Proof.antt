@@ -8,7 +8,8 @@ use Rattle.series.specs.Series.{Seq}
 use Rattle.zmod.specs.Zmod.{Zmod}
 use Rattle.isogeny.specs.Rules.{N}
 use Rattle.sheet.specs.Values.{question}
-use Rattle.poly.specs.Stored.{Stored, Of, stored-none, stored-more, stored-all}
+use Rattle.slices.specs.Stored.{Stored, stored-none, stored-more}
+use Rattle.poly.specs.Stored.{Of, stored-all}
 use Rattle.rules.specs.Products.{Products}
 use Rattle.rules.proofs.sum_of_parts.Statement.{statement}
 use Rattle.rules.proofs.sum_of_parts.Tie as tie
