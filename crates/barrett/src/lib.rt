@@ -28,7 +28,7 @@ pub fn modulus(p: u32) -> Modulus
 }
 
 // The remainders by 2^32 change nothing; they show the compiler that it multiplies words.
-fn product(a: u64, b: u64) -> u64
+pub fn product(a: u64, b: u64) -> u64
     requires { ⌜ (a < 2 ^ 32) × (b < 2 ^ 32) ⌝ }
     ensures { λ r. ⌜ r ≡ a * b ⌝ }
 {

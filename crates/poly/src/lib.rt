@@ -1,6 +1,7 @@
 // Polynomials over ℤ/p in lent slices of u32, the constant term first, for p up to 2^28. A slice `xs` of residues stands for the polynomial
 // `poly p xs`. A function that fills `out` gives it the residues of the first coefficients of the polynomial that its contract names, as many as
 // `out` has words: a longer `out` ends in zeros, a shorter one holds the front.
+use barrett::Modulus;
 ghost use mathlib.Core.Path.{_≡_};
 ghost use mathlib.Core.Logic.{_↔_};
 ghost use mathlib.Core.Bool.{true};
@@ -10,6 +11,8 @@ ghost use Rattle.series.specs.Series.{conv, sums, negs, scaled, ∂};
 ghost use Rattle.series.specs.Value.{value};
 ghost use Rattle.zmod.specs.Zmod.{Zmod, mk, plus, times};
 ghost use Rattle.zmod.specs.Residues.{Residue, Reduced, poly, Residues};
+ghost use Rattle.barrett.specs.Modulus.{Prepared};
+ghost use Rattle.rows.specs.Room.{turns};
 ghost use Rattle.poly.specs.Partial.{partial, Alone};
 
 fn least(x: usize, y: usize) -> usize
@@ -143,16 +146,14 @@ pub fn square_coefficient(a: &[u32], k: usize, p: u32) -> u32
     field::reduce(half + half + middle(a, k), p)
 }
 
-// out = a²
-pub fn square(a: &[u32], out: &mut [u32], p: u32)
-    requires { ⌜ (0 < p) × (p ≤ 2 ^ 28) × (Reduced p (now a)) ⌝ }
-    ensures { λ _. ⌜ Residues p (conv (Zmod p) (poly p (now (a .entry))) (poly p (now (a .entry)))) (now (out .exit)) ⌝ }
+// out = a², where acc is room for the sums and e for a.
+pub fn square(a: &[u32], e: &mut [u64], acc: &mut [u64], out: &mut [u32], m: Modulus)
+    requires { ⌜ (Prepared m) × (Reduced (m .p) (now a)) × (8 * turns (length (now a)) (length (now out)) * m .p ≤ 2 ^ 36) ⌝ }
+    requires { ⌜ (length (now acc) ≡ length (now out)) × (length (now a) + 6 ≤ length (now e)) × (length (now a) < 2 ^ 60) ⌝ }
+    ensures { λ _. ⌜ Residues (m .p) (conv (Zmod (m .p)) (poly (m .p) (now (a .entry))) (poly (m .p) (now (a .entry)))) (now (out .exit)) ⌝ }
 {
-    let mut k = 0;
-    while k < out.len() {
-        out[k] = square_coefficient(a, k, p);
-        k += 1;
-    }
+    rows::square(a, e, acc, m.p);
+    barrett::remainders(acc, out, m);
 }
 
 // x + c y

@@ -2,7 +2,8 @@
 -- Assumes nothing.
 use mathlib.Core.Path.{_≡_, sym, _∙_, ap, subst}
 use mathlib.Core.List.{List, _++_}
-use Prim.Native.Nat.{ℕ, _+_, _*_, _-_, _/_, _≤_, _<_, min}
+use Prim.Native.Nat.{ℕ, _+_, _*_, _-_, _/_, _^_, _≤_, _<_, min}
+use native.Mathlib.Nat.{mul-le-mul}
 use native.Mathlib.Decide.{decLt}
 use native.Mathlib.Omega.{arith}
 use lib.ListN.{length, getD, take, drop, replicate, getD-replicate, length-replicate, List·getD-eq-default}
@@ -113,3 +114,7 @@ above-none a z part n m e le rest size h = subst (λ l. Above a 0 (take 3 l ++ (
 -- four words a turn, as long as the square of what is left reaches one of the m sums
 abbrev pub turns : ℕ → ℕ → ℕ
 turns n m = (min n ((m + 1) / 2) + 3) / 4
+
+-- 32 turns are 256 products, which is what the largest p allows
+pub turns-fit : (n m p : ℕ) → p ≤ 2 ^ 28 → turns n m ≤ 32 → 8 * turns n m * p ≤ 2 ^ 36
+turns-fit n m p small few = mul-le-mul {n₁ = 8 * turns n m} {m₁ = p} {n₂ = 256} {m₂ = 268435456} (omega arith) (omega arith)

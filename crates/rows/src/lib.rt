@@ -12,21 +12,13 @@ ghost use Rattle.rows.specs.Room.{Above, turns};
 ghost use Rattle.rows.specs.Square.{Turned};
 ghost use Rattle.rows.specs.Sums.{Sums};
 
-// The product of two numbers of 32 bits. (The remainders say so to the compiler, which has such a product for whole vectors.)
-fn multiply(a: u64, b: u64) -> u64
-    requires { ⌜ (a < 2 ^ 32) × (b < 2 ^ 32) ⌝ }
-    ensures { λ r. ⌜ r ≡ a * b ⌝ }
-{
-    (a % 4294967296) * (b % 4294967296)
-}
-
 // s + w a + x b + y c + z d
 fn sum_more(s: u64, w: u64, a: u64, x: u64, b: u64, y: u64, c: u64, z: u64, d: u64) -> u64
     requires { ⌜ (w < 2 ^ 32) × (a < 2 ^ 32) × (x < 2 ^ 32) × (b < 2 ^ 32) × (y < 2 ^ 32) × (c < 2 ^ 32) × (z < 2 ^ 32) × (d < 2 ^ 32) ⌝ }
     requires { ⌜ s + w * a + x * b + y * c + z * d < 2 ^ 64 ⌝ }
     ensures { λ r. ⌜ r ≡ s + w * a + x * b + y * c + z * d ⌝ }
 {
-    s + multiply(w, a) + multiply(x, b) + multiply(y, c) + multiply(z, d)
+    s + barrett::product(w, a) + barrett::product(x, b) + barrett::product(y, c) + barrett::product(z, d)
 }
 
 // out = out + w a + x b + y c + z d, word by word.

@@ -18,7 +18,7 @@ use Rattle.isogeny.specs.Source.{line, quadratic}
 use Rattle.sheet.specs.declared.Values.{Values}
 use Rattle.sheet.specs.Values.{half, question}
 use Rattle.sheet.specs.Ready.{Ready, degree-half}
-use Rattle.rules.specs.Degrees.{below-∂}
+use Rattle.rules.specs.Degrees.{below-∂, below-conv}
 use Rattle.rules.specs.Numerator.{
   shifted,
   shifted-low,
@@ -72,7 +72,7 @@ module _ (p : ℕ) where
 
   -- the five calls that form them
   pub products-steps : (g square slope h hh bend : List ℕ) → length square + 1 ≡ 2 * length g → length square ≡ length slope + 1
-      → length g ≡ length h + 1 → length hh + 1 ≡ 2 * length h → length slope ≡ length bend + 1 → length bend ≡ length hh
+      → length g ≡ length h + 1 → 2 * length h ≤ length hh + 1 → length slope ≡ length bend + 1 → length bend + 1 ≡ 2 * length h
       → Residues p (conv (Zmod p) (poly p g) (poly p g)) square → Residues p (negs (Zmod p) (∂ (Zmod p) (poly p square))) slope
       → Residues p (∂ (Zmod p) (poly p g)) h → Residues p (conv (Zmod p) (poly p h) (poly p h)) hh
       → Residues p (bend-from (Zmod p) (poly p slope) (poly p hh)) bend → Products p (poly p g) square slope bend
@@ -93,7 +93,8 @@ module _ (p : ℕ) where
       bend-whole =
           whole-same (ap₂ (bend-from (Zmod p)) (slope-whole .same) derivative² ∙ bend-of-slope (Zmod p) (poly p g))
           (whole r₅ (bend-from-below (Zmod p) (length bend) (poly p slope) (poly p hh) (λ i l. poly-past p slope i (omega arith))
-          (λ i l. poly-past p hh i (omega arith))))
+          (λ i l. ap (λ f. f i) (from-product p h h hh (omega arith) r₄ .same)
+          ∙ below-conv (Zmod p) (length h) (length h) (poly p h) (poly p h) (omega arith) (poly-past p h) (poly-past p h) i l)))
 
   -- ── the word j places before k
 

@@ -12,7 +12,9 @@ ghost use Rattle.isogeny.specs.Rules.{N, linear-part, first-logarithmic-part, s
 ghost use Rattle.sheet.specs.Values.{half, question};
 ghost use Rattle.sheet.specs.Ready.{Ready, HoldsG};
 ghost use Rattle.rules.specs.Numerator.{minus-slope, minus-bend, bend-from};
+ghost use Rattle.rules.specs.Over.{Over};
 ghost use Rattle.rules.specs.Products.{Products};
+use barrett::Modulus;
 use sheet::Values;
 
 // ── R1
@@ -92,44 +94,29 @@ fn bend_of(s: &[u32], t: &[u32], out: &mut [u32], p: u32)
     }
 }
 
-// The same as `products`, with room for g′ and g′².
-fn products_in(
+// g², -2gg′ and -4(gg″ - g′²), from two squares: with s = -(g²)′ the last one is 2s′ + 8g′². h takes g′ and q its square; e and acc are the squares' room.
+pub fn products(
     v: Values,
+    m: Modulus,
     g: &[u32],
+    e: &mut [u64],
+    acc: &mut [u64],
     h: &mut [u32],
     q: &mut [u32],
     square: &mut [u32],
     slope: &mut [u32],
     bend: &mut [u32],
 )
-    requires { ⌜ (Ready v) × HoldsG v (now g) ⌝ }
-    requires { ⌜ (length (now h) ≡ half v) × (length (now q) ≡ 2 * half v - 1) ⌝ }
+    requires { ⌜ (Ready v) × HoldsG v (now g) × Over v m ⌝ }
+    requires { ⌜ (length (now e) ≡ half v + 7) × (length (now acc) ≡ 2 * half v + 1) × (length (now h) ≡ half v) × (length (now q) ≡ 2 * half v + 1) ⌝ }
     requires { ⌜ (length (now square) ≡ 2 * half v + 1) × (length (now slope) ≡ 2 * half v) × (length (now bend) ≡ 2 * half v - 1) ⌝ }
     ensures { λ _. ⌜ Products (v .p) (poly (v .p) (now (g .entry))) (now (square .exit)) (now (slope .exit)) (now (bend .exit)) ⌝ }
 {
-    poly::square(g, square, v.p);
+    poly::square(g, e, acc, square, m);
     slope_of(square, slope, v.p);
     poly::derivative(g, h, v.p);
-    poly::square(h, q, v.p);
+    poly::square(h, e, acc, q, m);
     bend_of(slope, q, bend, v.p);
-}
-
-// Room for a polynomial. (As the result of a call its words stay out of the callers' proofs.)
-fn blank() -> [u32; 255] {
-    [0; 255]
-}
-
-// g², -2gg′ and -4(gg″ - g′²), from two squares: with s = -(g²)′ the last one is 2s′ + 8g′².
-pub fn products(v: Values, g: &[u32], square: &mut [u32], slope: &mut [u32], bend: &mut [u32])
-    requires { ⌜ (Ready v) × HoldsG v (now g) ⌝ }
-    requires { ⌜ (length (now square) ≡ 2 * half v + 1) × (length (now slope) ≡ 2 * half v) × (length (now bend) ≡ 2 * half v - 1) ⌝ }
-    ensures { λ _. ⌜ Products (v .p) (poly (v .p) (now (g .entry))) (now (square .exit)) (now (slope .exit)) (now (bend .exit)) ⌝ }
-{
-    let d = g.len() - 1;
-    let k = 2 * d - 1;
-    let mut h = blank();
-    let mut q = blank();
-    products_in(v, g, &mut h[..d], &mut q[..k], square, slope, bend);
 }
 
 // The word j places before k, 0 where there is none.
@@ -212,23 +199,38 @@ fn sum_of_parts(v: Values, square: &[u32], slope: &[u32], bend: &[u32], out: &mu
 // The N that R2 gives, with room for the products.
 fn numerator_in(
     v: Values,
+    m: Modulus,
     g: &[u32],
+    e: &mut [u64],
+    acc: &mut [u64],
+    h: &mut [u32],
+    q: &mut [u32],
     square: &mut [u32],
     slope: &mut [u32],
     bend: &mut [u32],
     out: &mut [u32],
 )
-    requires { ⌜ (Ready v) × HoldsG v (now g) ⌝ }
+    requires { ⌜ (Ready v) × HoldsG v (now g) × Over v m ⌝ }
+    requires { ⌜ (length (now e) ≡ half v + 7) × (length (now acc) ≡ 2 * half v + 1) × (length (now h) ≡ half v) × (length (now q) ≡ 2 * half v + 1) ⌝ }
     requires { ⌜ (length (now square) ≡ 2 * half v + 1) × (length (now slope) ≡ 2 * half v) × (length (now bend) ≡ 2 * half v - 1) ⌝ }
     ensures { λ _. ⌜ Residues (v .p) (N (Zmod (v .p)) (question v) (poly (v .p) (now (g .entry)))) (now (out .exit)) ⌝ }
 {
-    products(v, g, square, slope, bend);
+    products(v, m, g, e, acc, h, q, square, slope, bend);
     sum_of_parts(v, square, slope, bend, out);
 }
 
+// Room. (As the result of a call its words stay out of the callers' proofs.)
+fn blank() -> [u32; 256] {
+    [0; 256]
+}
+
+fn blank_sums() -> [u64; 256] {
+    [0; 256]
+}
+
 // The N that R2 gives.
-pub fn numerator(v: Values, g: &[u32], out: &mut [u32])
-    requires { ⌜ (Ready v) × HoldsG v (now g) ⌝ }
+pub fn numerator(v: Values, m: Modulus, g: &[u32], out: &mut [u32])
+    requires { ⌜ (Ready v) × HoldsG v (now g) × Over v m ⌝ }
     requires { ⌜ length (now out) ≡ 2 * half v + 2 ⌝ }
     ensures { λ _. ⌜ Residues (v .p) (N (Zmod (v .p)) (question v) (poly (v .p) (now (g .entry)))) (now (out .exit)) ⌝ }
 {
@@ -236,8 +238,25 @@ pub fn numerator(v: Values, g: &[u32], out: &mut [u32])
     let i = 2 * d + 1;
     let j = 2 * d;
     let k = 2 * d - 1;
+    let c = d + 7;
+    let mut e = blank_sums();
+    let mut acc = blank_sums();
+    let mut h = blank();
+    let mut q = blank();
     let mut square = blank();
     let mut slope = blank();
     let mut bend = blank();
-    numerator_in(v, g, &mut square[..i], &mut slope[..j], &mut bend[..k], out);
+    numerator_in(
+        v,
+        m,
+        g,
+        &mut e[..c],
+        &mut acc[..i],
+        &mut h[..d],
+        &mut q[..i],
+        &mut square[..i],
+        &mut slope[..j],
+        &mut bend[..k],
+        out,
+    );
 }

@@ -1,66 +1,38 @@
--- `poly::square` meets its contract. The invariant: the coefficients before k are stored. Assumes nothing.
-use Prim.Native.Nat.{_-_}
+-- `poly::square` meets its contract: the remainders of the sums are the residues of the square. Assumes nothing.
+use mathlib.Core.Path.{_≡_, subst}
+use Prim.Native.Nat.{_*_, _^_, _≤_}
+use native.Mathlib.Omega.{arith}
 use borrow.Author.Needs.{needs}
 use lib.ListN.{length}
-use Rattle.series.specs.Series.{conv}
-use Rattle.zmod.specs.Zmod.{Zmod}
-use Rattle.zmod.specs.Residues.{poly}
-use Rattle.slices.specs.Stored.{Stored, stored-none, stored-more}
-use Rattle.poly.specs.Stored.{Of, stored-all}
+use Rattle.barrett.specs.Modulus.{prepared-positive, prepared-below}
+use Rattle.rows.specs.Room.{turns}
+use Rattle.rows.specs.Sums.{sums-residues}
 use Rattle.poly.proofs.square.Statement.{statement}
 use Rattle.poly.proofs.square.Tie as tie
 
-abbrev Inv-loop : tie.InvT-loop
-Inv-loop a out₀ p k₀ out k = Stored (Of p (conv (Zmod p) (poly p a) (poly p a))) out₀ out k
+square-requires : tie.Need-square-requires
+square-requires c κs =
+    let pre = c .before .before .before .before .before .before .pre in
+    let a = c .before .before .before .before .before .before .args in
+    let m = pre .0 .0 in
+    let same : length (a .out .now) ≡ length (a .acc .now) = omega arith in
+    ((pre .1 .1, pre .1 .2), (prepared-positive m, omega (arith, prepared-below m), pre .0 .1,
+    subst (λ n. 8 * turns (length (a .a .now)) n * a .m .p ≤ 2 ^ 36) same (pre .0 .2)))
 
-abbrev μ-loop : tie.MeasureT-loop
-μ-loop a out₀ p k₀ out k = length out₀ - k
+remainders-requires : tie.Need-remainders-requires
+remainders-requires c κs = search needs
 
-loop-holds : tie.Need-loop-holds Inv-loop μ-loop
-loop-holds c = stored-none _ _
-
-square-coefficient-requires : tie.Need-square-coefficient-requires Inv-loop μ-loop
-square-coefficient-requires c κs = (search needs, search needs, search needs, c .before .before .before .before .pre .2)
-
-mul-out : tie.Need-mul-out Inv-loop μ-loop
-mul-out c = search needs
-
-slice-write-out : tie.Need-slice-write-out Inv-loop μ-loop
-slice-write-out c = search needs
-
-add-k : tie.Need-add-k Inv-loop μ-loop
-add-k c = search needs
-
-loop-less : tie.Need-loop-less Inv-loop μ-loop
-loop-less c = search needs
-
-loop-again : tie.Need-loop-again Inv-loop μ-loop
-loop-again c =
-    let loop = c .before .before .loop in
-    let at = c .before .before .before .before .before .args in
-    stored-more _ (at .out .now) (loop .out) (loop .k) (c .square-coefficient .result) (search needs) (loop .inv) (c .square-coefficient .ensures)
-
-same-length : tie.Need-same-length Inv-loop μ-loop
+same-length : tie.Need-same-length
 same-length c = search needs
 
-returns : tie.Need-returns Inv-loop μ-loop
-returns c =
-    let at = c .before .before .before .before .args in
-    let loop = c .before .loop in
-    stored-all (at .p) _ (at .out .now) (loop .out) (loop .k) (search needs) (search needs) (loop .inv)
+same-length-2 : tie.Need-same-length-2
+same-length-2 c = search needs
+
+same-length-3 : tie.Need-same-length-3
+same-length-3 c = search needs
+
+returns : tie.Need-returns
+returns c = sums-residues (search needs) (c .before .before .before .before .before .before .before .before .before .square .ensures) (c .before .before .remainders .ensures)
 
 pub square-spec : {M : Type 1} → statement M
-square-spec =
-    tie.close
-    (tie.spec
-    Inv-loop
-    μ-loop
-    loop-holds
-    square-coefficient-requires
-    mul-out
-    slice-write-out
-    add-k
-    loop-less
-    loop-again
-    same-length
-    returns)
+square-spec = tie.close (tie.spec square-requires remainders-requires same-length same-length-2 same-length-3 returns)

@@ -1,16 +1,30 @@
 -- `rows::square` meets its contract. Assumes nothing.
+use mathlib.Core.Path.{_≡_, _∙_, ap, subst}
+use Prim.Native.Nat.{_*_, _^_, _≤_}
+use native.Mathlib.Omega.{arith}
 use borrow.Author.Needs.{needs}
+use lib.ListN.{length, replicate}
+use Rattle.rows.specs.Room.{turns}
 use Rattle.rows.proofs.square.Statement.{statement}
 use Rattle.rows.proofs.square.Tie as tie
 
 prepare-requires : tie.Need-prepare-requires
-prepare-requires c κs = search needs
+prepare-requires c κs =
+    let pre = c .before .before .before .before .pre in
+    (search needs, λ i. omega (arith, pre .1 .2 i))
 
 clear-requires : tie.Need-clear-requires
 clear-requires c κs = search needs
 
 square-turns-requires : tie.Need-square-turns-requires
-square-turns-requires c κs = search needs
+square-turns-requires c κs =
+    let start = c .before .before .before .before .before .before .before .before .before .before .before .before .before in
+    let pre = start .pre in
+    let a = start .args in
+    let clear = c .before .before .before .before .clear in
+    let same : length (a .acc .now) ≡ length (clear .last .0) = omega arith in
+    ((omega arith, search needs), ((pre .1 .0, pre .1 .1, pre .1 .2, subst (λ n. 8 * turns (length (a .a .now)) n * a .p ≤ 2 ^ 36) same (pre .1 .3)),
+    (c .before .before .before .before .before .before .before .before .prepare .ensures, clear .ensures ∙ ap (λ n. replicate n 0) same)))
 
 same-length : tie.Need-same-length
 same-length c = search needs

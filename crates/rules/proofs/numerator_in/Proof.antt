@@ -3,20 +3,13 @@ use borrow.Author.Needs.{needs}
 use Rattle.rules.proofs.numerator_in.Statement.{statement}
 use Rattle.rules.proofs.numerator_in.Tie as tie
 
-abbrev start : tie.After-products → tie.Start
-start c = c .before .before .before .before .before .before .before .before .before
-
-abbrev products : tie.After-sum-of-parts-arg4 → tie.After-products
-products c = c .before .before .before .before .before .before .before .before .before .before
-
 products-requires : tie.Need-products-requires
 products-requires c κs = search needs
 
 sum-of-parts-requires : tie.Need-sum-of-parts-requires
 sum-of-parts-requires c κs =
-    let formed = products c in
-    let hold = formed .products .ensures in
-    (start formed .pre .0 .0, hold .square-is .reduced, hold .slope-is .reduced, hold .bend-is .reduced)
+    let hold = c .before .before .before .before .before .before .before .before .before .before .before .before .before .before .before .before .before .before .products .ensures in
+    (c .before .before .before .before .before .before .before .before .before .before .before .before .before .before .before .before .before .before .before .before .before .before .before .before .before .before .before .before .before .before .before .before .before .before .before .pre .0 .0, hold .square-is .reduced, hold .slope-is .reduced, hold .bend-is .reduced)
 
 same-length : tie.Need-same-length
 same-length c = search needs
@@ -30,12 +23,20 @@ same-length-3 c = search needs
 same-length-4 : tie.Need-same-length-4
 same-length-4 c = search needs
 
+same-length-5 : tie.Need-same-length-5
+same-length-5 c = search needs
+
+same-length-6 : tie.Need-same-length-6
+same-length-6 c = search needs
+
+same-length-7 : tie.Need-same-length-7
+same-length-7 c = search needs
+
+same-length-8 : tie.Need-same-length-8
+same-length-8 c = search needs
+
 returns : tie.Need-returns
-returns c =
-    let summed = c .before .before in
-    let formed = products (summed .before) in
-    summed .sum-of-parts .ensures _ (formed .products .ensures)
+returns c = c .before .before .sum-of-parts .ensures _ (c .before .before .before .before .before .before .before .before .before .before .before .before .before .before .before .before .before .before .before .before .before .products .ensures)
 
 pub numerator-in-spec : {M : Type 1} → statement M
-numerator-in-spec =
-    tie.close (tie.spec products-requires sum-of-parts-requires same-length same-length-2 same-length-3 same-length-4 returns)
+numerator-in-spec = tie.close (tie.spec products-requires sum-of-parts-requires same-length same-length-2 same-length-3 same-length-4 same-length-5 same-length-6 same-length-7 same-length-8 returns)
