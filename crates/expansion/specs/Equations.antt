@@ -18,6 +18,10 @@ module _ (R : CRing) where
   abbrev pub SumAt : ℕ → Seq R → Seq R → ℕ → Type 0
   SumAt d c s k = s k ≡ newton-step R d (rev R d c) k s
 
+  -- the same for g itself
+  abbrev pub Newton : ℕ → Seq R → Seq R → ℕ → Type 0
+  Newton d g s k = s k ≡ newton-step R d g k s
+
 -- ── words
 
 -- the words before k are residues

@@ -3,3 +3,4 @@ pub mod Equations
 pub mod Stores
 pub mod Parts
 pub mod Products
+pub mod Sums

@@ -3,22 +3,19 @@ use sheet::Values;
 ghost use mathlib.Core.Path.{_≡_};
 ghost use mathlib.Core.Logic.{_↔_};
 ghost use mathlib.Core.Bool.{true};
-ghost use Prim.Native.Nat.{ℕ, _+_, _-_, _*_, _^_, _<_, _≤_};
+ghost use Prim.Native.Nat.{ℕ, _+_, _-_, _*_, _%_, _^_, _<_, _≤_};
 ghost use lib.ListN.{length, getD};
 ghost use Rattle.slices.specs.Filling.{Filled};
-ghost use Rattle.series.specs.Reversal.{rev};
+ghost use Rattle.series.specs.Series.{Seq};
 ghost use Rattle.zmod.specs.Zmod.{Zmod, mk, plus, times};
 ghost use Rattle.zmod.specs.Residues.{Residue, Reduced, poly, Residues};
 ghost use Rattle.isogeny.specs.Expansion.{expansion as expansion-of, power-sums, recurrence as recurrence-of, Recurs, sum-to};
 ghost use Rattle.sheet.specs.Values.{half, question};
 ghost use Rattle.sheet.specs.Ready.{Ready, HoldsG};
 ghost use Rattle.expansion.specs.Multiple.{Multiple};
-ghost use Rattle.expansion.specs.Equations.{SumAt, ReducedTo, Solves};
-
-// Room for a polynomial. (As the result of a call its words stay out of the callers' proofs.)
-fn blank() -> [u32; 128] {
-    [0; 128]
-}
+ghost use Rattle.rows.specs.Rows.{Four};
+ghost use Rattle.expansion.specs.Equations.{ReducedTo};
+ghost use Rattle.expansion.specs.Sums.{Negated, Backwards, Weights, most-due, Known};
 
 // l x + m y + n z
 pub fn weighted(l: u32, x: u32, m: u32, y: u32, n: u32, z: u32, p: u32) -> u32
@@ -43,65 +40,119 @@ pub fn reverse(a: &[u32], out: &mut [u32])
 
 // ── the power sums from g
 
-// 2k c_k
-fn newton_weight(c: &[u32], k: usize, p: u32) -> u32
-    requires { ⌜ (0 < p) × (k < 1024) ⌝ }
-    ensures { λ r. ⌜ Residue p (times p (mk p (2 * k)) (mk p (getD (now (c .entry)) k 0))) r ⌝ }
+// e = -c₁, -c₂, .., -c_d, where c is g reversed; then zeros.
+fn negated(g: &[u32], e: &mut [u64], p: u32)
+    requires { ⌜ (1 ≤ length (now g)) × (length (now g) ≤ length (now e) + 1) × Reduced p (now g) ⌝ }
+    ensures { λ _. ⌜ Backwards p (now (g .entry)) (now (e .exit)) ⌝ }
 {
-    if k < c.len() {
-        field::multiply(2 * (k as u32), c[k], p)
-    } else {
-        0
+    rows::clear(e);
+    let d = g.len() - 1;
+    let mut t = 0;
+    while t < d {
+        e[t] = field::wide(field::negate(g[d - 1 - t], p));
+        t += 1;
     }
 }
 
-// s_k = -2k c_k - (the sum of s_i c_(k - i), i from 1 to k - 1), where c is g reversed.
-fn power_sum(v: Values, c: &[u32], s: &[u32], k: usize) -> u32
-    requires { ⌜ Ready v ⌝ }
-    requires { ⌜ (length (now c) ≡ half v + 1) × Reduced (v .p) (now c) ⌝ }
-    requires { ⌜ (k < length (now s)) × (k < 1024) × ReducedTo (v .p) (now s) k ⌝ }
-    ensures { λ r. ⌜ Solves (v .p) (SumAt (Zmod (v .p)) (half v) (poly (v .p) (now (c .entry)))) (now (s .entry)) k r ⌝ }
+// acc_k = -2k c_k
+fn weights(e: &[u64], d: usize, acc: &mut [u64])
+    requires { ⌜ 1 ≤ length (now acc) ⌝ }
+    requires { ⌜ (d ≤ 127) × (d ≤ length (now e)) × Reduced (2 ^ 28) (now e) × ((t : ℕ) → d ≤ t → getD (now e) t 0 ≡ 0) ⌝ }
+    ensures { λ _. ⌜ Weights (now (e .entry)) (now (acc .exit)) ⌝ }
 {
-    let p = v.p;
-    if k == 0 {
-        return field::reduce(field::wide(v.degree - 1), p);
-    }
-    let w = newton_weight(c, k, p);
-    let before = &s[1..k];
-    field::negate(poly::coefficient(w, before, c, k - 1, p), p)
-}
-
-fn power_sums_from(v: Values, c: &[u32], s: &mut [u32])
-    requires { ⌜ Ready v ⌝ }
-    requires { ⌜ (length (now c) ≡ half v + 1) × Reduced (v .p) (now c) × (length (now s) ≤ 1024) ⌝ }
-    ensures { λ r. ⌜ Residues (v .p) (power-sums (Zmod (v .p)) (half v) (rev (Zmod (v .p)) (half v) (poly (v .p) (now (c .entry))))) (now (s .exit)) ⌝ }
-{
-    let mut k = 0;
-    while k < s.len() {
-        s[k] = power_sum(v, c, s, k);
+    rows::clear(acc);
+    let n = rows::least(d + 1, acc.len());
+    let mut k = 1;
+    while k < n {
+        acc[k] = barrett::product(2 * (k as u64), e[k - 1]);
         k += 1;
     }
 }
 
-// The same from g, with room c for g reversed.
-fn power_sums_in(v: Values, g: &[u32], c: &mut [u32], s: &mut [u32])
-    requires { ⌜ Ready v ⌝ }
-    requires { ⌜ HoldsG v (now g) × (length (now c) ≡ half v + 1) × (length (now s) ≤ 1024) ⌝ }
-    ensures { λ r. ⌜ Residues (v .p) (power-sums (Zmod (v .p)) (half v) (poly (v .p) (now (g .entry)))) (now (s .exit)) ⌝ }
+// The residue of s + w a + x b + y c.
+fn residue(s: u64, w: u32, a: u64, x: u32, b: u64, y: u32, c: u64, p: u32) -> u32
+    requires { ⌜ (0 < p) × (a < 2 ^ 28) × (b < 2 ^ 28) × (c < 2 ^ 28) × (s + w * a + x * b + y * c < 2 ^ 64) ⌝ }
+    ensures { λ r. ⌜ Residue p (mk p (s + w * a + x * b + y * c)) r ⌝ }
 {
-    reverse(g, c);
-    power_sums_from(v, c, s);
+    let sum = rows::sum_more(
+        s,
+        field::wide(w),
+        a,
+        field::wide(x),
+        b,
+        field::wide(y),
+        c,
+        0,
+        0,
+    );
+    field::reduce(sum, p)
 }
 
-// s = the power sums of g's roots, each counted twice.
-pub fn power_sums(v: Values, g: &[u32], s: &mut [u32])
-    requires { ⌜ Ready v ⌝ }
-    requires { ⌜ HoldsG v (now g) × (length (now s) ≤ 1024) ⌝ }
+// Four words from `at` on.
+fn put(out: &mut [u32], at: usize, w: u32, x: u32, y: u32, z: u32)
+    requires { ⌜ at + 4 ≤ length (now out) ⌝ }
+    ensures { λ _. ⌜ Four (now (out .entry)) at w x y z (now (out .exit)) ⌝ }
+{
+    out[at] = w;
+    out[at + 1] = x;
+    out[at + 2] = y;
+    out[at + 3] = z;
+}
+
+// Four power sums from i on, each of which waits for the one before, and then their rows, for those that follow.
+fn sums_turn(e: &[u64], d: usize, acc: &mut [u64], s: &mut [u32], i: usize, p: u32)
+    requires { ⌜ (1 ≤ i) × (i + 4 ≤ length (now s)) × (length (now s) ≤ 257) × (length (now acc) ≡ length (now s)) × (d + 3 ≤ length (now e)) ⌝ }
+    requires { ⌜ (0 < p) × (p ≤ 2 ^ 28) × Reduced p (now e) × ((t : ℕ) → d ≤ t → getD (now e) t 0 ≡ 0) ⌝ }
+    requires { ⌜ ((k : ℕ) → getD (now acc) k 0 ≤ most-due i) ⌝ }
+    ensures { λ _. ⌜ ((k : ℕ) → getD (now (acc .exit)) k 0 ≤ most-due (i + 4)) ⌝ }
+    ensures { λ _. ⌜ ((g : Seq (Zmod p)) → Negated p d g (now (e .entry)) → Known p d g (now (acc .entry)) (now (s .entry)) i
+        → Known p d g (now (acc .exit)) (now (s .exit)) (i + 4)) ⌝ }
+{
+    let w = field::reduce(acc[i], p);
+    let x = residue(acc[1 + i], w, e[0], 0, 0, 0, 0, p);
+    let y = residue(acc[2 + i], w, e[1], x, e[0], 0, 0, p);
+    let z = residue(acc[3 + i], w, e[2], x, e[1], y, e[0], p);
+    put(s, i, w, x, y, z);
+    let len = rows::least(d, acc.len() - (i + 4));
+    rows::add_rows(
+        acc,
+        i + 4,
+        len,
+        e,
+        field::wide(w),
+        field::wide(x),
+        field::wide(y),
+        field::wide(z),
+    );
+}
+
+// The turns, from the first word on.
+fn sums_turns(e: &[u64], d: usize, acc: &mut [u64], s: &mut [u32], p: u32)
+    requires { ⌜ (1 ≤ length (now s)) × (length (now s) ≤ 257) × (length (now s) % 4 ≡ 1) × (length (now acc) ≡ length (now s)) × (d + 3 ≤ length (now e)) ⌝ }
+    requires { ⌜ (0 < p) × (p ≤ 2 ^ 28) × Reduced p (now e) × ((t : ℕ) → d ≤ t → getD (now e) t 0 ≡ 0) ⌝ }
+    requires { ⌜ ((k : ℕ) → getD (now acc) k 0 ≤ most-due 1) ⌝ }
+    ensures { λ _. ⌜ ((g : Seq (Zmod p)) → Negated p d g (now (e .entry)) → Known p d g (now (acc .entry)) (now (s .entry)) 1
+        → Known p d g (now (acc .exit)) (now (s .exit)) (length (now (s .entry)))) ⌝ }
+{
+    let mut i = 1;
+    while i < s.len() {
+        sums_turn(e, d, acc, s, i, p);
+        i += 4;
+    }
+}
+
+// s = the power sums of g's roots, each counted twice; e is room for g and acc for the sums.
+pub fn power_sums(v: Values, g: &[u32], e: &mut [u64], acc: &mut [u64], s: &mut [u32])
+    requires { ⌜ (Ready v) × HoldsG v (now g) ⌝ }
+    requires { ⌜ (length (now s) ≤ 257) × (length (now s) % 4 ≡ 1) × (length (now acc) ≡ length (now s)) × (half v + 3 ≤ length (now e)) ⌝ }
     ensures { λ r. ⌜ Residues (v .p) (power-sums (Zmod (v .p)) (half v) (poly (v .p) (now (g .entry)))) (now (s .exit)) ⌝ }
 {
-    let n = g.len();
-    let mut c = blank();
-    power_sums_in(v, g, &mut c[..n], s);
+    let d = g.len() - 1;
+    let p = v.p;
+    negated(g, e, p);
+    weights(e, d, acc);
+    s[0] = field::reduce(field::wide(v.degree - 1), p);
+    sums_turns(e, d, acc, s, p);
 }
 
 // ── the expansion from the power sums

@@ -16,10 +16,6 @@ use Rattle.poly.specs.Partial.{partial}
 pub reduced-mono : {p q : ℕ} (xs : List ℕ) → p ≤ q → Reduced p xs → Reduced q xs
 reduced-mono xs le h i = omega (arith, h i)
 
--- the largest product of two numbers of 28 bits
-pub product-le : {x y : ℕ} → x < 2 ^ 28 → y < 2 ^ 28 → x * y ≤ 72057593501057025
-product-le {x} {y} hx hy = mul-le-mul {n₁ = x} {m₁ = y} {n₂ = 268435455} {m₂ = 268435455} (omega arith) (omega arith)
-
 -- terms that are 0 add nothing
 sum-rest : (p : ℕ) (f : Seq (Zmod p)) (n d : ℕ) → ((i : ℕ) → n ≤ i → i < n + d → f i ≡ mk p 0) → sum (Zmod p) f (n + d) ≡ sum (Zmod p) f n
 sum-rest p f n zero h = ap (sum (Zmod p) f) (omega arith)

@@ -16,7 +16,8 @@ use Rattle.series.specs.Series.{Seq, tail, conv, conv-zero, conv-suc, conv-last
 use Rattle.zmod.specs.Zmod.{Elt, Zmod, mk, plus, times, plus-zero, mk-add, mk-mul}
 use Rattle.zmod.specs.Residues.{Residue, Reduced, poly, poly-at, residue-same}
 use Rattle.poly.specs.Partial.{partial, Alone}
-use Rattle.poly.proofs.Sums.{product-le, partial-before, span-whole}
+use Rattle.rows.specs.Sums.{product-le}
+use Rattle.poly.proofs.Sums.{partial-before, span-whole}
 
 module _ (R : CRing) where
   open CRing R using (Car, 𝟘, add as _⊕_, mul as _⊗_)

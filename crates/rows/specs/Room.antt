@@ -22,7 +22,7 @@ pub record Held (a : List ℕ) (i : ℕ) (e : List ℕ) : Type 0 where
   pub twice : (j : ℕ) → 4 + i ≤ j → getD e (3 + j) 0 ≡ 2 * getD a j 0
 
 -- the places i to i + 3
-each : (i : ℕ) (P : ℕ → Type 0) → P i → P (1 + i) → P (2 + i) → P (3 + i) → (j : ℕ) → i ≤ j → j < 4 + i → P j
+pub each : (i : ℕ) (P : ℕ → Type 0) → P i → P (1 + i) → P (2 + i) → P (3 + i) → (j : ℕ) → i ≤ j → j < 4 + i → P j
 each i P a b c d j lo hi = go (decLt j (1 + i)) (decLt j (2 + i)) (decLt j (3 + i))
   where
     go : Dec (j < 1 + i) → Dec (j < 2 + i) → Dec (j < 3 + i) → P j

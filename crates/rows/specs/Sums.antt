@@ -24,3 +24,7 @@ pub products-low : (c p x : ℕ) → 0 < p → c * p ≤ 2 ^ 36 → x ≤ c * ((
 products-low c p x pos fits le =
     let once : c * (p - 1) ≤ 2 ^ 36 = N.le-trans (N.mul-le-mul-left c (omega arith)) fits in
     omega (arith, N.mul-le-mul-right (p - 1) once, N.mul-assoc c (p - 1) (p - 1))
+
+-- the largest product of two numbers of 28 bits
+pub product-le : {x y : ℕ} → x < 2 ^ 28 → y < 2 ^ 28 → x * y ≤ 72057593501057025
+product-le {x} {y} hx hy = N.mul-le-mul {n₁ = x} {m₁ = y} {n₂ = 268435455} {m₂ = 268435455} (omega arith) (omega arith)

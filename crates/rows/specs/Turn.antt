@@ -18,6 +18,14 @@ use Rattle.rows.specs.Rows.{row-more, RowsAdded, Four}
 use Rattle.rows.specs.Room.{Above}
 use Rattle.rows.specs.Block.{upper, upper-low, upper-high, block, block-low, block-at, square-step, product-step}
 
+-- the class of a sum with one word of each row added
+pub row-class : (p s w x y z t₃ t₂ t₁ t₀ : ℕ) → mk p (s + w * t₃ + x * t₂ + y * t₁ + z * t₀)
+    ≡ plus p (plus p (plus p (plus p (mk p s) (times p (mk p w) (mk p t₃))) (times p (mk p x) (mk p t₂))) (times p (mk p y) (mk p t₁))) (times p (mk p z) (mk p t₀))
+row-class p s w x y z t₃ t₂ t₁ t₀ =
+    mk-add p (s + w * t₃ + x * t₂ + y * t₁) (z * t₀)
+    ∙ ap₂ (plus p) (mk-add p (s + w * t₃ + x * t₂) (y * t₁) ∙ ap₂ (plus p) (mk-add p (s + w * t₃) (x * t₂)
+    ∙ ap₂ (plus p) (mk-add p s (w * t₃) ∙ ap (plus p (mk p s)) (mk-mul p w t₃)) (mk-mul p x t₂)) (mk-mul p y t₁)) (mk-mul p z t₀)
+
 -- The rows of e from s on are added to acc from i + s on: what is before them in e is 0, and so is what is past them as far as acc goes.
 module _ (p : ℕ) (a e acc acc′ : List ℕ) (i s len : ℕ)
     (low : (j : ℕ) → j < s + 3 → getD e j 0 ≡ 0)
@@ -42,15 +50,6 @@ module _ (p : ℕ) (a e acc acc′ : List ℕ) (i s len : ℕ)
       where
         term : (x : Elt p) (u : ℕ) → n ≤ u → u < 4 + n → times p x (E u) ≡ mk p 0
         term x u lo hi = ap (λ v. times p x (mk p v)) (z u lo hi) ∙ Ring.mul-zero (Zmod p) x
-
-    -- the classes of what is stored
-    stored : (s₀ w x y z t₃ t₂ t₁ t₀ : ℕ) → mk p (s₀ + w * t₃ + x * t₂ + y * t₁ + z * t₀)
-        ≡ plus p (mk p s₀) (plus p (plus p (plus p (times p (mk p w) (mk p t₃)) (times p (mk p x) (mk p t₂))) (times p (mk p y) (mk p t₁))) (times p (mk p z) (mk p t₀)))
-    stored s₀ w x y z t₃ t₂ t₁ t₀ =
-        mk-add p (s₀ + w * t₃ + x * t₂ + y * t₁) (z * t₀)
-        ∙ ap₂ (plus p) (mk-add p (s₀ + w * t₃ + x * t₂) (y * t₁) ∙ ap₂ (plus p) (mk-add p (s₀ + w * t₃) (x * t₂)
-        ∙ ap₂ (plus p) (mk-add p s₀ (w * t₃) ∙ ap (plus p (mk p s₀)) (mk-mul p w t₃)) (mk-mul p x t₂)) (mk-mul p y t₁)) (mk-mul p z t₀)
-        ∙ solve5 (Zmod p) (λ s a b c d. s :+ a :+ b :+ c :+ d) (λ s a b c d. s :+ (a :+ b :+ c :+ d)) tt _ _ _ _ _
 
     -- acc takes the product of the block of a at i and what e holds behind its three zeros
     pub turn-classes : (k : ℕ) → k < length acc → poly p acc′ k ≡ plus p (poly p acc k) (conv (Zmod p) (block (Zmod p) i A) (λ j. E (3 + j)) k)
@@ -77,8 +76,9 @@ module _ (p : ℕ) (a e acc acc′ : List ℕ) (i s len : ℕ)
         go (no l) (no m) (yes n) =
             let at : i + s + (k - (i + s)) ≡ k = omega arith in
             poly-at p acc′ k ∙ ap (λ t. mk p (getD acc′ t 0)) (sym at) ∙ ap (mk p) (added .inside (k - (i + s)) (omega arith) ∙ words)
-            ∙ stored (getD acc k 0) (getD a i 0) (getD a (1 + i) 0) (getD a (2 + i) 0) (getD a (3 + i) 0) (getD e (3 + (k - i)) 0) (getD e (2 + (k - i)) 0)
+            ∙ row-class p (getD acc k 0) (getD a i 0) (getD a (1 + i) 0) (getD a (2 + i) 0) (getD a (3 + i) 0) (getD e (3 + (k - i)) 0) (getD e (2 + (k - i)) 0)
             (getD e (1 + (k - i)) 0) (getD e (k - i) 0)
+            ∙ solve5 (Zmod p) (λ s a b c d. s :+ a :+ b :+ c :+ d) (λ s a b c d. s :+ (a :+ b :+ c :+ d)) tt _ _ _ _ _
             ∙ ap (plus p (poly p acc k)) (sym (product (omega arith)))
           where
             row : (c : ℕ) → c < 4 → getD (take (length e - s) (drop s e)) (c + (k - (i + s))) 0 ≡ getD e (c + (k - i)) 0

@@ -13,7 +13,7 @@ ghost use Rattle.rows.specs.Square.{Turned};
 ghost use Rattle.rows.specs.Sums.{Sums};
 
 // s + w a + x b + y c + z d
-fn sum_more(s: u64, w: u64, a: u64, x: u64, b: u64, y: u64, c: u64, z: u64, d: u64) -> u64
+pub fn sum_more(s: u64, w: u64, a: u64, x: u64, b: u64, y: u64, c: u64, z: u64, d: u64) -> u64
     requires { ⌜ (w < 2 ^ 32) × (a < 2 ^ 32) × (x < 2 ^ 32) × (b < 2 ^ 32) × (y < 2 ^ 32) × (c < 2 ^ 32) × (z < 2 ^ 32) × (d < 2 ^ 32) ⌝ }
     requires { ⌜ s + w * a + x * b + y * c + z * d < 2 ^ 64 ⌝ }
     ensures { λ r. ⌜ r ≡ s + w * a + x * b + y * c + z * d ⌝ }

@@ -6,7 +6,8 @@ use native.Mathlib.Omega.{arith}
 use borrow.Author.Needs.{needs}
 use Rattle.zmod.specs.Zmod.{mk, plus, plus-zero}
 use Rattle.poly.specs.Partial.{partial}
-use Rattle.poly.proofs.Sums.{partial-more, product-le}
+use Rattle.rows.specs.Sums.{product-le}
+use Rattle.poly.proofs.Sums.{partial-more}
 use Rattle.poly.proofs.dot.Statement.{statement}
 use Rattle.poly.proofs.dot.Tie as tie
 

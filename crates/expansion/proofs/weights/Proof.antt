@@ -1,0 +1,78 @@
+-- `expansion::weights` meets its contract. Assumes nothing.
+use mathlib.Core.Path.{_≡_, refl}
+use Prim.Native.Nat.{_+_, _*_, _-_, _≤_, min}
+use native.Mathlib.Omega.{arith}
+use borrow.Author.Needs.{needs}
+use lib.ListN.{length, getD}
+use Rattle.slices.specs.Stored.{Stored, stored-more}
+use Rattle.expansion.specs.Sums.{weights-all}
+use Rattle.expansion.proofs.weights.Statement.{statement}
+use Rattle.expansion.proofs.weights.Tie as tie
+
+abbrev Inv-loop : tie.InvT-loop
+Inv-loop e d acc₀ n k₀ acc k = (n ≡ min (d + 1) (length acc₀)) × (1 ≤ k) × Stored (λ j v. 1 ≤ j → v ≡ 2 * j * getD e (j - 1) 0) acc₀ acc k
+
+abbrev μ-loop : tie.MeasureT-loop
+μ-loop e d acc₀ n k₀ acc k = n - k
+
+clear-requires : tie.Need-clear-requires Inv-loop μ-loop
+clear-requires c κs = search needs
+
+add-least : tie.Need-add-least Inv-loop μ-loop
+add-least c = search needs
+
+least-requires : tie.Need-least-requires Inv-loop μ-loop
+least-requires c κs = search needs
+
+loop-holds : tie.Need-loop-holds Inv-loop μ-loop
+loop-holds c =
+    (omega (arith, c .least .ensures), search needs,
+    record { same-length = refl; within = omega arith; filled = λ j l one. absurd (omega arith); kept = λ j l. refl })
+
+mul-product : tie.Need-mul-product Inv-loop μ-loop
+mul-product c = search needs
+
+sub-product : tie.Need-sub-product Inv-loop μ-loop
+sub-product c = search needs
+
+mul-product-2 : tie.Need-mul-product-2 Inv-loop μ-loop
+mul-product-2 c = search needs
+
+shared-slice-read-product : tie.Need-shared-slice-read-product Inv-loop μ-loop
+shared-slice-read-product c = search needs
+
+product-requires : tie.Need-product-requires Inv-loop μ-loop
+product-requires c κs =
+    let pre = c .before .before .before .before .before .before .before .before .before .before .pre in
+    let loop = c .before .before .loop in
+    (omega (arith, pre .1 .0), omega (arith, pre .1 .2 (loop .k - 1)))
+
+mul-acc : tie.Need-mul-acc Inv-loop μ-loop
+mul-acc c = search needs
+
+slice-write-acc : tie.Need-slice-write-acc Inv-loop μ-loop
+slice-write-acc c = search needs
+
+add-k : tie.Need-add-k Inv-loop μ-loop
+add-k c = search needs
+
+loop-less : tie.Need-loop-less Inv-loop μ-loop
+loop-less c = search needs
+
+loop-again : tie.Need-loop-again Inv-loop μ-loop
+loop-again c =
+    let loop = c .before .before .before .loop in
+    (search needs, search needs, stored-more _ _ (loop .acc) (loop .k) (c .product .result) (omega arith) (loop .inv .2) (λ one. c .product .ensures))
+
+same-length : tie.Need-same-length Inv-loop μ-loop
+same-length c = search needs
+
+returns : tie.Need-returns Inv-loop μ-loop
+returns c =
+    let loop = c .before .loop in
+    let start = c .before .before .before .before .before .before .before .before .before in
+    let a = start .args in
+    weights-all (a .e .now) (c .before .before .before .before .before .clear .last .0) (loop .acc) (a .d) (length (a .acc .now)) (loop .k) (omega arith) (loop .inv .2) (c .before .before .before .before .before .clear .ensures) (start .pre .1 .3)
+
+pub weights-spec : {M : Type 1} → statement M
+weights-spec = tie.close (tie.spec Inv-loop μ-loop clear-requires add-least least-requires loop-holds mul-product sub-product mul-product-2 shared-slice-read-product product-requires mul-acc slice-write-acc add-k loop-less loop-again same-length returns)

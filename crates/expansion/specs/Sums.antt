@@ -1,0 +1,200 @@
+-- The power sums by rows: what is still due at k once the words before i are known, and four words more.
+-- Assumes nothing.
+use mathlib.Core.Path.{_≡_, refl, sym, _∙_, ap, ap₂, subst}
+use mathlib.Core.List.{List}
+use Prim.Native.Nat.{ℕ, suc, _+_, _*_, _-_, _^_, _≤_, _<_, min}
+use native.Mathlib.Nat as N
+use native.Mathlib.Decide.{decLt}
+use native.Mathlib.Omega.{arith}
+use lib.ListN.{length, getD, length-replicate}
+use Rattle.ring.specs.Ring
+use Rattle.ring.specs.Ring.{CRing, cast}
+use Rattle.ring.specs.Identity.{solve4}
+use Rattle.ring.specs.Identity.Ex.{_:+_, _:*_, :-_}
+use Rattle.series.specs.Series.{Seq, sum, sum-suc, sum-same}
+use Rattle.series.specs.Reversal.{rev}
+use Rattle.zmod.specs.Zmod.{Elt, Zmod, mk, plus, times, minus, mk-add, mk-mul, plus-zero}
+use Rattle.zmod.specs.Residues.{Residue, poly, poly-at}
+use Rattle.isogeny.specs.Expansion.{sum-to, newton-step}
+use Rattle.slices.specs.Stored.{Stored}
+use Rattle.rows.specs.Room.{blank, zero-at}
+use Rattle.rows.specs.Rows.{row-more, RowsAdded, Four}
+use Rattle.rows.specs.Turn.{row-class}
+use Rattle.expansion.specs.Equations.{Newton, Solved}
+use Rattle.isogeny.specs.Proof.Sums.{newton-local}
+use Rattle.expansion.specs.Stores.{Causal}
+use Rattle.expansion.specs.Products.{newton-step-at}
+
+module _ (R : CRing) (d : ℕ) (g : Seq R) where
+  open CRing R using (Car, 𝟘, add as _⊕_, mul as _⊗_, neg)
+
+  infixl 65 _⊕_
+  infixl 70 _⊗_
+  -- −2k c_k − (the sum of s_j c_(k − j), j from 1 to i − 1), where c is g reversed
+  abbrev pub due : Seq R → ℕ → ℕ → Car
+  due s k i = neg (cast R (2 * k) ⊗ rev R d g k) ⊕ neg (sum-to R (λ j. s j ⊗ rev R d g (k - j)) (i - 1))
+
+  pub due-next : (s : Seq R) (k i : ℕ) → 1 ≤ i → due s k (1 + i) ≡ due s k i ⊕ s i ⊗ neg (rev R d g (k - i))
+  due-next s k i l =
+      ap (λ n. neg (cast R (2 * k) ⊗ rev R d g k) ⊕ neg (sum R (λ j. s (suc j) ⊗ rev R d g (k - suc j)) n)) e
+      ∙ ap (λ x. neg (cast R (2 * k) ⊗ rev R d g k) ⊕ neg x) (sum-suc R (λ j. s (suc j) ⊗ rev R d g (k - suc j)) (i - 1)
+      ∙ ap (λ j. sum R (λ j. s (suc j) ⊗ rev R d g (k - suc j)) (i - 1) ⊕ s j ⊗ rev R d g (k - j)) e′)
+      ∙ solve4 R (λ a b x y. :- a :+ :- (b :+ x :* y)) (λ a b x y. :- a :+ :- b :+ x :* :- y) tt _ _ _ _
+    where
+      e : 1 + i - 1 ≡ suc (i - 1)
+      e = omega arith
+      e′ : suc (i - 1) ≡ i
+      e′ = omega arith
+
+  pub due-same : (s t : Seq R) (k i : ℕ) → ((j : ℕ) → j < i → s j ≡ t j) → due s k i ≡ due t k i
+  due-same s t k i h =
+      ap (λ x. neg (cast R (2 * k) ⊗ rev R d g k) ⊕ neg x) (sum-same R _ _ (i - 1) (λ j l. ap (λ x. x ⊗ rev R d g (k - suc j)) (h (suc j) (omega arith))))
+
+  pub due-all : (s : Seq R) (k : ℕ) → 1 ≤ k → due s k k ≡ newton-step R d g k s
+  due-all s k l = sym (newton-step-at R d g s k l)
+
+-- ── words
+
+module _ (p d : ℕ) (g : Seq (Zmod p)) where
+  -- e holds −c₁, −c₂, ..
+  abbrev pub Negated : List ℕ → Type 0
+  Negated e = (t : ℕ) → mk p (getD e t 0) ≡ minus p (rev (Zmod p) d g (1 + t))
+
+  -- from i on acc holds what is due
+  abbrev pub Due : List ℕ → List ℕ → ℕ → Type 0
+  Due acc s i = (k : ℕ) → i ≤ k → k < length acc → mk p (getD acc k 0) ≡ due (Zmod p) d g (poly p s) k i
+
+  module _ (e acc s s′ : List ℕ) (i w x y z : ℕ) (from : 1 ≤ i) (room : i + 4 ≤ length acc) (n : Negated e) (h : Due acc s i) (f : Four s i w x y z s′) where
+    abbrev S : Seq (Zmod p)
+    S = poly p s′
+
+    before : (j : ℕ) → j < i → poly p s j ≡ S j
+    before j l = poly-at p s j ∙ ap (mk p) (sym (f .before j l)) ∙ sym (poly-at p s′ j)
+
+    -- what is due, with the new words
+    now : (k : ℕ) → i ≤ k → k < length acc → mk p (getD acc k 0) ≡ due (Zmod p) d g S k i
+    now k l m = h k l m ∙ due-same (Zmod p) d g (poly p s) S k i before
+
+    first : S i ≡ mk p w
+    first = poly-at p s′ i ∙ ap (mk p) (f .first)
+
+    second : S (1 + i) ≡ mk p x
+    second = poly-at p s′ (1 + i) ∙ ap (λ j. mk p (getD s′ j 0)) (omega arith) ∙ ap (mk p) (f .second)
+
+    third : S (2 + i) ≡ mk p y
+    third = poly-at p s′ (2 + i) ∙ ap (λ j. mk p (getD s′ j 0)) (omega arith) ∙ ap (mk p) (f .third)
+
+    fourth : S (3 + i) ≡ mk p z
+    fourth = poly-at p s′ (3 + i) ∙ ap (λ j. mk p (getD s′ j 0)) (omega arith) ∙ ap (mk p) (f .fourth)
+
+    -- one of them, times its −c
+    term : (k j u t : ℕ) → S j ≡ mk p u → 1 + t ≡ k - j → times p (mk p u) (mk p (getD e t 0)) ≡ times p (S j) (minus p (rev (Zmod p) d g (k - j)))
+    term k j u t es et = ap₂ (times p) (sym es) (n t ∙ ap (λ m. minus p (rev (Zmod p) d g m)) et)
+
+    step : (k j u t : ℕ) → 1 ≤ j → S j ≡ mk p u → 1 + t ≡ k - j → (a : Elt p) → a ≡ due (Zmod p) d g S k j
+        → (m : ℕ) → 1 + j ≡ m → plus p a (times p (mk p u) (mk p (getD e t 0))) ≡ due (Zmod p) d g S k m
+    step k j u t l es et a ea m em = ap₂ (plus p) ea (term k j u t es et) ∙ sym (due-next (Zmod p) d g S k j l) ∙ ap (due (Zmod p) d g S k) em
+
+    -- the sums that the four words are the residues of
+    abbrev pub sum₁ : ℕ
+    sum₁ = getD acc (1 + i) 0 + w * getD e 0 0
+
+    abbrev pub sum₂ : ℕ
+    sum₂ = getD acc (2 + i) 0 + w * getD e 1 0 + x * getD e 0 0
+
+    abbrev pub sum₃ : ℕ
+    sum₃ = getD acc (3 + i) 0 + w * getD e 2 0 + x * getD e 1 0 + y * getD e 0 0
+
+    pub newton₀ : mk p (getD acc i 0) ≡ mk p w → Newton (Zmod p) d g S i
+    newton₀ r = first ∙ sym r ∙ now i (omega arith) (omega arith) ∙ due-all (Zmod p) d g S i from
+
+    pub newton₁ : mk p sum₁ ≡ mk p x → Newton (Zmod p) d g S (1 + i)
+    newton₁ r =
+        second ∙ sym r ∙ mk-add p (getD acc (1 + i) 0) (w * getD e 0 0) ∙ ap (plus p (mk p (getD acc (1 + i) 0))) (mk-mul p w (getD e 0 0))
+        ∙ step (1 + i) i w 0 from first (omega arith) _ (now (1 + i) (omega arith) (omega arith)) (1 + i) refl ∙ due-all (Zmod p) d g S (1 + i) (omega arith)
+
+    two : (k t₁ t₀ : ℕ) → k < length acc → 1 + t₁ ≡ k - i → 2 + t₀ ≡ k - i
+        → mk p (getD acc k 0 + w * getD e t₁ 0 + x * getD e t₀ 0) ≡ due (Zmod p) d g S k (2 + i)
+    two k t₁ t₀ m e₁ e₀ =
+        mk-add p (getD acc k 0 + w * getD e t₁ 0) (x * getD e t₀ 0)
+        ∙ ap₂ (plus p) (mk-add p (getD acc k 0) (w * getD e t₁ 0) ∙ ap (plus p (mk p (getD acc k 0))) (mk-mul p w (getD e t₁ 0))) (mk-mul p x (getD e t₀ 0))
+        ∙ step k (1 + i) x t₀ (omega arith) second (omega arith) _ (step k i w t₁ from first e₁ _ (now k (omega arith) m) (1 + i) refl) (2 + i) (omega arith)
+
+    three : (k t₂ t₁ t₀ : ℕ) → k < length acc → 1 + t₂ ≡ k - i → 2 + t₁ ≡ k - i → 3 + t₀ ≡ k - i
+        → mk p (getD acc k 0 + w * getD e t₂ 0 + x * getD e t₁ 0 + y * getD e t₀ 0) ≡ due (Zmod p) d g S k (3 + i)
+    three k t₂ t₁ t₀ m e₂ e₁ e₀ =
+        mk-add p (getD acc k 0 + w * getD e t₂ 0 + x * getD e t₁ 0) (y * getD e t₀ 0)
+        ∙ ap (plus p (mk p (getD acc k 0 + w * getD e t₂ 0 + x * getD e t₁ 0))) (mk-mul p y (getD e t₀ 0))
+        ∙ step k (2 + i) y t₀ (omega arith) third (omega arith) _ (two k t₂ t₁ m e₂ e₁) (3 + i) (omega arith)
+
+    pub newton₂ : mk p sum₂ ≡ mk p y → Newton (Zmod p) d g S (2 + i)
+    newton₂ r = third ∙ sym r ∙ two (2 + i) 1 0 (omega arith) (omega arith) (omega arith) ∙ due-all (Zmod p) d g S (2 + i) (omega arith)
+
+    pub newton₃ : mk p sum₃ ≡ mk p z → Newton (Zmod p) d g S (3 + i)
+    newton₃ r = fourth ∙ sym r ∙ three (3 + i) 2 1 0 (omega arith) (omega arith) (omega arith) (omega arith) ∙ due-all (Zmod p) d g S (3 + i) (omega arith)
+
+    -- the rows take what is due to the next four places
+    pub due-rows : (len : ℕ) (acc′ : List ℕ) → length acc′ ≡ length acc → RowsAdded acc e (i + 4) len w x y z acc′
+        → ((k : ℕ) → i + 4 + len ≤ k → k < length acc → (u : ℕ) → k - (i + 4) ≤ u → getD e u 0 ≡ 0) → Due acc′ s′ (i + 4)
+    due-rows len acc′ size added past k l m = go (decLt k (i + 4 + len))
+      where
+        four : mk p (row-more (getD acc k 0) e (k - (i + 4)) w x y z) ≡ due (Zmod p) d g S k (i + 4)
+        four =
+            mk-add p (getD acc k 0 + w * getD e (3 + (k - (i + 4))) 0 + x * getD e (2 + (k - (i + 4))) 0 + y * getD e (1 + (k - (i + 4))) 0) (z * getD e (k - (i + 4)) 0)
+            ∙ ap (plus p (mk p (getD acc k 0 + w * getD e (3 + (k - (i + 4))) 0 + x * getD e (2 + (k - (i + 4))) 0 + y * getD e (1 + (k - (i + 4))) 0))) (mk-mul p z (getD e (k - (i + 4)) 0))
+            ∙ step k (3 + i) z (k - (i + 4)) (omega arith) fourth (omega arith) _ (three k (3 + (k - (i + 4))) (2 + (k - (i + 4))) (1 + (k - (i + 4))) (omega arith) (omega arith) (omega arith) (omega arith))
+            (i + 4) (omega arith)
+
+        none : (u : ℕ) → k - (i + 4) ≤ u → ¬ (k < i + 4 + len) → getD e u 0 ≡ 0
+        none u le out = past k (omega arith) (omega arith) u le
+
+        go : Dec (k < i + 4 + len) → mk p (getD acc′ k 0) ≡ due (Zmod p) d g S k (i + 4)
+        go (yes h) =
+            let at : i + 4 + (k - (i + 4)) ≡ k = omega arith in
+            ap (λ t. mk p (getD acc′ t 0)) (sym at) ∙ ap (mk p) (added .inside (k - (i + 4)) (omega arith))
+            ∙ ap (λ t. mk p (row-more (getD acc t 0) e (k - (i + 4)) w x y z)) at ∙ four
+        go (no h) =
+            ap (mk p) (added .after k (omega arith)
+            ∙ sym (ap₂ (λ a b. getD acc k 0 + w * a + x * b + y * getD e (1 + (k - (i + 4))) 0 + z * getD e (k - (i + 4)) 0) (none (3 + (k - (i + 4))) (omega arith) h) (none (2 + (k - (i + 4))) (omega arith) h)
+            ∙ ap₂ (λ a b. getD acc k 0 + w * 0 + x * 0 + y * a + z * b) (none (1 + (k - (i + 4))) (omega arith) h) (none (k - (i + 4)) (omega arith) h)
+            ∙ omega (arith, N.mul-zero w, N.mul-zero x, N.mul-zero y, N.mul-zero z)))
+            ∙ four
+
+  -- the words before i obey Newton's identities, and acc has what is due from i on
+  pub record Known (acc s : List ℕ) (i : ℕ) : Type 0 where
+    pub solved : Solved p (Newton (Zmod p) d g) s i
+    pub due-from : Due acc s i
+
+-- rows whose factors are known by their words
+pub same-rows : (acc e acc′ : List ℕ) (at len w x y z w′ x′ y′ z′ : ℕ) → w′ ≡ w → x′ ≡ x → y′ ≡ y → z′ ≡ z → RowsAdded acc e at len w′ x′ y′ z′ acc′
+    → RowsAdded acc e at len w x y z acc′
+same-rows acc e acc′ at len w x y z w′ x′ y′ z′ ew ex ey ez =
+    subst (λ T. T) (ap₂ (λ t u. RowsAdded acc e at len t u y′ z′ acc′) ew ex ∙ ap₂ (λ t u. RowsAdded acc e at len w x t u acc′) ey ez)
+
+-- the largest sum at i: 2k c_k, and a product for each word from 1 on
+abbrev pub most-due : ℕ → ℕ
+most-due i = 2 ^ 36 + (i - 1) * 72057593501057025
+
+-- ── the room before the first turn
+
+pub record Backwards (p : ℕ) (g e : List ℕ) : Type 0 where
+  pub words : (t : ℕ) → t + 1 < length g → Residue p (minus p (mk p (getD g (length g - 1 - 1 - t) 0))) (getD e t 0)
+  pub past : (t : ℕ) → length g ≤ t + 1 → getD e t 0 ≡ 0
+
+abbrev pub Weights : List ℕ → List ℕ → Type 0
+Weights e acc = (k : ℕ) → 1 ≤ k → k < length acc → getD acc k 0 ≡ 2 * k * getD e (k - 1) 0
+
+-- a loop that has gone as far as d, or to the end
+pub weights-all : (e acc₀ acc : List ℕ) (d n k : ℕ) → min (d + 1) n ≤ k → Stored (λ j v. 1 ≤ j → v ≡ 2 * j * getD e (j - 1) 0) acc₀ acc k → acc₀ ≡ blank n
+    → ((t : ℕ) → d ≤ t → getD e t 0 ≡ 0) → Weights e acc
+weights-all e acc₀ acc d n k end h cleared past j one inside = go (decLt j k)
+  where
+    go : Dec (j < k) → getD acc j 0 ≡ 2 * j * getD e (j - 1) 0
+    go (yes l) = h .filled j l one
+    go (no l) =
+        h .kept j (omega arith) ∙ ap (λ xs. getD xs j 0) cleared ∙ zero-at n j
+        ∙ sym (ap (λ t. 2 * j * t) (past (j - 1) (omega (arith, h .same-length, ap length cleared, length-replicate {A = ℕ} n 0))) ∙ N.mul-zero (2 * j))
+
+-- Newton's identity at k reads the sequence up to k
+pub newton-causal : (p d : ℕ) (g : Seq (Zmod p)) → Causal p (Newton (Zmod p) d g)
+newton-causal p d g k a b e x = sym (e k (omega arith)) ∙ x ∙ newton-local (Zmod p) d g k a b (λ i l. e i (omega arith))
