@@ -6,14 +6,14 @@ use Prim.Native.Nat.{ℕ, suc, _+_, _*_, _-_, _^_, _≤_, _<_, min}
 use native.Mathlib.Nat as N
 use native.Mathlib.Decide.{decLt}
 use native.Mathlib.Omega.{arith}
-use lib.ListN.{length, getD, length-replicate}
+use lib.ListN.{length, getD, set, length-replicate, List·getD-eq-default}
 use Rattle.ring.specs.Ring
 use Rattle.ring.specs.Ring.{CRing, cast}
-use Rattle.ring.specs.Identity.{solve4}
-use Rattle.ring.specs.Identity.Ex.{_:+_, _:*_, :-_}
+use Rattle.ring.specs.Identity.{solve2, solve4}
+use Rattle.ring.specs.Identity.Ex.{:0, _:+_, _:*_, :-_}
 use Rattle.series.specs.Series.{Seq, sum, sum-suc, sum-same}
-use Rattle.series.specs.Reversal.{rev}
-use Rattle.zmod.specs.Zmod.{Elt, Zmod, mk, plus, times, minus, mk-add, mk-mul, plus-zero}
+use Rattle.series.specs.Reversal.{rev, rev-sub, rev-past}
+use Rattle.zmod.specs.Zmod.{Elt, Zmod, mk, plus, times, minus, mk-add, mk-mul, cast-mk}
 use Rattle.zmod.specs.Residues.{Residue, poly, poly-at}
 use Rattle.isogeny.specs.Expansion.{sum-to, newton-step}
 use Rattle.slices.specs.Stored.{Stored}
@@ -22,8 +22,8 @@ use Rattle.rows.specs.Rows.{row-more, RowsAdded, Four}
 use Rattle.rows.specs.Turn.{row-class}
 use Rattle.expansion.specs.Equations.{Newton, Solved}
 use Rattle.isogeny.specs.Proof.Sums.{newton-local}
-use Rattle.expansion.specs.Stores.{Causal}
-use Rattle.expansion.specs.Products.{newton-step-at}
+use Rattle.expansion.specs.Stores.{Causal, stored-at, solved-none, solved-more}
+use Rattle.expansion.specs.Products.{newton-step-at, newton-step-zero}
 
 module _ (R : CRing) (d : ℕ) (g : Seq R) where
   open CRing R using (Car, 𝟘, add as _⊕_, mul as _⊗_, neg)
@@ -182,15 +182,15 @@ pub record Backwards (p : ℕ) (g e : List ℕ) : Type 0 where
   pub past : (t : ℕ) → length g ≤ t + 1 → getD e t 0 ≡ 0
 
 abbrev pub Weights : List ℕ → List ℕ → Type 0
-Weights e acc = (k : ℕ) → 1 ≤ k → k < length acc → getD acc k 0 ≡ 2 * k * getD e (k - 1) 0
+Weights e acc = (k : ℕ) → k < length acc → getD acc k 0 ≡ 2 * k * getD e (k - 1) 0
 
 -- a loop that has gone as far as d, or to the end
-pub weights-all : (e acc₀ acc : List ℕ) (d n k : ℕ) → min (d + 1) n ≤ k → Stored (λ j v. 1 ≤ j → v ≡ 2 * j * getD e (j - 1) 0) acc₀ acc k → acc₀ ≡ blank n
+pub weights-all : (e acc₀ acc : List ℕ) (d n k : ℕ) → min (d + 1) n ≤ k → Stored (λ j v. v ≡ 2 * j * getD e (j - 1) 0) acc₀ acc k → acc₀ ≡ blank n
     → ((t : ℕ) → d ≤ t → getD e t 0 ≡ 0) → Weights e acc
-weights-all e acc₀ acc d n k end h cleared past j one inside = go (decLt j k)
+weights-all e acc₀ acc d n k end h cleared past j inside = go (decLt j k)
   where
     go : Dec (j < k) → getD acc j 0 ≡ 2 * j * getD e (j - 1) 0
-    go (yes l) = h .filled j l one
+    go (yes l) = h .filled j l
     go (no l) =
         h .kept j (omega arith) ∙ ap (λ xs. getD xs j 0) cleared ∙ zero-at n j
         ∙ sym (ap (λ t. 2 * j * t) (past (j - 1) (omega (arith, h .same-length, ap length cleared, length-replicate {A = ℕ} n 0))) ∙ N.mul-zero (2 * j))
@@ -198,3 +198,49 @@ weights-all e acc₀ acc d n k end h cleared past j one inside = go (decLt j k)
 -- Newton's identity at k reads the sequence up to k
 pub newton-causal : (p d : ℕ) (g : Seq (Zmod p)) → Causal p (Newton (Zmod p) d g)
 newton-causal p d g k a b e x = sym (e k (omega arith)) ∙ x ∙ newton-local (Zmod p) d g k a b (λ i l. e i (omega arith))
+
+-- no sum is larger than 254 residues
+pub weights-low : (e acc : List ℕ) (d : ℕ) → d ≤ 127 → Weights e acc → ((t : ℕ) → getD e t 0 < 2 ^ 28) → ((t : ℕ) → d ≤ t → getD e t 0 ≡ 0) → (k : ℕ)
+    → getD acc k 0 ≤ most-due 1
+weights-low e acc d small h low past k = go (decLt k (length acc)) (decLt k (d + 1))
+  where
+    go : Dec (k < length acc) → Dec (k < d + 1) → getD acc k 0 ≤ most-due 1
+    go (no l) _ = let z : getD acc k 0 ≡ 0 = List·getD-eq-default acc 0 (omega arith) in omega arith
+    go (yes l) (yes m) =
+        omega (arith, h k l, N.mul-le-mul {n₁ = 2 * k} {m₁ = getD e (k - 1) 0} {n₂ = 254} {m₂ = 268435456} (omega arith) (omega (arith, low (k - 1))))
+    go (yes l) (no m) = omega (arith, h k l ∙ ap (λ t. 2 * k * t) (past (k - 1) (omega arith)) ∙ N.mul-zero (2 * k))
+
+-- g backwards
+module _ (p d : ℕ) (g e : List ℕ) (pos : 0 < p) (size : length g ≡ d + 1) (h : Backwards p g e) where
+  pub backwards-reduced : (t : ℕ) → getD e t 0 < p
+  backwards-reduced t = go (decLt t d)
+    where
+      go : Dec (t < d) → getD e t 0 < p
+      go (yes l) = h .words t (omega arith) .below
+      go (no l) = omega (arith, h .past t (omega arith))
+
+  pub backwards-negated : Negated p d (poly p g) e
+  backwards-negated t = go (decLt t d)
+    where
+      go : Dec (t < d) → mk p (getD e t 0) ≡ minus p (rev (Zmod p) d (poly p g) (1 + t))
+      go (yes l) =
+          h .words t (omega arith) .class
+          ∙ ap (minus p) (sym (rev-sub (Zmod p) d (1 + t) (poly p g) (omega arith) ∙ poly-at p g (d - (1 + t)) ∙ ap (λ n. mk p (getD g n 0)) (omega arith)))
+      go (no l) =
+          ap (mk p) (h .past t (omega arith)) ∙ sym (ap (minus p) (rev-past (Zmod p) d (1 + t) (poly p g) (omega arith)) ∙ Ring.neg-zero (Zmod p))
+
+-- s₀, and what is due before the first turn
+pub known-first : (p d : ℕ) (g : Seq (Zmod p)) (e acc s : List ℕ) (r : ℕ) → 1 ≤ length s → Negated p d g e → Weights e acc → Residue p (mk p (2 * d)) r
+    → Known p d g acc (set s 0 r) 1
+unfolding sum
+known-first p d g e acc s r long n h first = record {
+  solved = solved-more p (Newton (Zmod p) d g) (newton-causal p d g) s 0 r long (solved-none p (Newton (Zmod p) d g) s) (record {
+    below = first .below;
+    equation = stored-at p s 0 r long ∙ first .class ∙ sym (cast-mk p (2 * d)) ∙ sym (newton-step-zero (Zmod p) d g (poly p (set s 0 r)));
+  });
+  due-from = λ k l m.
+      let at : 1 + (k - 1) ≡ k = omega arith in
+      ap (mk p) (h k m) ∙ mk-mul p (2 * k) (getD e (k - 1) 0)
+      ∙ ap₂ (times p) (sym (cast-mk p (2 * k))) (n (k - 1) ∙ ap (λ j. minus p (rev (Zmod p) d g j)) at)
+      ∙ solve2 (Zmod p) (λ a b. a :* :- b) (λ a b. :- (a :* b) :+ :- :0) tt (cast (Zmod p) (2 * k)) (rev (Zmod p) d g k);
+}

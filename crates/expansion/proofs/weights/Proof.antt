@@ -1,16 +1,18 @@
 -- `expansion::weights` meets its contract. Assumes nothing.
-use mathlib.Core.Path.{_≡_, refl}
-use Prim.Native.Nat.{_+_, _*_, _-_, _≤_, min}
+use mathlib.Core.Path.{_≡_, refl, sym, _∙_, ap, subst}
+use Prim.Native.Nat.{ℕ, _+_, _*_, _-_, _≤_, _<_, min}
+use native.Mathlib.Nat as N
 use native.Mathlib.Omega.{arith}
 use borrow.Author.Needs.{needs}
 use lib.ListN.{length, getD}
 use Rattle.slices.specs.Stored.{Stored, stored-more}
+use Rattle.rows.specs.Room.{zero-at}
 use Rattle.expansion.specs.Sums.{weights-all}
 use Rattle.expansion.proofs.weights.Statement.{statement}
 use Rattle.expansion.proofs.weights.Tie as tie
 
 abbrev Inv-loop : tie.InvT-loop
-Inv-loop e d acc₀ n k₀ acc k = (n ≡ min (d + 1) (length acc₀)) × (1 ≤ k) × Stored (λ j v. 1 ≤ j → v ≡ 2 * j * getD e (j - 1) 0) acc₀ acc k
+Inv-loop e d acc₀ n k₀ acc k = (n ≡ min (d + 1) (length acc₀)) × (1 ≤ k) × Stored (λ j v. v ≡ 2 * j * getD e (j - 1) 0) acc₀ acc k
 
 abbrev μ-loop : tie.MeasureT-loop
 μ-loop e d acc₀ n k₀ acc k = n - k
@@ -24,10 +26,17 @@ add-least c = search needs
 least-requires : tie.Need-least-requires Inv-loop μ-loop
 least-requires c κs = search needs
 
+-- the word at 0 stays 0
+first : (c : tie.After-least Inv-loop μ-loop) (j : ℕ) → j < 1 → getD (c .before .before .before .clear .last .0) j 0 ≡ 2 * j * getD (c .before .before .before .before .before .before .before .args .e .now) (j - 1) 0
+first c j l =
+    let at : 0 ≡ j = omega arith in
+    subst (λ j. getD (c .before .before .before .clear .last .0) j 0 ≡ 2 * j * getD (c .before .before .before .before .before .before .before .args .e .now) (j - 1) 0) at
+    (ap (λ xs. getD xs 0 0) (c .before .before .before .clear .ensures) ∙ zero-at (length (c .before .before .before .before .before .before .before .args .acc .now)) 0 ∙ sym (N.zero-mul _))
+
 loop-holds : tie.Need-loop-holds Inv-loop μ-loop
 loop-holds c =
     (omega (arith, c .least .ensures), search needs,
-    record { same-length = refl; within = omega arith; filled = λ j l one. absurd (omega arith); kept = λ j l. refl })
+    record { same-length = refl; within = omega arith; filled = λ j l. first c j l; kept = λ j l. refl })
 
 mul-product : tie.Need-mul-product Inv-loop μ-loop
 mul-product c = search needs
@@ -62,7 +71,7 @@ loop-less c = search needs
 loop-again : tie.Need-loop-again Inv-loop μ-loop
 loop-again c =
     let loop = c .before .before .before .loop in
-    (search needs, search needs, stored-more _ _ (loop .acc) (loop .k) (c .product .result) (omega arith) (loop .inv .2) (λ one. c .product .ensures))
+    (search needs, search needs, stored-more _ _ (loop .acc) (loop .k) (c .product .result) (omega arith) (loop .inv .2) (c .product .ensures))
 
 same-length : tie.Need-same-length Inv-loop μ-loop
 same-length c = search needs

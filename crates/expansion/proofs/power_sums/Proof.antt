@@ -1,0 +1,86 @@
+-- `expansion::power_sums` meets its contract. Assumes nothing.
+use mathlib.Core.Path.{_≡_, _∙_}
+use Prim.Native.Nat.{_-_}
+use native.Mathlib.Omega.{arith}
+use borrow.Author.Needs.{needs}
+use lib.ListN.{length, length-set}
+use Rattle.zmod.specs.Zmod.{Zmod}
+use Rattle.zmod.specs.Residues.{poly}
+use Rattle.sheet.specs.Values.{half}
+use Rattle.expansion.specs.Sums.{backwards-reduced, backwards-negated, weights-low, known-first}
+use Rattle.expansion.proofs.power_sums.Statement.{statement}
+use Rattle.expansion.proofs.power_sums.Tie as tie
+
+sub-d : tie.Need-sub-d
+sub-d c = search needs
+
+negated-requires : tie.Need-negated-requires
+negated-requires c κs = search needs
+
+weights-requires : tie.Need-weights-requires
+weights-requires c κs =
+    let start = c .before .before .before .before .before .before .before .before .before .before in
+    let a = start .args in
+    let ready = start .pre .0 .0 in
+    let holds = start .pre .0 .1 in
+    let back = c .before .before .before .before .negated in
+    (omega (arith, start .pre .1), (omega (arith, holds .count, ready .degree), omega (arith, holds .count, start .pre .1),
+    λ t. omega (arith, ready .prime, backwards-reduced (a .v .p) (half (a .v)) (a .g .now) (back .last .1 .0) (search needs) (holds .count) (back .ensures) t),
+    λ t l. back .ensures .past t (omega (arith, holds .count))))
+
+sub-wide : tie.Need-sub-wide
+sub-wide c = search needs
+
+wide-requires : tie.Need-wide-requires
+wide-requires c κs = search needs
+
+reduce-requires : tie.Need-reduce-requires
+reduce-requires c κs = search needs
+
+slice-write-s : tie.Need-slice-write-s
+slice-write-s c = search needs
+
+sums-turns-requires : tie.Need-sums-turns-requires
+sums-turns-requires c κs =
+    let start = c .before .before .before .before .before .before .before .before .before .before .before .before .before .before .before .before .before .before .before in
+    let a = start .args in
+    let ready = start .pre .0 .0 in
+    let holds = start .pre .0 .1 in
+    let back = c .before .before .before .before .before .before .before .before .before .before .before .before .before .negated in
+    let low = backwards-reduced (a .v .p) (half (a .v)) (a .g .now) (back .last .1 .0) (search needs) (holds .count) (back .ensures) in
+    ((simp length-set (omega (arith, start .pre .1)), simp length-set (omega (arith, start .pre .1)), simp length-set (start .pre .1 .1), simp length-set (omega (arith, start .pre .1, c .before .before .before .before .before .before .before .before .weights .kept)), omega (arith, holds .count, start .pre .1)),
+    ((search needs, omega (arith, ready .prime), low, λ t l. back .ensures .past t (omega (arith, holds .count))),
+    weights-low (back .last .1 .0) (c .before .before .before .before .before .before .before .before .weights .last .1 .1 .0) (length (a .g .now) - 1) (omega (arith, holds .count, ready .degree)) (c .before .before .before .before .before .before .before .before .weights .ensures)
+    (λ t. omega (arith, ready .prime, low t)) (λ t l. back .ensures .past t (omega (arith, holds .count)))))
+
+same-length : tie.Need-same-length
+same-length c = search needs
+
+same-length-2 : tie.Need-same-length-2
+same-length-2 c = search needs
+
+same-length-3 : tie.Need-same-length-3
+same-length-3 c = c .before .before .before .before .sums-turns .kept .1 .1 .1 .0 ∙ length-set (c .before .before .before .before .before .before .before .before .before .before .before .before .before .before .before .before .before .before .before .before .before .before .before .before .args .s .now) 0 (c .before .before .before .before .before .before .before .before .reduce .result)
+
+returns : tie.Need-returns
+returns c =
+    let start = c .before .before .before .before .before .before .before .before .before .before .before .before .before .before .before .before .before .before .before .before .before .before .before .before in
+    let a = start .args in
+    let p = a .v .p in
+    let ready = start .pre .0 .0 in
+    let holds = start .pre .0 .1 in
+    let back = c .before .before .before .before .before .before .before .before .before .before .before .before .before .before .before .before .before .before .negated in
+    let G = poly p (a .g .now) in
+    let n = backwards-negated p (half (a .v)) (a .g .now) (back .last .1 .0) (search needs) (holds .count) (back .ensures) in
+    let d : length (a .g .now) - 1 ≡ half (a .v) = omega (arith, holds .count) in
+    let s = c .before .before .before .before .sums-turns .last .1 .1 .1 .0 in
+    let turns = c .before .before .before .before .sums-turns .ensures in
+    let first = c .before .before .before .before .before .before .before .before .reduce .ensures in
+    let known = ? in
+    record {
+      reduced = ?;
+      coefficients = ?;
+    }
+
+pub power-sums-spec : {M : Type 1} → statement M
+power-sums-spec = tie.close (tie.spec sub-d negated-requires weights-requires sub-wide wide-requires reduce-requires slice-write-s sums-turns-requires same-length same-length-2 same-length-3 returns)
