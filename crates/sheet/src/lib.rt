@@ -11,7 +11,7 @@ ghost use Rattle.isogeny.specs.Curve.{discriminant, Nonsingular};
 ghost use Rattle.sheet.specs.declared.Form.the-variants.{Certificate};
 ghost use Rattle.sheet.specs.Word.{kindOf, valueOf, wordAt, wordsOf};
 ghost use Rattle.sheet.specs.Form.{header, entry, valueIn};
-ghost use Rattle.sheet.specs.Place.{placeOf, columnOf, Cell};
+ghost use Rattle.sheet.specs.Place.{placeOf, PlacesOf};
 ghost use Rattle.sheet.specs.Values.{valuesOf, half, coefficientIn};
 ghost use Rattle.sheet.specs.Asked.{PrimeAllowed, DegreeAllowed, ValuesBelow, Curves, Asked2, Asked6};
 ghost use Rattle.sheet.specs.Reading.{Right};
@@ -45,36 +45,25 @@ pub enum Reading {
     Refused(u32),
 }
 
-// For each kind, and in each of the forms question, certificate, kernel sheet: the place of its first word at d = 0, and how far each
-// step of d moves it. 255 is nowhere.
-const PLACES: [[[u8; 2]; 3]; 16] = [
-    [[255, 0], [255, 0], [255, 0]],
-    [[0, 0], [0, 0], [0, 0]],
-    [[1, 0], [1, 0], [1, 0]],
-    [[2, 0], [2, 0], [2, 0]],
-    [[3, 0], [3, 0], [255, 0]],
-    [[4, 0], [4, 0], [255, 0]],
-    [[5, 0], [5, 0], [3, 0]],
-    [[6, 0], [6, 0], [255, 0]],
-    [[255, 0], [7, 0], [4, 0]],
-    [[255, 0], [8, 1], [255, 0]],
-    [[255, 0], [255, 0], [255, 0]],
-    [[255, 0], [255, 0], [255, 0]],
-    [[255, 0], [255, 0], [255, 0]],
-    [[255, 0], [255, 0], [255, 0]],
-    [[255, 0], [255, 0], [255, 0]],
-    [[7, 0], [10, 3], [5, 1]],
-];
+// Nowhere, in the table of places.
+const NO: u8 = 255;
 
-fn column(form: Form) -> usize
-    ensures { λ r. ⌜ (r ≡ columnOf form) × (r < 3) ⌝ }
-{
-    match form {
-        Form::Question => 0,
-        Form::Certificate => 1,
-        Form::Kernel => 2,
-    }
-}
+// In each of the forms question, certificate, kernel sheet: the place of each kind's first word at d = 0, and how far each step of d moves it. The forms come
+// first, so that the part of one form, once it is known, dissolves into constants wherever a place is asked for.
+const PLACES: [[[u8; 16]; 2]; 3] = [
+    [
+        [NO, 0, 1, 2, 3, 4, 5, 6, NO, NO, NO, NO, NO, NO, NO, 7],
+        [0, 0, 0, 0, 0, 0, 0, 0, 0, 0, 0, 0, 0, 0, 0, 0],
+    ],
+    [
+        [NO, 0, 1, 2, 3, 4, 5, 6, 7, 8, NO, NO, NO, NO, NO, 10],
+        [0, 0, 0, 0, 0, 0, 0, 0, 0, 1, 0, 0, 0, 0, 0, 3],
+    ],
+    [
+        [NO, 0, 1, 2, NO, NO, 3, NO, 4, NO, NO, NO, NO, NO, NO, 5],
+        [0, 0, 0, 0, 0, 0, 0, 0, 0, 0, 0, 0, 0, 0, 0, 1],
+    ],
+];
 
 fn size(x: u8) -> usize
     ensures { λ r. ⌜ (r ≡ x) × (r < 256) ⌝ }
@@ -82,12 +71,15 @@ fn size(x: u8) -> usize
     x as usize
 }
 
-// A number of the table: part 0 is the place at d = 0, part 1 how far a step of d moves it.
-fn cell(form: Form, kind: usize, part: usize) -> usize
-    requires { ⌜ (kind < 16) × (part < 2) ⌝ }
-    ensures { λ r. ⌜ Cell form kind part r ⌝ }
+// A form's part of the table.
+fn places_of(form: Form) -> [[u8; 16]; 2]
+    ensures { λ r. ⌜ PlacesOf form r ⌝ }
 {
-    size(PLACES[kind][column(form)][part])
+    match form {
+        Form::Question => PLACES[0],
+        Form::Certificate => PLACES[1],
+        Form::Kernel => PLACES[2],
+    }
 }
 
 // The place of the first word of a kind in a sheet of degree 2 d + 1, or `none` where the form has no such word.
@@ -95,11 +87,12 @@ pub fn place(form: Form, kind: usize, d: usize, none: usize) -> usize
     requires { ⌜ (kind < 16) × (d ≤ 2 ^ 28) ⌝ }
     ensures { λ r. ⌜ r ≡ placeOf form kind d none ⌝ }
 {
-    let at = cell(form, kind, 0);
+    let places = places_of(form);
+    let at = size(places[0][kind]);
     if at == 255 {
         return none;
     }
-    at + cell(form, kind, 1) * d
+    at + size(places[1][kind]) * d
 }
 
 pub fn kind(w: u32) -> usize
