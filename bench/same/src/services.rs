@@ -21,8 +21,11 @@ fn nonsingular(a: u32, b: u32, p: u32) -> bool {
     add(times(4, cube, p), times(27, times(b, b, p), p), p) != 0
 }
 
+/// No word ends the loop.
 fn section(ws: &[u32], from: usize, to: usize, k: u32, bound: u32) -> bool {
-    (from..to).all(|i| kind(at(ws, i)) == k && value(at(ws, i)) < bound)
+    (from..to).fold(true, |all, i| {
+        all & (at(ws, i).wrapping_sub(k << 28) < bound)
+    })
 }
 
 /// Nothing is divided where the value is below p already.

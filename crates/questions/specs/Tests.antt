@@ -2,7 +2,7 @@
 -- Assumes nothing.
 use mathlib.Core.Path.{_≡_, refl, sym, _∙_, subst}
 use mathlib.Core.Logic.{_↔_}
-use mathlib.Core.Bool.{Bool, true, false, not, false≢true}
+use mathlib.Core.Bool.{Bool, true, false, not, _&&_, false≢true}
 use Prim.Native.Nat.{ℕ, _+_, _≤_, _<_}
 use native.Mathlib.Decide.{decLt}
 use native.Mathlib.Omega.{arith}
@@ -28,6 +28,12 @@ refuted {t = t} d e = was-no d (not-true t e)
 
 pub shown : {P : Type 0} {t : Bool} → (t ≡ true) ↔ P → not t ≡ false → P
 shown {t = t} d e = was-yes d (not-false t e)
+
+-- two tests with `&` between them
+pub together : {P Q : Type 0} {s t : Bool} → (s ≡ true) ↔ P → (t ≡ true) ↔ Q → (s && t ≡ true) ↔ (P × Q)
+together {s = true} {t = true} d e = (λ _. (d .0 refl, e .0 refl), λ _. refl)
+together {s = true} {t = false} d e = says-no (λ h. was-no e refl (h .1))
+together {s = false} {t = t} d e = says-no (λ h. was-no d refl (h .0))
 
 -- what decides x = y decides x = z, where y is z
 pub decides : {A : Type 0} {x y z : A} {t : Bool} → (t ≡ true) ↔ (x ≡ y) → y ≡ z → (t ≡ true) ↔ (x ≡ z)

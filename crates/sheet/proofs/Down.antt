@@ -1,4 +1,4 @@
--- The reader's way from the end of a sheet down to its header, one kind a turn.
+-- The reader's way from the end of a sheet down to its header: the words of N, then those of g.
 -- Assumes nothing.
 use mathlib.Core.Path.{_≡_, refl, sym, _∙_, ap, subst}
 use mathlib.Core.Logic.{_↔_}
@@ -17,38 +17,32 @@ use Rattle.sheet.specs.Values.{valuesOf, half, coefficientIn}
 use Rattle.sheet.specs.Asked.{Asked6}
 use Rattle.sheet.specs.Leaf.{Section, Sections, Bounds}
 use Rattle.sheet.specs.Body.{last, last-after, body-some, asked6-words, words-asked6}
-use Rattle.sheet.specs.Places.{end-place}
+use Rattle.sheet.specs.Places.{end-place, nine-last}
 
 module _ (form : Form) (d p end : ℕ) (ws : List ℕ) (is-last : end ≡ last form d) where
   abbrev kinds : List ℕ
   kinds = kindsOf form d
 
-  -- the end stands where kind 15 begins
-  pub from-end : end ≡ below 15 kinds
+  -- the end stands where kind 15 begins, behind the words of kind 9
+  from-end : end ≡ below 15 kinds
   from-end = is-last ∙ sym (end-place d (below 16 kinds) form) ∙ place-from form d 15 (below 16 kinds) refl
 
-  pub none-yet : Sections form d end end p ws
+  none-yet : Sections form d end end p ws
   unfolding Sections
   none-yet i l m = absurd (omega arith)
 
-  -- one kind: its words stand from `from` up to `to`
-  module _ (k to from : ℕ) (few : k < 15) (to-is : to ≡ below (suc k) kinds) (from-is : from ≡ placeOf form k d to) where
-    pub begins-at : from ≡ below k kinds
-    begins-at = from-is ∙ place-from form d k to to-is
+  module _ (bound : ℕ) (bounds : Bounds form p bound) where
+    -- a coefficient is below p exactly if its value is below the bound
+    word-bound : (w : ℕ) → (valueOf w < bound) ↔ (coefficientIn form p w < p)
+    unfolding Bounds
+    word-bound w = bounds (valueOf w) (omega arith)
 
-    pub before-end : to ≤ end
-    before-end = omega (arith, to-is, from-end, below-mono (suc k) 15 kinds (omega arith))
+    -- one kind: its words stand from `from` up to `to`
+    module _ (k to from : ℕ) (few : k < 15) (to-is : to ≡ below (suc k) kinds) (from-is : from ≡ below k kinds) where
+      own-kind : (i : ℕ) → from ≤ i → i < to → getD kinds i 0 ≡ k
+      own-kind i l m = kind-at k 0 i kinds (kinds-rise form d) (omega (arith, from-is)) (omega (arith, to-is))
 
-    own-kind : (i : ℕ) → from ≤ i → i < to → getD kinds i 0 ≡ k
-    own-kind i l m = kind-at k 0 i kinds (kinds-rise form d) (omega (arith, begins-at)) (omega (arith, to-is))
-
-    module _ (bound : ℕ) (bounds : Bounds form p bound) where
-      -- a coefficient is below p exactly if its value is below the bound
-      word-bound : (w : ℕ) → (valueOf w < bound) ↔ (coefficientIn form p w < p)
-      unfolding Bounds
-      word-bound w = bounds (valueOf w) (omega arith)
-
-      pub more : Section ws from to k bound → Sections form d to end p ws → Sections form d from end p ws
+      more : Section ws from to k bound → Sections form d to end p ws → Sections form d from end p ws
       unfolding Section Sections
       more here later i l m = go (decLt i to)
         where
@@ -56,17 +50,34 @@ module _ (form : Form) (d p end : ℕ) (ws : List ℕ) (is-last : end ≡ last f
           go (yes n) = (here i l n .0 ∙ sym (own-kind i l n), word-bound (getD ws i 0) .0 (here i l n .1))
           go (no n) = later i (omega arith) m
 
-      pub part : 8 ≤ k → Sections form d (length (header form)) end p ws → Section ws from to k bound
+      part : 8 ≤ k → Sections form d (length (header form)) end p ws → Section ws from to k bound
       unfolding Section Sections
       part l all i m n =
-          let h = all i (omega (arith, begins-at, header-first form d, below-mono 8 k kinds l)) (omega (arith, before-end)) in
+          let after : length (header form) ≤ i = omega (arith, from-is, header-first form d, below-mono 8 k kinds l) in
+          let inside : i < end = omega (arith, to-is, from-end, below-mono (suc k) 15 kinds (omega arith)) in
+          let h = all i after inside in
           (h .0 ∙ own-kind i m n, word-bound (getD ws i 0) .1 (h .1))
 
-  -- down to the header
-  pub all-down : (k to : ℕ) → k ≡ 8 → to ≡ below k kinds → Sections form d to end p ws → Sections form d (length (header form)) end p ws
-  all-down k to e to-is h =
-      let at : to ≡ length (header form) = to-is ∙ ap (λ n. below n kinds) e ∙ header-first form d in
-      subst (λ n. Sections form d n end p ws) at h
+    module _ (n g : ℕ) (n-is : n ≡ placeOf form 9 d end) (g-is : g ≡ placeOf form 8 d n) where
+      after-n : end ≡ below 10 kinds
+      after-n = from-end ∙ nine-last form d
+
+      from-n : n ≡ below 9 kinds
+      from-n = n-is ∙ place-from form d 9 end after-n
+
+      from-g : g ≡ below 8 kinds
+      from-g = g-is ∙ place-from form d 8 n from-n
+
+      pub n-inside : n ≤ end
+      n-inside = omega (arith, from-n, from-end, below-mono 9 15 kinds (omega arith))
+
+      -- all words between the header and the end, by kinds
+      pub two-sections : Sections form d (length (header form)) end p ws ↔ (Section ws g n 8 bound × Section ws n end 9 bound)
+      two-sections = (
+        λ all. (part 8 n g (omega arith) from-n from-g (omega arith) all, part 9 end n (omega arith) after-n from-n (omega arith) all),
+        λ h. subst (λ i. Sections form d i end p ws) (from-g ∙ header-first form d)
+            (more 8 n g (omega arith) from-n from-g (h .0) (more 9 end n (omega arith) after-n from-n (h .1) none-yet)),
+      )
 
 -- ── question 6 as the reader asks it
 

@@ -19,9 +19,13 @@ Stands form k ws = holds k (header form) ≡ true → (position k (header form) 
 unfoldable pub Sections : Form → ℕ → ℕ → ℕ → ℕ → List ℕ → Type 0
 Sections form d from to p ws = (i : ℕ) → from ≤ i → i < to → (kindOf (getD ws i 0) ≡ getD (kindsOf form d) i 0) × (coefficientIn form p (getD ws i 0) < p)
 
--- the words from `from` up to `to` are of kind k, with values below a bound
+-- a word is of kind k, with a value below a bound
+abbrev pub Fits : ℕ → ℕ → ℕ → Type 0
+Fits k bound w = (kindOf w ≡ k) × (valueOf w < bound)
+
+-- so are the words from `from` up to `to`
 unfoldable pub Section : List ℕ → ℕ → ℕ → ℕ → ℕ → Type 0
-Section ws from to k bound = (i : ℕ) → from ≤ i → i < to → (kindOf (getD ws i 0) ≡ k) × (valueOf (getD ws i 0) < bound)
+Section ws from to k bound = (i : ℕ) → from ≤ i → i < to → Fits k bound (getD ws i 0)
 
 -- the values of 28 bits below the bound are those that the form reads as values below p
 unfoldable pub Bounds : Form → ℕ → ℕ → Type 0

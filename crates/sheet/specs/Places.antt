@@ -2,16 +2,17 @@
 -- Assumes nothing.
 use mathlib.Core.Path.{_≡_, refl, sym, _∙_, ap, ap₂}
 use mathlib.Core.Bool.{Bool, true, false, cond}
-use mathlib.Core.List.{List, [], _∷_, _++_}
+use mathlib.Core.List.{List, [], _∷_}
 use Prim.Native.Nat.{ℕ, suc, _+_, _*_, _-_, _<_, _≤_}
 use native.Mathlib.Omega.{arith}
-use lib.ListN.{length, replicate}
+use lib.ListN.{length}
 use Rattle.sheet.specs.declared.Form.{Form}
 use Rattle.sheet.specs.declared.Form.the-variants.{Question, Certificate, Kernel}
 use Rattle.sheet.specs.Form.{header, kindsOf, position, holds}
 use Rattle.sheet.specs.Place.{placeOf}
+use Rattle.sheet.specs.Kinds.{below, absent as absent-kind}
 use Rattle.sheet.specs.Body.{last, certificate-words, kernel-words}
-use Rattle.sheet.specs.Linear.{Section, section, expand, has, base, slope, holds-sections, position-sections, total, base-most}
+use Rattle.sheet.specs.Linear.{Section, section, expand, has, base, slope, holds-sections, position-sections, base-most}
 
 -- ── the forms in sections
 
@@ -36,6 +37,24 @@ in-sections : (form : Form) (d : ℕ) → kindsOf form d ≡ expand d (sections 
 in-sections Question d = simp no-more
 in-sections Certificate d = simp (no-more, g-more, n-more)
 in-sections Kernel d = simp (no-more, g-more)
+
+-- no form has a kind from 10 to 14, so the words of kind 9, or where they would stand, are the last before the end
+abbrev Lacks : Form → ℕ → Type 0
+Lacks form k = has k (sections form) ≡ false
+
+lacking : (form : Form) → Lacks form 10 × Lacks form 11 × Lacks form 12 × Lacks form 13 × Lacks form 14
+lacking Question = (refl, refl, refl, refl, refl)
+lacking Certificate = (refl, refl, refl, refl, refl)
+lacking Kernel = (refl, refl, refl, refl, refl)
+
+module _ (form : Form) (d : ℕ) where
+  skipped : (k : ℕ) → Lacks form k → below (suc k) (kindsOf form d) ≡ below k (kindsOf form d)
+  skipped k e = absent-kind k (kindsOf form d) (ap (holds k) (in-sections form d) ∙ holds-sections k d (sections form) ∙ e)
+
+  pub nine-last : below 15 (kindsOf form d) ≡ below 10 (kindsOf form d)
+  nine-last =
+      let lacks = lacking form in
+      skipped 14 (lacks .4) ∙ skipped 13 (lacks .3) ∙ skipped 12 (lacks .2) ∙ skipped 11 (lacks .1) ∙ skipped 10 (lacks .0)
 
 -- a number + a number · d
 module _ (form : Form) (k : ℕ) where

@@ -15,7 +15,7 @@ ghost use Rattle.sheet.specs.Place.{placeOf, PlacesOf};
 ghost use Rattle.sheet.specs.Values.{valuesOf, half, coefficientIn};
 ghost use Rattle.sheet.specs.Asked.{PrimeAllowed, DegreeAllowed, ValuesBelow, Curves, Asked2, Asked6};
 ghost use Rattle.sheet.specs.Reading.{Right};
-ghost use Rattle.sheet.specs.Leaf.{Stands, Section, Sections, Bounds};
+ghost use Rattle.sheet.specs.Leaf.{Stands, Fits, Section, Sections, Bounds};
 ghost use Rattle.sheet.specs.Body.{last};
 
 // The words of the largest certificate, that of degree 255.
@@ -240,8 +240,8 @@ pub fn values_below(v: Values) -> bool
 
 // Question 6 lets a coefficient pass if its value is below this.
 fn coefficient_bound(form: Form, p: u32) -> u32
-    requires { ⌜ 0 < p ⌝ }
-    ensures { λ r. ⌜ Bounds form p r ⌝ }
+    requires { ⌜ (0 < p) × (p ≤ 2 ^ 28) ⌝ }
+    ensures { λ r. ⌜ Bounds form p r × (r ≤ 2 ^ 28) ⌝ }
 {
     match form {
         Form::Question => 268435456,
@@ -250,45 +250,44 @@ fn coefficient_bound(form: Form, p: u32) -> u32
     }
 }
 
-// Whether the words from `from` up to `to` are of kind k, with values below the bound.
-fn section(ws: &[u32], from: usize, to: usize, k: usize, bound: u32) -> bool
-    requires { ⌜ to ≤ length (now ws) ⌝ }
-    ensures { λ r. ⌜ (r ≡ true) ↔ Section (now (ws .entry)) from to k bound ⌝ }
+// Whether a word is of kind k, with a value below the bound. Where the kind is less the difference wraps to 2^28 or more, so one test does for both.
+fn fits(w: u32, k: u32, bound: u32) -> bool
+    requires { ⌜ (k < 16) × (bound ≤ 2 ^ 28) ⌝ }
+    ensures { λ r. ⌜ (r ≡ true) ↔ Fits k bound w ⌝ }
 {
-    for i in from..to {
-        if kind(ws[i]) != k {
-            return false;
-        }
-        if bound <= value(ws[i]) {
-            return false;
-        }
-    }
-    true
+    std::num::wrapping_sub_u32(w, 268435456 * k) < bound
 }
 
-// Whether the words between the header and the end are of their kinds, with coefficients that are read as values below p. From the end down, each kind's
-// words stand before those of the next kind that the form has.
+// Whether the words from `from` up to `to` are of kind k, with values below the bound. No word ends the loop, so that the compiler takes several at a time.
+fn section(ws: &[u32], from: usize, to: usize, k: u32, bound: u32) -> bool
+    requires { ⌜ (to ≤ length (now ws)) × (k < 16) × (bound ≤ 2 ^ 28) ⌝ }
+    ensures { λ r. ⌜ (r ≡ true) ↔ Section (now (ws .entry)) from to k bound ⌝ }
+{
+    let mut all = true;
+    for i in from..to {
+        all = all & fits(ws[i], k, bound);
+    }
+    all
+}
+
+// Whether the words between the header and the end are of their kinds, with coefficients that are read as values below p. Where the form has no such words,
+// N's would begin at the end, and g's where N's begin.
 fn sections(form: Form, ws: &[u32], d: usize, end: usize, p: u32) -> bool
-    requires { ⌜ (d ≤ 2 ^ 28) × (end ≡ last form d) × (end < length (now ws)) × (0 < p) ⌝ }
+    requires { ⌜ (d ≤ 2 ^ 28) × (end ≡ last form d) × (end < length (now ws)) × (0 < p) × (p ≤ 2 ^ 28) ⌝ }
     ensures { λ r. ⌜ (r ≡ true) ↔ Sections form d (length (header form)) end p (now (ws .entry)) ⌝ }
 {
     let bound = coefficient_bound(form, p);
-    let mut to = end;
-    let mut k = 15;
-    while 8 < k {
-        k -= 1;
-        let from = place(form, k, d, to);
-        if !section(ws, from, to, k, bound) {
-            return false;
-        }
-        to = from;
+    let n = place(form, 9, d, end);
+    let g = place(form, 8, d, n);
+    if !section(ws, g, n, 8, bound) {
+        return false;
     }
-    true
+    section(ws, n, end, 9, bound)
 }
 
 // Question 6.
 fn exact(form: Form, v: Values, ws: &[u32]) -> bool
-    requires { ⌜ (v ≡ valuesOf form (now ws)) × (v .degree < 2 ^ 28) × (0 < v .p) ⌝ }
+    requires { ⌜ (v ≡ valuesOf form (now ws)) × (v .degree < 2 ^ 28) × (0 < v .p) × (v .p ≤ 2 ^ 28) ⌝ }
     ensures { λ r. ⌜ (r ≡ true) ↔ Asked6 form (now (ws .entry)) ⌝ }
 {
     let d = half_degree(v);

@@ -58,7 +58,7 @@ sections-requires c κs =
     let first = c .before .before in
     let place = first .before in
     let s = place .before .before .before in
-    (omega (arith, place .before .half-degree .ensures, s .pre .1), end-at place, omega (arith, first .if1 .left), s .pre .2)
+    (omega (arith, place .before .half-degree .ensures, s .pre .1), end-at place, omega (arith, first .if1 .left), s .pre .2, s .pre .3)
 
 returns-3 : tie.Need-returns-3
 returns-3 c =

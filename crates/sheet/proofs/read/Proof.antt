@@ -161,7 +161,9 @@ returns-4 c =
     (λ h. refuted (c .before .values-below .ensures) (c .if4 .taken) (subst ValuesBelow (sym (values-are read)) h))
 
 exact-requires : tie.Need-exact-requires
-exact-requires c κs = (values-are (read-values c), omega (arith, known c .degree .most), omega (arith, known c .prime .least))
+exact-requires c κs =
+    let known = known c in
+    (values-are (read-values c), omega (arith, known .degree .most), omega (arith, known .prime .least), omega (arith, known .prime .most))
 
 returns-5 : tie.Need-returns-5
 returns-5 c =
