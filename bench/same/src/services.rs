@@ -17,8 +17,8 @@ fn value(w: u32) -> u32 {
 }
 
 fn nonsingular(a: u32, b: u32, p: u32) -> bool {
-    let cube = times(times(a, a, p), a, p);
-    add(times(4, cube, p), times(27, times(b, b, p), p), p) != 0
+    let (square, other) = (times(a, a, p), times(b, b, p));
+    rem(mul(4 * square, a) + mul(27, other), p) != 0
 }
 
 /// No word ends the loop.

@@ -301,18 +301,14 @@ fn exact(form: Form, v: Values, ws: &[u32]) -> bool
     sections(form, ws, d, end, v.p)
 }
 
-// The residue of 4 a³ + 27 b².
+// The residue of 4 a³ + 27 b². With the squares reduced the sum is below 2^63, so it takes one remainder.
 pub fn discriminant_of(a: u32, b: u32, p: u32) -> u32
     requires { ⌜ (0 < p) × (p ≤ 2 ^ 28) ⌝ }
     ensures { λ r. ⌜ Residue p (discriminant (Zmod p) (mk p a) (mk p b)) r ⌝ }
 {
-    let cube = field::multiply(field::multiply(a, a, p), a, p);
-    let square = field::multiply(b, b, p);
-    field::add(
-        field::multiply(4, cube, p),
-        field::multiply(27, square, p),
-        p,
-    )
+    let square = field::multiply(a, a, p);
+    let other = field::multiply(b, b, p);
+    field::reduce(field::product(4 * square, a) + field::product(27, other), p)
 }
 
 pub fn nonsingular(a: u32, b: u32, p: u32) -> bool
