@@ -189,25 +189,46 @@ fn power(a: u32, e: u32, p: u32) -> u32 {
     r
 }
 
-fn evaluate(a: &[u32], x: u32, p: u32) -> u32 {
-    let mut r = 0;
-    for i in (0..a.len()).rev() {
-        r = rem(u64::from(at(a, i)) + mul(x, r), p);
+/// 1, x, x², .. and their derivatives, as many as the slices have words.
+fn tables(x: u32, powers: &mut [u32], slopes: &mut [u32], p: u32) {
+    for i in 0..powers.len() {
+        let power = match i {
+            0 => 1,
+            1 => x,
+            _ => times(at(powers, i / 2), at(powers, i - i / 2), p),
+        };
+        put(powers, i, power);
     }
-    r
+    for i in 0..slopes.len() {
+        let slope = if i == 0 {
+            0
+        } else {
+            i as u32 * at(powers, i - 1)
+        };
+        put(slopes, i, slope);
+    }
 }
 
-fn evaluate_derivative(a: &[u32], x: u32, p: u32) -> u32 {
-    let mut r = 0;
-    for i in (0..a.len()).rev() {
-        let c = if i + 1 < a.len() {
-            times(i as u32 + 1, at(a, i + 1), p)
-        } else {
-            0
-        };
-        r = rem(u64::from(c) + mul(x, r), p);
+fn dot(a: &[u32], b: &[u32]) -> u64 {
+    (0..a.len()).map(|i| mul(at(a, i), at(b, i))).sum()
+}
+
+/// a and its derivative at the point of the tables, by blocks of 16 coefficients.
+fn evaluate(a: &[u32], powers: &[u32], slopes: &[u32], p: u32) -> (u32, u32) {
+    let (mut value, mut slope) = (0, 0);
+    let mut i = a.len();
+    while 0 < i {
+        let start = i.saturating_sub(16);
+        // SAFETY: start is at most i, and i at most the length.
+        let block = unsafe { a.get_unchecked(start..i) };
+        let m = i - start;
+        let x = at(powers, m);
+        let sum = dot(block, powers) + mul(x, value);
+        let rise = dot(block, slopes) + mul(x, slope) + mul(at(slopes, m), value);
+        (value, slope) = (rem(sum, p), rem(rise, p));
+        i = start;
     }
-    r
+    (value, slope)
 }
 
 pub fn push(bytes: &[u8], point: u64) -> u64 {
@@ -230,17 +251,20 @@ pub fn push(bytes: &[u8], point: u64) -> u64 {
     }
     let d = (v.degree as usize - 1) / 2;
     let (g, n) = (&g[..d + 1], &n[..2 * d + 2]);
-    let gx = evaluate(g, x, p);
+    let count = n.len().min(16) + 1;
+    let (mut powers, mut slopes) = ([0; 17], [0; 17]);
+    let (powers, slopes) = (&mut powers[..count], &mut slopes[..count]);
+    tables(x, powers, slopes, p);
+    let (gx, dg) = evaluate(g, powers, slopes, p);
     if gx == 0 {
         return INFINITY;
     }
-    let nx = evaluate(n, x, p);
-    let left = times(evaluate_derivative(n, x, p), gx, p);
-    let right = times(times(2, nx, p), evaluate_derivative(g, x, p), p);
+    let (nx, dn) = evaluate(n, powers, slopes, p);
+    let w = times(y, rem(mul(dn, gx) + mul(2 * (p - nx), dg), p), p);
     let i = power(gx, p - 2, p);
     let square = times(i, i, p);
     let u = times(nx, square, p);
-    let w = times(y, times(sub(left, right, p), times(square, i, p), p), p);
+    let w = times(times(w, i, p), square, p);
     u64::from(u) + (u64::from(w) << 28)
 }
 

@@ -29,16 +29,16 @@ module _ (R : CRing) where
   open CRing R using (Car, 𝟙, mul as _⊗_, mul-one)
 
   infixl 70 _⊗_
-  -- where i is the inverse of b: a/b² and y(w/b³), times b² and b³
+  -- where i is the inverse of b: a/b² and (y w)/b³, times b² and b³
   module _ (b i : Car) (unit : b ⊗ i ≡ 𝟙) where
     pub quotient-square : (a : Car) → a ⊗ (i ⊗ i) ⊗ pow R b 2 ≡ a
     quotient-square a =
         solve3 R (λ a b i. a :* (i :* i) :* b :^ 2) (λ a b i. a :* (b :* i) :^ 2) tt a b i ∙ ap (λ z. a ⊗ pow R z 2) unit
         ∙ solve1 R (λ a. a :* :1 :^ 2) (λ a. a) tt a
 
-    pub quotient-cube : (y w : Car) → y ⊗ (w ⊗ (i ⊗ i ⊗ i)) ⊗ pow R b 3 ≡ y ⊗ w
+    pub quotient-cube : (y w : Car) → y ⊗ w ⊗ i ⊗ (i ⊗ i) ⊗ pow R b 3 ≡ y ⊗ w
     quotient-cube y w =
-        solve4 R (λ y w b i. y :* (w :* (i :* i :* i)) :* b :^ 3) (λ y w b i. y :* w :* (b :* i) :^ 3) tt y w b i ∙ ap (λ z. y ⊗ w ⊗ pow R z 3) unit
+        solve4 R (λ y w b i. y :* w :* i :* (i :* i) :* b :^ 3) (λ y w b i. y :* w :* (b :* i) :^ 3) tt y w b i ∙ ap (λ z. y ⊗ w ⊗ pow R z 3) unit
         ∙ solve1 R (λ a. a :* :1 :^ 3) (λ a. a) tt (y ⊗ w)
 
 -- ── the right side of a curve's equation

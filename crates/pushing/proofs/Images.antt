@@ -4,26 +4,31 @@ use mathlib.Core.Path.{_≡_, refl, sym, _∙_, ap, ap₂, subst}
 use mathlib.Core.Logic.{_↔_, inl}
 use mathlib.Core.Bool.{Bool, true, false, false≢true}
 use mathlib.Core.List.{List, [], _∷_}
-use Prim.Native.Nat.{ℕ, suc, _+_, _*_, _<_, _≤_}
+use Prim.Native.Nat.{ℕ, suc, _+_, _-_, _*_, _<_, _≤_}
 use native.Mathlib.Omega.{arith}
 use lib.Dec.{eqb}
 use lib.ListN.{length}
+use Rattle.ring.specs.Ring
 use Rattle.ring.specs.Ring.{cast, pow}
+use Rattle.ring.specs.Identity.{solve3}
+use Rattle.ring.specs.Identity.Ex.{_:*_, :-_}
 use Rattle.series.specs.Series.{Seq, ∂}
 use Rattle.series.specs.Degree.{Below}
 use Rattle.series.specs.Value.{value}
-use Rattle.zmod.specs.Zmod.{Elt, Zmod, mk, plus, times, minus, cast-mk}
+use Rattle.zmod.specs.Zmod.{Elt, Zmod, mk, plus, times, minus, mk-add, mk-mul, mk-sub, cast-mk}
 use Rattle.zmod.specs.Residues.{Residue, poly, poly-past, residue-same}
 use Rattle.isogeny.specs.Curve.{OnCurve}
 use Rattle.isogeny.specs.Rules.{W-at, g-at, N-at}
 use Rattle.isogeny.specs.Theorems.{W-at-is}
 use Rattle.field.specs.Inverse.{InverseOf}
+use Rattle.evaluation.specs.declared.Jet.{Jet}
+use Rattle.evaluation.specs.Jets.{JetOf}
 use Rattle.sheet.specs.declared.Values.{Values}
 use Rattle.sheet.specs.declared.Form.the-variants.{Certificate}
 use Rattle.questions.specs.Questions.{AllYes}
 use Rattle.questions.specs.Joined.{no-after, all-all, all-front}
 use Rattle.sheet.specs.Asked.{asked}
-use Rattle.sheet.specs.Ready.{Ready, ready}
+use Rattle.sheet.specs.Ready.{Ready, HoldsG, HoldsN, ready}
 use Rattle.sheet.specs.Accepted.{certificate-g, certificate-n}
 use Rattle.sheet.specs.Values.{gOf, nOf, valuesOf, question, half}
 use Rattle.promises.specs.declared.Point.{Point}
@@ -57,15 +62,20 @@ module _ (v : Values) (x y : ℕ) where
 
 -- ── N′g − 2Ng′
 
-pub slope-is : (p gx nx : ℕ) {dn dg l t r w : ℕ} (dn-at dg-at : Elt p) → Residue p dn-at dn → Residue p dg-at dg
-    → Residue p (times p (mk p dn) (mk p gx)) l → Residue p (times p (mk p 2) (mk p nx)) t → Residue p (times p (mk p t) (mk p dg)) r
-    → Residue p (plus p (mk p l) (minus p (mk p r))) w
-    → Residue p (plus p (times p dn-at (mk p gx)) (minus p (times p (times p (cast (Zmod p) 2) (mk p nx)) dg-at))) w
-slope-is p gx nx dn-at dg-at hn hg hl ht hr hw =
+-- 2 (p − N) for −2N
+pub slope-is : (p : ℕ) (g n : Jet) (s t : ℕ) {r : ℕ} → n .value < p → s ≡ n .slope * g .value → t ≡ 2 * (p - n .value) * g .slope
+    → Residue p (mk p (s + t)) r → Residue p (slopeOf p g n) r
+slope-is p g n s t l es et h =
     residue-same
-    (ap₂ (λ a b. plus p a (minus p b)) (hl .class ∙ ap (λ z. times p z (mk p gx)) (hn .class))
-    (hr .class ∙ ap₂ (times p) (ht .class ∙ ap (λ z. times p z (mk p nx)) (sym (cast-mk p 2))) (hg .class)))
-    hw
+    (mk-add p s t
+    ∙ ap₂ (plus p) (ap (mk p) es ∙ mk-mul p (n .slope) (g .value))
+    (ap (mk p) et ∙ mk-mul p (2 * (p - n .value)) (g .slope)
+    ∙ ap (λ z. times p z (mk p (g .slope))) (mk-mul p 2 (p - n .value) ∙ ap₂ (times p) (sym (cast-mk p 2)) opposite)
+    ∙ solve3 (Zmod p) (λ a b c. a :* (:- b) :* c) (λ a b c. :- (a :* b :* c)) tt (cast (Zmod p) 2) (mk p (n .value)) (mk p (g .slope))))
+    h
+  where
+    opposite : mk p (p - n .value) ≡ minus p (mk p (n .value))
+    opposite = ap (mk p) (omega arith) ∙ mk-sub {p = p} (omega arith) 0 (n .value) (omega arith) ∙ Ring.zero-add (Zmod p) _
 
 -- ── the image
 
@@ -82,41 +92,41 @@ module _ (v : Values) (ready : Ready v) (g n : List ℕ) (g-length : length g �
   at : ℕ → Seq (Zmod p) → Elt p
   at k a = value (Zmod p) k a (mk p x)
 
-  pub to-infinity : {gx : ℕ} → Residue p (value (Zmod p) (length g) (poly p g) (mk p x)) gx → gx ≡ 0 → Pushed v g n x y image.Infinity
-  unfolding at
-  to-infinity hg e = ap (λ k. at k (poly p g)) (sym g-long) ∙ sym (hg .class) ∙ ap (mk p) e
+  module _ (gx : Jet) (hg : JetOf p g (mk p x) gx) where
+    pub to-infinity : gx .value ≡ 0 → Pushed v g n x y image.Infinity
+    unfolding at
+    to-infinity e = ap (λ k. at k (poly p g)) (sym g-long) ∙ sym (hg .value-is .class) ∙ ap (mk p) e
 
-  -- i is the inverse of g(x), s and c its square and cube
-  pub to-point : {gx nx w i s c u t r : ℕ} → (gx ≡ 0 → ⊥) → Residue p (value (Zmod p) (length g) (poly p g) (mk p x)) gx
-      → Residue p (value (Zmod p) (length n) (poly p n) (mk p x)) nx
-      → Residue p (slopeOf p g n (mk p gx) (mk p nx) (mk p x)) w
-      → InverseOf p gx i → Residue p (times p (mk p i) (mk p i)) s → Residue p (times p (mk p s) (mk p i)) c
-      → Residue p (times p (mk p nx) (mk p s)) u → Residue p (times p (mk p w) (mk p c)) t → Residue p (times p (mk p y) (mk p t)) r
-      → ToPoint v g n x y u r
-  unfolding at
-  to-point {gx} {nx} {w} {i} {s} {c} {u} {t} {r} nonzero hg hn hw hi hs hc hu ht hr =
-      let G : mk p gx ≡ g-at (Zmod p) (question v) (poly p g) (mk p x) = hg .class ∙ ap (λ k. at k (poly p g)) g-long in
-      let M : mk p nx ≡ N-at (Zmod p) (question v) (poly p n) (mk p x) = hn .class ∙ ap (λ k. at k (poly p n)) n-long in
-      let W : mk p w ≡ W-at (Zmod p) (question v) (poly p g) (poly p n) (mk p x) =
-      hw .class
-      ∙ ap₂ (λ a b. plus p a (minus p b)) (ap₂ (times p) (ap (λ k. at k (∂ (Zmod p) (poly p n))) n-long) G)
-      (ap₂ (times p) (ap (times p (cast (Zmod p) 2)) M) (ap (λ k. at k (∂ (Zmod p) (poly p g))) g-long))
-      ∙ sym (W-at-is (ready .prime .prime) (question v) (poly p g) (poly p n) (subst (λ k. Below (Zmod p) k (poly p g)) g-long (poly-past p g))
-      (subst (λ k. Below (Zmod p) k (poly p n)) n-long (poly-past p n)) (mk p x)) in
-      record {
-        u-below = hu .below;
-        w-below = hr .below;
-        image = record {
-          defined = λ e. not-zero hg nonzero (ap (λ k. at k (poly p g)) g-long ∙ e);
-          abscissa =
-              ap₂ (λ a b. times p a (pow (Zmod p) b 2)) (hu .class ∙ ap (times p (mk p nx)) (hs .class)) (sym G)
-              ∙ quotient-square (Zmod p) (mk p gx) (mk p i) (hi .unit) (mk p nx) ∙ M;
-          ordinate =
-              ap₂ (λ a b. times p a (pow (Zmod p) b 3))
-              (hr .class ∙ ap (times p (mk p y)) (ht .class ∙ ap (times p (mk p w)) (hc .class ∙ ap (λ z. times p z (mk p i)) (hs .class)))) (sym G)
-              ∙ quotient-cube (Zmod p) (mk p gx) (mk p i) (hi .unit) (mk p y) (mk p w) ∙ ap (times p (mk p y)) W;
-        };
-      }
+    -- w is y(N′g − 2Ng′) there, i the inverse of g(x), s its square
+    pub to-point : (nx : Jet) {d w i s u t r : ℕ} → (gx .value ≡ 0 → ⊥) → JetOf p n (mk p x) nx → Residue p (slopeOf p gx nx) d
+        → Residue p (times p (mk p y) (mk p d)) w → InverseOf p (gx .value) i → Residue p (times p (mk p i) (mk p i)) s
+        → Residue p (times p (mk p (nx .value)) (mk p s)) u → Residue p (times p (mk p w) (mk p i)) t → Residue p (times p (mk p t) (mk p s)) r
+        → ToPoint v g n x y u r
+    unfolding at
+    to-point nx {d} {w} {i} {s} {u} {t} {r} nonzero hn hd hw hi hs hu ht hr =
+        let G : mk p (gx .value) ≡ g-at (Zmod p) (question v) (poly p g) (mk p x) = hg .value-is .class ∙ ap (λ k. at k (poly p g)) g-long in
+        let M : mk p (nx .value) ≡ N-at (Zmod p) (question v) (poly p n) (mk p x) = hn .value-is .class ∙ ap (λ k. at k (poly p n)) n-long in
+        let W : mk p d ≡ W-at (Zmod p) (question v) (poly p g) (poly p n) (mk p x) =
+        hd .class
+        ∙ ap₂ (λ a b. plus p a (minus p b))
+        (ap₂ (times p) (hn .slope-is .class ∙ ap (λ k. at k (∂ (Zmod p) (poly p n))) n-long) G)
+        (ap₂ (times p) (ap (times p (cast (Zmod p) 2)) M) (hg .slope-is .class ∙ ap (λ k. at k (∂ (Zmod p) (poly p g))) g-long))
+        ∙ sym (W-at-is (ready .prime .prime) (question v) (poly p g) (poly p n) (subst (λ k. Below (Zmod p) k (poly p g)) g-long (poly-past p g))
+        (subst (λ k. Below (Zmod p) k (poly p n)) n-long (poly-past p n)) (mk p x)) in
+        record {
+          u-below = hu .below;
+          w-below = hr .below;
+          image = record {
+            defined = λ e. not-zero (hg .value-is) nonzero (ap (λ k. at k (poly p g)) g-long ∙ e);
+            abscissa =
+                ap₂ (λ a b. times p a (pow (Zmod p) b 2)) (hu .class ∙ ap (times p (mk p (nx .value))) (hs .class)) (sym G)
+                ∙ quotient-square (Zmod p) (mk p (gx .value)) (mk p i) (hi .unit) (mk p (nx .value)) ∙ M;
+            ordinate =
+                ap₂ (λ a b. times p a (pow (Zmod p) b 3))
+                (hr .class ∙ ap₂ (times p) (ht .class ∙ ap (λ z. times p z (mk p i)) (hw .class)) (hs .class)) (sym G)
+                ∙ quotient-cube (Zmod p) (mk p (gx .value)) (mk p i) (hi .unit) (mk p y) (mk p d) ∙ ap (times p (mk p y)) W;
+          };
+        }
 
 -- ── the answer
 
@@ -155,11 +165,11 @@ module _ (ws : List ℕ) (v : Values) (e : v ≡ valuesOf Certificate ws) where
     accepted : AllYes (asked Certificate ws)
     accepted = all-front (asked Certificate ws) (rules-ask (valuesOf Certificate ws) (gOf Certificate ws) (nOf Certificate ws)) all
 
-    pub g-count : length g ≡ half v + 1
-    g-count = ap length g-is ∙ certificate-g ws accepted .count ∙ ap (λ v. half v + 1) (sym e)
+    pub g-holds : HoldsG v g
+    g-holds = subst (λ v. HoldsG v g) (sym e) (subst (HoldsG (valuesOf Certificate ws)) (sym g-is) (certificate-g ws accepted))
 
-    pub n-count : length n ≡ 2 * half v + 2
-    n-count = ap length n-is ∙ certificate-n ws accepted .count ∙ ap (λ v. 2 * half v + 2) (sym e)
+    pub n-holds : HoldsN v n
+    n-holds = subst (λ v. HoldsN v n) (sym e) (subst (HoldsN (valuesOf Certificate ws)) (sym n-is) (certificate-n ws accepted))
 
     pub of-sheet : (x y : ℕ) (r : Image) → Pushed v g n x y r → Pushed (valuesOf Certificate ws) (gOf Certificate ws) (nOf Certificate ws) x y r
     of-sheet x y r h =

@@ -1,4 +1,5 @@
 // Question 12, and the image of a point of the domain under the g and N of a certificate.
+use evaluation::Jet;
 use promises::Image;
 use promises::Point;
 use sheet::Reading;
@@ -6,15 +7,15 @@ use sheet::Values;
 ghost use mathlib.Core.Path.{_≡_};
 ghost use mathlib.Core.Bool.{true};
 ghost use mathlib.Core.Logic.{_↔_};
-ghost use Prim.Native.Nat.{_+_, _*_, _^_, _<_, _≤_};
+ghost use Prim.Native.Nat.{_+_, _^_, _<_, _≤_, min};
 ghost use lib.ListN.{length};
 ghost use Rattle.ring.specs.Ring.{pow};
 ghost use Rattle.zmod.specs.Zmod.{Zmod, mk, plus, times};
 ghost use Rattle.zmod.specs.Residues.{Residue};
 ghost use Rattle.questions.specs.Questions.{AllYes};
 ghost use Rattle.sheet.specs.declared.Form.the-variants.{Certificate};
-ghost use Rattle.sheet.specs.Values.{valuesOf, half, gOf, nOf};
-ghost use Rattle.sheet.specs.Ready.{Ready};
+ghost use Rattle.sheet.specs.Values.{valuesOf, gOf, nOf};
+ghost use Rattle.sheet.specs.Ready.{Ready, HoldsG, HoldsN};
 ghost use Rattle.promises.specs.Asked.{OnDomain, check-asks};
 ghost use Rattle.promises.specs.Answer.{PushRight};
 ghost use Rattle.pushing.specs.Pushed.{slopeOf, Pushed};
@@ -44,36 +45,55 @@ fn within(v: Values, x: u32, y: u32) -> bool
     field::multiply(y, y, p) == cubic(v.a, v.b, x, p)
 }
 
-// N′(x) g(x) - 2 N(x) g′(x), from the values of g and N at x.
-fn slope(g: &[u32], n: &[u32], gx: u32, nx: u32, x: u32, p: u32) -> u32
-    requires { ⌜ (0 < p) × (p ≤ 2 ^ 28) × (length (now g) ≤ 2 ^ 32) × (length (now n) ≤ 2 ^ 32) ⌝ }
-    ensures { λ r. ⌜ Residue p (slopeOf p (now (g .entry)) (now (n .entry)) (mk p gx) (mk p nx) (mk p x)) r ⌝ }
+// N′g − 2Ng′ at a point, from g, g′, N and N′ there.
+fn slope(g: Jet, n: Jet, p: u32) -> u32
+    requires { ⌜ (p ≤ 2 ^ 28) × (g .value < p) × (g .slope < p) × (n .value < p) × (n .slope < p) ⌝ }
+    ensures { λ r. ⌜ Residue p (slopeOf p g n) r ⌝ }
 {
-    let left = field::multiply(poly::evaluate_derivative(n, x, p), gx, p);
-    let twice = field::multiply(2, nx, p);
-    let right = field::multiply(twice, poly::evaluate_derivative(g, x, p), p);
-    field::subtract(left, right, p)
+    let minus = 2 * (p - n.value);
+    field::reduce(
+        field::product(n.slope, g.value) + field::product(minus, g.slope),
+        p,
+    )
 }
 
-// Where the point (x, y) goes: one inverse serves for both quotients.
-fn image(v: Values, g: &[u32], n: &[u32], x: u32, y: u32) -> Image
-    requires { ⌜ Ready v ⌝ }
-    requires { ⌜ (length (now g) ≡ half v + 1) × (length (now n) ≡ 2 * half v + 2) ⌝ }
+// Where the point (x, y) goes, in room for the tables of x: one inverse serves for both quotients.
+fn image_in(
+    v: Values,
+    g: &[u32],
+    n: &[u32],
+    x: u32,
+    y: u32,
+    powers: &mut [u32],
+    slopes: &mut [u32],
+) -> Image
+    requires { ⌜ (Ready v) × (HoldsG v (now g)) × (HoldsN v (now n)) × (x < v .p) ⌝ }
+    requires { ⌜ (length (now powers) ≡ min (length (now n)) 16 + 1) × (length (now slopes) ≡ min (length (now n)) 16 + 1) ⌝ }
     ensures { λ r. ⌜ Pushed v (now (g .entry)) (now (n .entry)) x y r ⌝ }
 {
     let p = v.p;
-    let gx = poly::evaluate(g, x, p);
-    if gx == 0 {
+    evaluation::tables(x, powers, slopes, p);
+    let gx = evaluation::evaluate(g, powers, slopes, p);
+    if gx.value == 0 {
         return Image::Infinity;
     }
-    let nx = poly::evaluate(n, x, p);
-    let w = slope(g, n, gx, nx, x, p);
-    let i = field::inverse(gx, p);
+    let nx = evaluation::evaluate(n, powers, slopes, p);
+    let w = field::multiply(y, slope(gx, nx, p), p);
+    let i = field::inverse(gx.value, p);
     let square = field::multiply(i, i, p);
-    let cube = field::multiply(square, i, p);
-    let u = field::multiply(nx, square, p);
-    let t = field::multiply(w, cube, p);
-    Image::Affine(u, field::multiply(y, t, p))
+    let u = field::multiply(nx.value, square, p);
+    let t = field::multiply(w, i, p);
+    Image::Affine(u, field::multiply(t, square, p))
+}
+
+fn image(v: Values, g: &[u32], n: &[u32], x: u32, y: u32) -> Image
+    requires { ⌜ (Ready v) × (HoldsG v (now g)) × (HoldsN v (now n)) × (x < v .p) ⌝ }
+    ensures { λ r. ⌜ Pushed v (now (g .entry)) (now (n .entry)) x y r ⌝ }
+{
+    let mut powers = [0u32; 17];
+    let mut slopes = [0u32; 17];
+    let k = evaluation::count(n.len());
+    image_in(v, g, n, x, y, &mut powers[..k], &mut slopes[..k])
 }
 
 // Question 12 and the image, for a certificate that passes, with its coefficients.

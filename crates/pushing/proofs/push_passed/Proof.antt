@@ -3,7 +3,7 @@ use borrow.Author.Needs.{needs}
 use mathlib.Core.Path.{sym, subst}
 use Rattle.questions.specs.Tests.{was-no, was-yes}
 use Rattle.promises.specs.Asked.{OnDomain}
-use Rattle.pushing.proofs.Images.{infinity, off, pushed, ready-of, g-count, n-count, of-sheet}
+use Rattle.pushing.proofs.Images.{infinity, off, pushed, ready-of, g-holds, n-holds, of-sheet}
 use Rattle.pushing.proofs.push_passed.Statement.{statement}
 use Rattle.pushing.proofs.push_passed.Tie as tie
 
@@ -21,15 +21,16 @@ within-requires c κs = let s = start c in ready-of (s .args .ws .now) (s .args 
 
 image-requires : tie.Need-image-requires
 image-requires c κs =
-    let s = start (c .before .before) in
+    let within = c .before in
+    let known = within .before in
+    let s = start known in
     let a = s .args in
     let all = s .pre .0 .0 in
     let e = s .pre .0 .1 in (
       ready-of (a .ws .now) (a .v) e all,
-      (
-        g-count (a .ws .now) (a .v) e all (a .g .now) (a .n .now) (s .pre .1 .0) (s .pre .1 .1),
-        n-count (a .ws .now) (a .v) e all (a .g .now) (a .n .now) (s .pre .1 .0) (s .pre .1 .1),
-      ),
+      g-holds (a .ws .now) (a .v) e all (a .g .now) (a .n .now) (s .pre .1 .0) (s .pre .1 .1),
+      n-holds (a .ws .now) (a .v) e all (a .g .now) (a .n .now) (s .pre .1 .0) (s .pre .1 .1),
+      was-yes (within .within .ensures) (c .if1 .taken) .x-below,
     )
 
 returns : tie.Need-returns

@@ -1,43 +1,53 @@
 -- `pushing::slope` meets its contract. Assumes nothing.
+use Prim.Native.Nat.{_*_, _-_}
+use native.Mathlib.Nat.{mul-le-mul}
+use native.Mathlib.Omega.{arith}
 use borrow.Author.Needs.{needs}
 use Rattle.pushing.proofs.Images.{slope-is}
 use Rattle.pushing.proofs.slope.Statement.{statement}
 use Rattle.pushing.proofs.slope.Tie as tie
 
-evaluate-derivative-requires : tie.Need-evaluate-derivative-requires
-evaluate-derivative-requires c κs = search needs
+sub-minus : tie.Need-sub-minus
+sub-minus c = search needs
 
-multiply-requires : tie.Need-multiply-requires
-multiply-requires c κs = search needs
+mul-minus : tie.Need-mul-minus
+mul-minus c = search needs
 
-multiply-requires-2 : tie.Need-multiply-requires-2
-multiply-requires-2 c κs = search needs
+product-requires : tie.Need-product-requires
+product-requires c κs = search needs
 
-evaluate-derivative-requires-2 : tie.Need-evaluate-derivative-requires-2
-evaluate-derivative-requires-2 c κs = search needs
+product-requires-2 : tie.Need-product-requires-2
+product-requires-2 c κs = search needs
 
-multiply-requires-3 : tie.Need-multiply-requires-3
-multiply-requires-3 c κs = search needs
+add-reduce : tie.Need-add-reduce
+add-reduce c =
+    let at = c .before .before .before .args in
+    omega (
+      arith,
+      c .before .product .ensures,
+      c .product2 .ensures,
+      mul-le-mul {n₁ = at .n .slope} {m₁ = at .g .value} {n₂ = 268435456} {m₂ = 268435456} (omega arith) (omega arith),
+      mul-le-mul {n₁ = 2 * (at .p - at .n .value)} {m₁ = at .g .slope} {n₂ = 536870912} {m₂ = 268435456} (omega arith) (omega arith),
+    )
 
-subtract-requires : tie.Need-subtract-requires
-subtract-requires c κs = search needs
+reduce-requires : tie.Need-reduce-requires
+reduce-requires c κs = search needs
 
 returns : tie.Need-returns
 returns c =
-    let left = c .before .before .before .before in
-    let start = left .before .before .before .before in
-    slope-is (start .args .p) (start .args .gx) (start .args .nx) _ _ (left .before .evaluate-derivative .ensures)
-    (c .before .before .evaluate-derivative2 .ensures)
-    (left .multiply .ensures) (c .before .before .before .multiply2 .ensures) (c .before .multiply3 .ensures) (c .subtract .ensures)
+    let first = c .before .before in
+    let start = first .before .before in
+    slope-is (start .args .p) (start .args .g) (start .args .n) (first .product .result) (c .before .product2 .result) (omega (arith, start .pre))
+    (first .product .ensures) (c .before .product2 .ensures) (c .reduce .ensures)
 
 pub slope-spec : {M : Type 1} → statement M
 slope-spec =
     tie.close
     (tie.spec
-    evaluate-derivative-requires
-    multiply-requires
-    multiply-requires-2
-    evaluate-derivative-requires-2
-    multiply-requires-3
-    subtract-requires
+    sub-minus
+    mul-minus
+    product-requires
+    product-requires-2
+    add-reduce
+    reduce-requires
     returns)
