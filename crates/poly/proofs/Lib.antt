@@ -1,4 +1,3 @@
 pub mod Sums
-pub mod Horner
 pub mod Twins
 pub mod Laws

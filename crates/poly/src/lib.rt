@@ -8,7 +8,6 @@ ghost use mathlib.Core.Bool.{true};
 ghost use Prim.Native.Nat.{ℕ, _+_, _-_, _*_, _^_, _<_, _≤_, min, max};
 ghost use lib.ListN.{length, getD, replicate};
 ghost use Rattle.series.specs.Series.{conv, sums, negs, scaled, ∂};
-ghost use Rattle.series.specs.Value.{value};
 ghost use Rattle.zmod.specs.Zmod.{Zmod, mk, plus, times};
 ghost use Rattle.zmod.specs.Residues.{Residue, Reduced, poly, Residues};
 ghost use Rattle.barrett.specs.Modulus.{Prepared};
@@ -220,34 +219,6 @@ pub fn derivative(a: &[u32], out: &mut [u32], p: u32)
         out[k] = derivative_coefficient(a, k, p);
         k += 1;
     }
-}
-
-// a(x), by Horner's rule.
-pub fn evaluate(a: &[u32], x: u32, p: u32) -> u32
-    requires { ⌜ 0 < p ⌝ }
-    ensures { λ r. ⌜ Residue p (value (Zmod p) (length (now (a .entry))) (poly p (now (a .entry))) (mk p x)) r ⌝ }
-{
-    let mut r = 0;
-    let mut i = a.len();
-    while i > 0 {
-        i -= 1;
-        r = plus_multiple(a[i], x, r, p);
-    }
-    r
-}
-
-// a′(x)
-pub fn evaluate_derivative(a: &[u32], x: u32, p: u32) -> u32
-    requires { ⌜ (0 < p) × (length (now a) ≤ 2 ^ 32) ⌝ }
-    ensures { λ r. ⌜ Residue p (value (Zmod p) (length (now (a .entry))) (∂ (Zmod p) (poly p (now (a .entry)))) (mk p x)) r ⌝ }
-{
-    let mut r = 0;
-    let mut i = a.len();
-    while i > 0 {
-        i -= 1;
-        r = plus_multiple(derivative_coefficient(a, i, p), x, r, p);
-    }
-    r
 }
 
 // Do two slices of residues stand for the same polynomial, whatever their lengths?
