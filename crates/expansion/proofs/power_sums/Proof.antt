@@ -1,12 +1,16 @@
 -- `expansion::power_sums` meets its contract. Assumes nothing.
-use mathlib.Core.Path.{_≡_, _∙_}
-use Prim.Native.Nat.{_-_}
+use mathlib.Core.Path.{_≡_, sym, _∙_, ap, subst}
+use Prim.Native.Nat.{_-_, _*_}
 use native.Mathlib.Omega.{arith}
 use borrow.Author.Needs.{needs}
-use lib.ListN.{length, length-set}
-use Rattle.zmod.specs.Zmod.{Zmod}
-use Rattle.zmod.specs.Residues.{poly}
+use lib.ListN.{length, set, length-set}
+use Rattle.zmod.specs.Zmod.{Zmod, mk}
+use Rattle.zmod.specs.Residues.{Residue, poly}
+use Rattle.isogeny.specs.Expansion.{power-sums}
+use Rattle.isogeny.specs.Proof.Sums.{sums-step}
 use Rattle.sheet.specs.Values.{half}
+use Rattle.expansion.specs.Equations.{Newton}
+use Rattle.expansion.specs.Stores.{solved-all}
 use Rattle.expansion.specs.Sums.{backwards-reduced, backwards-negated, weights-low, known-first}
 use Rattle.expansion.proofs.power_sums.Statement.{statement}
 use Rattle.expansion.proofs.power_sums.Tie as tie
@@ -71,15 +75,20 @@ returns c =
     let holds = start .pre .0 .1 in
     let back = c .before .before .before .before .before .before .before .before .before .before .before .before .before .before .before .before .before .before .negated in
     let G = poly p (a .g .now) in
-    let n = backwards-negated p (half (a .v)) (a .g .now) (back .last .1 .0) (search needs) (holds .count) (back .ensures) in
-    let d : length (a .g .now) - 1 ≡ half (a .v) = omega (arith, holds .count) in
+    let d = length (a .g .now) - 1 in
+    let half-is : d ≡ half (a .v) = omega (arith, holds .count) in
+    let n = backwards-negated p d (a .g .now) (back .last .1 .0) (search needs) (omega (arith, holds .count)) (back .ensures) in
     let s = c .before .before .before .before .sums-turns .last .1 .1 .1 .0 in
-    let turns = c .before .before .before .before .sums-turns .ensures in
-    let first = c .before .before .before .before .before .before .before .before .reduce .ensures in
-    let known = ? in
+    let r = c .before .before .before .before .before .before .before .before .reduce in
+    let degree : c .before .before .before .before .before .before .before .before .before .wide .result ≡ 2 * d = omega (arith, c .before .before .before .before .before .before .before .before .before .wide .ensures, holds .count, ready .degree) in
+    let first : Residue p (mk p (2 * d)) (r .result) = subst (λ n. Residue p (mk p n) (r .result)) degree (r .ensures) in
+    let known = c .before .before .before .before .sums-turns .ensures G n
+    (known-first p d G (back .last .1 .0) (c .before .before .before .before .before .before .before .before .before .before .before .before .before .weights .last .1 .1 .0) (a .s .now) (r .result) (omega (arith, start .pre .1)) n (c .before .before .before .before .before .before .before .before .before .before .before .before .before .weights .ensures) first)
+    in
+    let size : length (set (a .s .now) 0 (r .result)) ≡ length s = sym (c .before .before .before .before .sums-turns .kept .1 .1 .1 .0) in
     record {
-      reduced = ?;
-      coefficients = ?;
+      reduced = solved-all p (Newton (Zmod p) d G) (search needs) s _ (omega (arith, size)) (known .solved);
+      coefficients = λ i l. sums-step (Zmod p) d G (poly p s) _ (known .solved .equations) i (omega (arith, size)) ∙ ap (λ m. power-sums (Zmod p) m G i) half-is;
     }
 
 pub power-sums-spec : {M : Type 1} → statement M
