@@ -3,10 +3,15 @@
 use mathlib.Core.Path.{_≡_, refl, _∙_, ap, ap₂}
 use Prim.Native.Nat.{ℕ, zero, suc, _+_, _*_, _-_, _≤_, _<_}
 use native.Mathlib.Omega.{arith}
+use mathlib.Core.List.{List}
+use lib.ListN.{length, getD, take, drop}
 use Rattle.ring.specs.Ring
 use Rattle.ring.specs.Ring.{CRing, cast}
 use Rattle.series.specs.Series.{Seq, conv, sum, conv-sum, sum-suc, sum-same}
 use Rattle.series.specs.Reversal.{rev}
+use Rattle.zmod.specs.Zmod.{Zmod, times}
+use Rattle.zmod.specs.Residues.{Residue, poly, Residues, residue-same, residues-at}
+use Rattle.expansion.specs.Parts.{part-at}
 use Rattle.isogeny.specs.Expansion.{sum-to, newton-step, expansion, from-sums}
 
 module _ (R : CRing) where
@@ -52,3 +57,16 @@ module _ (R : CRing) where
   pub expansion-above : (A B : Car) (s : Seq R) (i : ℕ) → 1 ≤ i → expansion R A B s i ≡ from-sums R A B s i
   expansion-above A B s zero l = absurd (omega arith)
   expansion-above A B s (suc i) l = refl
+
+-- ── words
+
+-- the residues of the sums of h_i h_(k − 1 − i), i from 1 to k − 2, from k = 3 on
+abbrev pub Squares : ℕ → List ℕ → List ℕ → Type 0
+Squares p h xs = (k : ℕ) → 3 ≤ k → k < length h
+    → Residue p (sum-to (Zmod p) (λ i. times p (poly p h i) (poly p h (k - 1 - i))) (k - 2)) (getD xs (k - 3) 0)
+
+-- they are the square of h without h₀
+pub squares-of : (p : ℕ) (h xs : List ℕ) (n : ℕ) → n ≡ length h - 1 → length h ≤ length xs + 3
+    → Residues p (conv (Zmod p) (poly p (take n (drop 1 h))) (poly p (take n (drop 1 h)))) xs → Squares p h xs
+squares-of p h xs n size long r k l m =
+    residue-same (square-part (Zmod p) (poly p h) (poly p (take n (drop 1 h))) k l (λ i q. part-at p h 1 n i (omega arith))) (residues-at r (k - 3) (omega arith))

@@ -1,4 +1,5 @@
 // The expansion at infinity over ℤ/p, on slices of residues: the power sums of a polynomial, the expansion from them, and document 01's recurrence.
+use barrett::Modulus;
 use sheet::Values;
 ghost use mathlib.Core.Path.{_≡_};
 ghost use mathlib.Core.Logic.{_↔_};
@@ -12,7 +13,9 @@ ghost use Rattle.zmod.specs.Residues.{Residue, Reduced, poly, Residues};
 ghost use Rattle.isogeny.specs.Expansion.{expansion as expansion-of, power-sums, recurrence as recurrence-of, Recurs, sum-to};
 ghost use Rattle.sheet.specs.Values.{half, question};
 ghost use Rattle.sheet.specs.Ready.{Ready, HoldsG};
+ghost use Rattle.expansion.specs.Products.{Squares};
 ghost use Rattle.expansion.specs.Multiple.{Multiple};
+ghost use Rattle.barrett.specs.Modulus.{Prepared};
 ghost use Rattle.rows.specs.Rows.{Four};
 ghost use Rattle.expansion.specs.Equations.{ReducedTo};
 ghost use Rattle.expansion.specs.Sums.{Negated, Backwards, Weights, most-due, Known};
@@ -224,23 +227,25 @@ pub fn recurrence(v: Values, h: &[u32], k: usize) -> u32
 
 // (k - 2)(2k + 3)h_k is the recurrence's right side, where y = (2k - 3)A and z = (2k - 6)B: all on one side, (k - 2)((2k + 3)h_k + y h_(k-2) + z h_(k-3))
 // less 3·(the sum) is 0.
-fn recurs_at(v: Values, h: &[u32], k: usize, y: u32, z: u32) -> bool
+fn recurs_at(v: Values, h: &[u32], squares: &[u32], k: usize, y: u32, z: u32) -> bool
     requires { ⌜ Ready v ⌝ }
     requires { ⌜ (3 ≤ k) × (k < length (now h)) × (length (now h) ≤ 1024) × Reduced (v .p) (now h) ⌝ }
+    requires { ⌜ (length (now h) ≤ length (now squares) + 3) × Squares (v .p) (now h) (now squares) ⌝ }
     requires { ⌜ (Multiple (v .p) (2 * k - 3) (question v .A) y) × (Multiple (v .p) (2 * k - 6) (question v .B) z) ⌝ }
     ensures { λ r. ⌜ (r ≡ true) ↔ Recurs (Zmod (v .p)) (question v .A) (question v .B) (poly (v .p) (now (h .entry))) k ⌝ }
 {
     let p = v.p;
     let n = k as u32;
     let u = weighted(2 * n + 3, h[k], y, h[k - 2], z, h[k - 3], p);
-    let x = field::negate(square_sum(h, k, p), p);
+    let x = field::negate(squares[k - 3], p);
     weighted(n - 2, u, 3, x, 0, 0, p) == 0
 }
 
-// Does h obey the recurrence wherever it can be read off its words?
-pub fn recurs(v: Values, h: &[u32]) -> bool
+// The same wherever it can be read off h's words.
+fn recurs_by(v: Values, h: &[u32], squares: &[u32]) -> bool
     requires { ⌜ Ready v ⌝ }
     requires { ⌜ (length (now h) ≤ 1024) × Reduced (v .p) (now h) ⌝ }
+    requires { ⌜ (length (now h) ≤ length (now squares) + 3) × Squares (v .p) (now h) (now squares) ⌝ }
     ensures { λ r. ⌜ (r ≡ true) ↔ ((k : ℕ) → 3 ≤ k → k < length (now (h .entry)) →
         Recurs (Zmod (v .p)) (question v .A) (question v .B) (poly (v .p) (now (h .entry))) k) ⌝ }
 {
@@ -251,7 +256,7 @@ pub fn recurs(v: Values, h: &[u32]) -> bool
     let mut y = field::multiply(3, v.a, p);
     let mut z = 0;
     while k < h.len() {
-        if !recurs_at(v, h, k, y, z) {
+        if !recurs_at(v, h, squares, k, y, z) {
             return false;
         }
         y = field::add(y, a, p);
@@ -259,4 +264,16 @@ pub fn recurs(v: Values, h: &[u32]) -> bool
         k += 1;
     }
     true
+}
+
+// Does h obey the recurrence wherever it can be read off its words? All its sums are those of one square; e, acc and squares are its room.
+pub fn recurs(v: Values, m: Modulus, h: &[u32], e: &mut [u64], acc: &mut [u64], squares: &mut [u32]) -> bool
+    requires { ⌜ (Ready v) × (Prepared m) × (m .p ≡ v .p) ⌝ }
+    requires { ⌜ (3 ≤ length (now h)) × (length (now h) ≤ 256) × Reduced (v .p) (now h) ⌝ }
+    requires { ⌜ (length (now squares) ≡ length (now h) - 3) × (length (now acc) ≡ length (now squares)) × (length (now h) + 5 ≤ length (now e)) ⌝ }
+    ensures { λ r. ⌜ (r ≡ true) ↔ ((k : ℕ) → 3 ≤ k → k < length (now (h .entry)) →
+        Recurs (Zmod (v .p)) (question v .A) (question v .B) (poly (v .p) (now (h .entry))) k) ⌝ }
+{
+    poly::square(&h[1..], e, acc, squares, m);
+    recurs_by(v, h, squares)
 }

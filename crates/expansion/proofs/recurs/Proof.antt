@@ -1,114 +1,61 @@
--- `expansion::recurs` meets its contract. The invariant: the recurrence holds before k, and y and z are the multiples of A and B for k. Assumes nothing.
-use mathlib.Core.Bool.{true, false, false≢true}
-use mathlib.Core.Path.{refl, sym, _∙_}
-use Prim.Native.Nat.{ℕ, _+_, _-_, _*_, _≤_, _<_}
+-- `expansion::recurs` meets its contract. Assumes nothing.
+use mathlib.Core.Path.{_≡_, sym, subst}
+use Prim.Native.Nat.{_-_}
 use native.Mathlib.Omega.{arith}
-use lib.ListN.{length}
-use borrow.Author.Tests.{not-true, not-false}
 use borrow.Author.Needs.{needs}
-use borrow.Author.Count.{below-more}
+use lib.ListN.{length, take, drop, length-take, length-drop}
+use Rattle.slices.specs.Stored.{part-below}
+use Rattle.series.specs.Series.{conv}
 use Rattle.zmod.specs.Zmod.{Zmod}
-use Rattle.sheet.specs.Values.{question}
-use Rattle.zmod.specs.Residues.{poly}
-use Rattle.isogeny.specs.Expansion.{Recurs}
-use Rattle.expansion.specs.Multiple.{Multiple}
-use Rattle.expansion.proofs.Turns.{none, thrice, two-more}
+use Rattle.zmod.specs.Residues.{Reduced, poly, Residues}
+use Rattle.rows.specs.Room.{turns-fit}
+use Rattle.expansion.specs.Products.{squares-of}
 use Rattle.expansion.proofs.recurs.Statement.{statement}
 use Rattle.expansion.proofs.recurs.Tie as tie
 
-abbrev Inv-loop : tie.InvT-loop
-Inv-loop v h p a b k₀ y₀ z₀ k y z =
-    (3 ≤ k) × ((j : ℕ) → j < k → 3 ≤ j → Recurs (Zmod (v .p)) (question v .A) (question v .B) (poly (v .p) h) j)
-    × (Multiple (v .p) (2 * k - 3) (question v .A) y) × Multiple (v .p) (2 * k - 6) (question v .B) z
+sub-square : tie.Need-sub-square
+sub-square c = search needs
 
-abbrev μ-loop : tie.MeasureT-loop
-μ-loop v h p a b k₀ y₀ z₀ k y z = length h - k
+part-square-start : tie.Need-part-square-start
+part-square-start c = search needs
 
-add-requires : tie.Need-add-requires Inv-loop μ-loop
-add-requires c κs = search needs
+part-square-end : tie.Need-part-square-end
+part-square-end c = search needs
 
-add-requires-2 : tie.Need-add-requires-2 Inv-loop μ-loop
-add-requires-2 c κs = search needs
+square-requires : tie.Need-square-requires
+square-requires c κs =
+    let start = c .before .before .before .before .before .before .before .before in
+    let a = start .args in
+    let over = start .pre .0 in
+    let sizes = start .pre .1 in
+    ((over .1, subst (λ p. Reduced p (take (length (a .h .now) - 1) (drop 1 (a .h .now)))) (sym (over .2))
+    (part-below (a .h .now) 1 (length (a .h .now) - 1) (a .v .p) (search needs) (sizes .0 .2)),
+    turns-fit _ _ _ (omega (arith, over .2, over .0 .prime)) (omega (arith, sizes, length-take (length (a .h .now) - 1) (drop 1 (a .h .now)), length-drop 1 (a .h .now)))),
+    (omega (arith, sizes), omega (arith, sizes, length-take (length (a .h .now) - 1) (drop 1 (a .h .now)), length-drop 1 (a .h .now)),
+    omega (arith, sizes, length-take (length (a .h .now) - 1) (drop 1 (a .h .now)), length-drop 1 (a .h .now))))
 
-multiply-requires : tie.Need-multiply-requires Inv-loop μ-loop
-multiply-requires c κs = search needs
+recurs-by-requires : tie.Need-recurs-by-requires
+recurs-by-requires c κs =
+    let start = c .before .before .before .before .before .before .before .before .before .before .before .before .before .before .before .before in
+    let a = start .args in
+    let sizes = start .pre .1 in
+    let square = c .before .before .before .before .before .before .before .square in
+    (start .pre .0 .0, ((omega (arith, sizes), sizes .0 .2), (omega (arith, sizes, square .kept),
+    squares-of (a .v .p) (a .h .now) (square .last .1 .1 .1 .0) (length (a .h .now) - 1) (omega arith) (omega (arith, sizes, square .kept))
+    (subst (λ p. Residues p (conv (Zmod p) (poly p (take (length (a .h .now) - 1) (drop 1 (a .h .now)))) (poly p (take (length (a .h .now) - 1) (drop 1 (a .h .now)))))
+    (square .last .1 .1 .1 .0)) (start .pre .0 .2) (square .ensures)))))
 
-loop-holds : tie.Need-loop-holds Inv-loop μ-loop
-loop-holds c =
-    let start = c .before .before .before .before in
-    let v = start .args .v in
-    (omega arith, (λ j l m. absurd (omega arith)), thrice (v .a) (c .multiply .result) (c .multiply .ensures), none (question v .B) (omega arith))
+same-length : tie.Need-same-length
+same-length c = search needs
 
-recurs-at-requires : tie.Need-recurs-at-requires Inv-loop μ-loop
-recurs-at-requires c κs =
-    let start = c .before .before .before .before .before .before in
-    let inv = c .before .loop .inv in
-    (start .pre .0, ((omega arith, omega arith, start .pre .1 .0, start .pre .1 .1), (inv .2, inv .3)))
+same-length-2 : tie.Need-same-length-2
+same-length-2 c = search needs
 
-returns : tie.Need-returns Inv-loop μ-loop
-returns c =
-    let at = c .before .before .before .loop in
-    let found = c .before .recurs-at in (
-      λ e. absurd (false≢true e),
-      λ all. absurd (false≢true (sym (not-true (found .result) (c .if1 .taken)) ∙ found .ensures .1 (all (at .k) (at .inv .0) (omega arith)))),
-    )
+same-length-3 : tie.Need-same-length-3
+same-length-3 c = search needs
 
-add-requires-3 : tie.Need-add-requires-3 Inv-loop μ-loop
-add-requires-3 c κs = (
-  omega (arith, c .before .before .before .loop .inv .2 .below),
-  omega
-      (arith, c .before .before .before .before .before .before .add .ensures .below),
-  omega arith,
-)
-
-add-requires-4 : tie.Need-add-requires-4 Inv-loop μ-loop
-add-requires-4 c κs = (
-  omega (arith, c .before .before .before .before .loop .inv .3 .below),
-  omega
-      (arith, c .before .before .before .before .before .before .add2 .ensures .below),
-  omega arith,
-)
-
-add-k : tie.Need-add-k Inv-loop μ-loop
-add-k c = search needs
-
-loop-less : tie.Need-loop-less Inv-loop μ-loop
-loop-less c = search needs
-
-loop-again : tie.Need-loop-again Inv-loop μ-loop
-loop-again c =
-    let v = c .before .before .before .before .before .before .before .before .before .before .args .v in
-    let at = c .before .before .before .before .before .loop in
-    let found = c .before .before .before .recurs-at in (
-      omega arith,
-      below-more _ _ (at .inv .1) (λ l. found .ensures .0 (not-false (found .result) (c .before .before .if1 .left))),
-      two-more (v .a) (c .before .before .before .before .before .before .before .before .add .result) (2 * at .k - 3) (2 * (at .k + 1) - 3) (at .y)
-          (c .before .add3 .result) (omega arith) (c .before .before .before .before .before .before .before .before .add .ensures) (at .inv .2)
-          (c .before .add3 .ensures),
-      two-more (v .b) (c .before .before .before .before .before .before .before .add2 .result) (2 * at .k - 6) (2 * (at .k + 1) - 6) (at .z) (c .add4 .result)
-          (omega arith) (c .before .before .before .before .before .before .before .add2 .ensures) (at .inv .3) (c .add4 .ensures),
-    )
-
-returns-2 : tie.Need-returns-2 Inv-loop μ-loop
-returns-2 c =
-    let loop = c .before .loop in
-    (λ e k l m. loop .inv .1 k (omega arith) l, λ h. refl)
+returns : tie.Need-returns
+returns c = search needs
 
 pub recurs-spec : {M : Type 1} → statement M
-recurs-spec =
-    tie.close
-    (tie.spec
-    Inv-loop
-    μ-loop
-    add-requires
-    add-requires-2
-    multiply-requires
-    loop-holds
-    recurs-at-requires
-    returns
-    add-requires-3
-    add-requires-4
-    add-k
-    loop-less
-    loop-again
-    returns-2)
+recurs-spec = tie.close (tie.spec sub-square part-square-start part-square-end square-requires recurs-by-requires same-length same-length-2 same-length-3 returns)

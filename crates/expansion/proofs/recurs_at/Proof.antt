@@ -1,6 +1,7 @@
 -- `expansion::recurs_at` meets its contract. Assumes nothing.
 use Prim.Native.Nat.{_+_, _-_, _*_}
 use native.Mathlib.Omega.{arith}
+use lib.ListN.{getD}
 use borrow.Author.Needs.{needs}
 use Rattle.sheet.specs.Values.{question}
 use Rattle.expansion.proofs.Turns.{recurs-is}
@@ -42,18 +43,24 @@ shared-slice-read-weighted-3 c = search needs
 
 weighted-requires : tie.Need-weighted-requires
 weighted-requires c κs =
-    let start = c .before .before .before .before in
+    let start = c .before .before .before .before .before in
     let low = start .pre .1 .0 .3 in
     let k = start .args .k in
     omega (arith, low k, low (k - 2), low (k - 3))
 
-square-sum-requires : tie.Need-square-sum-requires
-square-sum-requires c κs =
-    let start = c .before .before .before .before .before in
-    (omega arith, omega arith, omega arith, omega arith, omega arith, λ i l. start .pre .1 .0 .3 i)
+sub-negate : tie.Need-sub-negate
+sub-negate c = search needs
+
+mul-negate : tie.Need-mul-negate
+mul-negate c = search needs
+
+shared-slice-read-negate : tie.Need-shared-slice-read-negate
+shared-slice-read-negate c = search needs
 
 negate-requires : tie.Need-negate-requires
-negate-requires c κs = search needs
+negate-requires c κs =
+    let start = c .before .before .before .before .before .before .before in
+    start .pre .1 .1 .0 .1 (start .args .k) (start .pre .1 .0 .0) (start .pre .1 .0 .1) .below
 
 sub-weighted-3 : tie.Need-sub-weighted-3
 sub-weighted-3 c = search needs
@@ -63,12 +70,12 @@ weighted-requires-2 c κs = omega (arith, c .before .before .weighted .ensures .
 
 returns : tie.Need-returns
 returns c =
-    let start = c .before .before .before .before .before .before .before .before in
+    let start = c .before .before .before .before .before .before .before .before .before in
     let a = start .args in
-    recurs-is (a .v .p) (question (a .v) .A) (question (a .v) .B) (a .h .now) (a .k) (omega arith) (a .y) (a .z)
-    (c .before .before .before .weighted .result) (c .before .before .square-sum .result) (c .before .negate .result) (c .weighted2 .result) (omega arith)
-    (start .pre .1 .1 .0) (start .pre .1 .1 .1)
-    (c .before .before .before .weighted .ensures) (c .before .before .square-sum .ensures) (c .before .negate .ensures) (c .weighted2 .ensures)
+    let weighted = c .before .before .before .weighted in
+    recurs-is (a .v .p) (question (a .v) .A) (question (a .v) .B) (a .h .now) (a .k) (omega arith) (a .y) (a .z) (weighted .result)
+    (getD (a .squares .now) (a .k - 3) 0) (c .before .negate .result) (c .weighted2 .result) (omega arith) (start .pre .1 .1 .1 .0) (start .pre .1 .1 .1 .1)
+    (weighted .ensures) (start .pre .1 .1 .0 .1 (a .k) (start .pre .1 .0 .0) (start .pre .1 .0 .1)) (c .before .negate .ensures) (c .weighted2 .ensures)
 
 pub recurs-at-spec : {M : Type 1} → statement M
 recurs-at-spec =
@@ -86,7 +93,9 @@ recurs-at-spec =
     mul-weighted-4
     shared-slice-read-weighted-3
     weighted-requires
-    square-sum-requires
+    sub-negate
+    mul-negate
+    shared-slice-read-negate
     negate-requires
     sub-weighted-3
     weighted-requires-2

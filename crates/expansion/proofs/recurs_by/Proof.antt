@@ -1,0 +1,114 @@
+-- `expansion::recurs_by` meets its contract. The invariant: the recurrence holds before k, and y and z are the multiples of A and B for k. Assumes nothing.
+use mathlib.Core.Bool.{true, false, false≢true}
+use mathlib.Core.Path.{refl, sym, _∙_}
+use Prim.Native.Nat.{ℕ, _+_, _-_, _*_, _≤_, _<_}
+use native.Mathlib.Omega.{arith}
+use lib.ListN.{length}
+use borrow.Author.Tests.{not-true, not-false}
+use borrow.Author.Needs.{needs}
+use borrow.Author.Count.{below-more}
+use Rattle.zmod.specs.Zmod.{Zmod}
+use Rattle.sheet.specs.Values.{question}
+use Rattle.zmod.specs.Residues.{poly}
+use Rattle.isogeny.specs.Expansion.{Recurs}
+use Rattle.expansion.specs.Multiple.{Multiple}
+use Rattle.expansion.proofs.Turns.{none, thrice, two-more}
+use Rattle.expansion.proofs.recurs_by.Statement.{statement}
+use Rattle.expansion.proofs.recurs_by.Tie as tie
+
+abbrev Inv-loop : tie.InvT-loop
+Inv-loop v h squares p a b k₀ y₀ z₀ k y z =
+    (3 ≤ k) × ((j : ℕ) → j < k → 3 ≤ j → Recurs (Zmod (v .p)) (question v .A) (question v .B) (poly (v .p) h) j)
+    × (Multiple (v .p) (2 * k - 3) (question v .A) y) × Multiple (v .p) (2 * k - 6) (question v .B) z
+
+abbrev μ-loop : tie.MeasureT-loop
+μ-loop v h squares p a b k₀ y₀ z₀ k y z = length h - k
+
+add-requires : tie.Need-add-requires Inv-loop μ-loop
+add-requires c κs = search needs
+
+add-requires-2 : tie.Need-add-requires-2 Inv-loop μ-loop
+add-requires-2 c κs = search needs
+
+multiply-requires : tie.Need-multiply-requires Inv-loop μ-loop
+multiply-requires c κs = search needs
+
+loop-holds : tie.Need-loop-holds Inv-loop μ-loop
+loop-holds c =
+    let start = c .before .before .before .before .before in
+    let v = start .args .v in
+    (omega arith, (λ j l m. absurd (omega arith)), thrice (v .a) (c .multiply .result) (c .multiply .ensures), none (question v .B) (omega arith))
+
+recurs-at-requires : tie.Need-recurs-at-requires Inv-loop μ-loop
+recurs-at-requires c κs =
+    let start = c .before .before .before .before .before .before .before in
+    let inv = c .before .loop .inv in
+    (start .pre .0, ((omega arith, omega arith, start .pre .1 .0 .0, start .pre .1 .0 .1), (start .pre .1 .1, (inv .2, inv .3))))
+
+returns : tie.Need-returns Inv-loop μ-loop
+returns c =
+    let at = c .before .before .before .loop in
+    let found = c .before .recurs-at in (
+      λ e. absurd (false≢true e),
+      λ all. absurd (false≢true (sym (not-true (found .result) (c .if1 .taken)) ∙ found .ensures .1 (all (at .k) (at .inv .0) (omega arith)))),
+    )
+
+add-requires-3 : tie.Need-add-requires-3 Inv-loop μ-loop
+add-requires-3 c κs = (
+  omega (arith, c .before .before .before .loop .inv .2 .below),
+  omega
+      (arith, c .before .before .before .before .before .before .add .ensures .below),
+  omega arith,
+)
+
+add-requires-4 : tie.Need-add-requires-4 Inv-loop μ-loop
+add-requires-4 c κs = (
+  omega (arith, c .before .before .before .before .loop .inv .3 .below),
+  omega
+      (arith, c .before .before .before .before .before .before .add2 .ensures .below),
+  omega arith,
+)
+
+add-k : tie.Need-add-k Inv-loop μ-loop
+add-k c = search needs
+
+loop-less : tie.Need-loop-less Inv-loop μ-loop
+loop-less c = search needs
+
+loop-again : tie.Need-loop-again Inv-loop μ-loop
+loop-again c =
+    let v = c .before .before .before .before .before .before .before .before .before .before .before .args .v in
+    let at = c .before .before .before .before .before .loop in
+    let found = c .before .before .before .recurs-at in (
+      omega arith,
+      below-more _ _ (at .inv .1) (λ l. found .ensures .0 (not-false (found .result) (c .before .before .if1 .left))),
+      two-more (v .a) (c .before .before .before .before .before .before .before .before .add .result) (2 * at .k - 3) (2 * (at .k + 1) - 3) (at .y)
+          (c .before .add3 .result) (omega arith) (c .before .before .before .before .before .before .before .before .add .ensures) (at .inv .2)
+          (c .before .add3 .ensures),
+      two-more (v .b) (c .before .before .before .before .before .before .before .add2 .result) (2 * at .k - 6) (2 * (at .k + 1) - 6) (at .z) (c .add4 .result)
+          (omega arith) (c .before .before .before .before .before .before .before .add2 .ensures) (at .inv .3) (c .add4 .ensures),
+    )
+
+returns-2 : tie.Need-returns-2 Inv-loop μ-loop
+returns-2 c =
+    let loop = c .before .loop in
+    (λ e k l m. loop .inv .1 k (omega arith) l, λ h. refl)
+
+pub recurs-by-spec : {M : Type 1} → statement M
+recurs-by-spec =
+    tie.close
+    (tie.spec
+    Inv-loop
+    μ-loop
+    add-requires
+    add-requires-2
+    multiply-requires
+    loop-holds
+    recurs-at-requires
+    returns
+    add-requires-3
+    add-requires-4
+    add-k
+    loop-less
+    loop-again
+    returns-2)
