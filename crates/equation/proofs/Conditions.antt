@@ -59,7 +59,7 @@ module _ (v : Values) (h : List ℕ) where
 -- ── from the conditions to R3
 
 module _ (v : Values) (ready : Ready v) (large : 3 * v .degree - 3 < v .p) (g s h : List ℕ)
-    (r1 : R1 (Zmod (v .p)) (question v) (poly (v .p) g)) (s-size : length s ≡ v .degree + 2) (h-size : length h ≡ v .degree + 1)
+    (r1 : R1 (Zmod (v .p)) (question v) (poly (v .p) g)) (s-size : v .degree + 2 ≤ length s) (h-size : length h ≡ v .degree + 1)
     (sums : Residues (v .p) (power-sums (Zmod (v .p)) (half v) (poly (v .p) g)) s)
     (expanded : Residues (v .p) (expansion (Zmod (v .p)) (question v .A) (question v .B) (poly (v .p) s)) h) where
   abbrev R : CRing

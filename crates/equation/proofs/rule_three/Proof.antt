@@ -6,21 +6,21 @@ use Rattle.equation.proofs.rule_three.Statement.{statement}
 use Rattle.equation.proofs.rule_three.Tie as tie
 
 mul-if1 : tie.Need-mul-if1
-mul-if1 c = search (needs, c .before .before .before .pre .0 .degree .most)
+mul-if1 c = search (needs, c .before .before .before .pre .0 .0 .degree .most)
 
 sub-if1 : tie.Need-sub-if1
 sub-if1 c =
-    search (needs, c .before .before .before .pre .0 .degree .least)
+    search (needs, c .before .before .before .pre .0 .0 .degree .least)
 
 by-expansion-requires : tie.Need-by-expansion-requires
 by-expansion-requires c κs =
     let start = c .before .before .before .before .before in
-    ((start .pre .0, omega arith), start .pre .1 .0)
+    ((start .pre .0 .0, start .pre .0 .1, omega arith), start .pre .1 .0)
 
 compare-requires : tie.Need-compare-requires
 compare-requires c κs =
     let start = c .before .before .before .before .before in
-    ((start .pre .0, start .pre .1 .0 .0), start .pre .1 .1 .0)
+    ((start .pre .0 .0, start .pre .1 .0 .0), start .pre .1 .1 .0)
 
 returns : tie.Need-returns
 returns c =

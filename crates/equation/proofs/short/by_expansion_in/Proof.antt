@@ -7,26 +7,25 @@ use Rattle.equation.proofs.short.by_expansion_in.Tie as tie
 
 power-sums-requires : tie.Need-power-sums-requires
 power-sums-requires c κs =
-    let start = c .before .before .before .before in
-    (start .pre .0 .0, (start .pre .1 .0 .0, omega (arith, start .pre .0 .0 .degree)))
+    let start = c .before .before .before .before .before .before .before .before .before in
+    let sizes = start .pre .1 .1 .0 in
+    let ready = start .pre .0 .0 in
+    ((ready, start .pre .1 .0 .0), (sizes .1, sizes .2, sizes .3, omega (arith, start .pre .1 .1 .1, ready .degree)))
 
 expansion-requires : tie.Need-expansion-requires
 expansion-requires c κs =
-    let start = c .before .before .before .before .before .before .before .before .before in (
-      start .pre .0 .0,
-      (
-        omega (arith, start .pre .0 .0 .degree),
-        omega arith,
-        omega
-            (arith, start .pre .0 .0 .degree),
-        c .before .before .before .before .power-sums .ensures .reduced,
-      ),
-    )
+    let start = c .before .before .before .before .before .before .before .before .before .before .before .before .before .before .before .before .before .before in
+    let sizes = start .pre .1 .1 in
+    let sums = c .before .before .before .before .before .before .before .before .power-sums in
+    (start .pre .0 .0, (omega (arith, sizes .1), omega (arith, sizes, sums .kept), omega (arith, sizes, sums .kept), sums .ensures .reduced))
 
 conditions-requires : tie.Need-conditions-requires
 conditions-requires c κs =
-    let start = c .before .before .before .before .before .before .before .before .before .before .before .before .before in
-    (start .pre .0 .0, omega arith, c .before .before .before .expansion .ensures .reduced)
+    let start = c .before .before .before .before .before .before .before .before .before .before .before .before .before .before .before .before .before .before .before .before .before .before .before .before .before in
+    let sizes = start .pre .1 .1 in
+    let sums = c .before .before .before .before .before .before .before .before .before .before .before .before .before .before .before .power-sums in
+    let h = c .before .before .before .before .before .before .expansion in
+    ((start .pre .0 .0, start .pre .0 .1, omega (arith, sizes, h .kept), h .ensures .reduced), omega (arith, sizes, sums .kept, start .pre .0 .0 .degree))
 
 same-length : tie.Need-same-length
 same-length c = search needs
@@ -34,15 +33,25 @@ same-length c = search needs
 same-length-2 : tie.Need-same-length-2
 same-length-2 c = search needs
 
+same-length-3 : tie.Need-same-length-3
+same-length-3 c = search needs
+
+same-length-4 : tie.Need-same-length-4
+same-length-4 c = search needs
+
+same-length-5 : tie.Need-same-length-5
+same-length-5 c = search needs
+
 returns : tie.Need-returns
 returns c =
-    let start = c .before .before .before .before .before .before .before .before .before .before .before .before .before .before in
+    let start = c .before .before .before .before .before .before .before .before .before .before .before .before .before .before .before .before .before .before .before .before .before .before .before .before .before .before .before .before .before .before .before .before in
     let a = start .args in
-    decided (a .v) (start .pre .0 .0) (start .pre .0 .1) (a .g .now)
-    (c .before .before .before .before .before .before .before .before .before .power-sums .last .1 .1 .0)
-    (c .before .before .before .before .expansion .last .1 .1 .0)
-    (start .pre .1 .0 .1) (omega arith) (omega arith) (c .before .before .before .before .before .before .before .before .before .power-sums .ensures)
-    (c .before .before .before .before .expansion .ensures) (c .conditions .result) (c .conditions .ensures)
+    let sizes = start .pre .1 .1 in
+    let sums = c .before .before .before .before .before .before .before .before .before .before .before .before .before .before .before .before .before .before .before .before .before .before .power-sums in
+    let h = c .before .before .before .before .before .before .before .before .before .before .before .before .before .expansion in
+    decided (a .v) (start .pre .0 .0) (start .pre .0 .2) (a .g .now) (sums .last .1 .1 .1 .1 .0) (h .last .1 .1 .0)
+    (start .pre .1 .0 .1) (omega (arith, sizes, sums .kept)) (omega (arith, sizes, h .kept)) (sums .ensures) (h .ensures) (c .before .before .before .before .before .before .conditions .result)
+    (c .before .before .before .before .before .before .conditions .ensures)
 
 pub by-expansion-in-spec : {M : Type 1} → statement M
-by-expansion-in-spec = tie.close (tie.spec power-sums-requires expansion-requires conditions-requires same-length same-length-2 returns)
+by-expansion-in-spec = tie.close (tie.spec power-sums-requires expansion-requires conditions-requires same-length same-length-2 same-length-3 same-length-4 same-length-5 returns)

@@ -1,5 +1,6 @@
 -- `equation::short::conditions` meets its contract. Assumes nothing.
 use native.Mathlib.Omega.{arith}
+use lib.ListN.{length-take}
 use borrow.Author.Needs.{needs}
 use Rattle.equation.proofs.Conditions.{first-no, second-no, all-yes}
 use Rattle.equation.proofs.short.conditions.Statement.{statement}
@@ -16,9 +17,8 @@ subtract-requires c κs = search needs
 
 returns : tie.Need-returns
 returns c =
-    let a = c .before .before .before .before .before .args in
-    first-no (a .v) (a .h .now) (c .before .before .multiply .result) (c .before .subtract .result) (c .before .before .multiply .ensures)
-    (c .before .subtract .ensures) (c .if1 .taken)
+    let a = c .before .before .before .before .before .before .before .before .args in
+    first-no (a .v) (a .h .now) (c .before .before .multiply .result) (c .before .subtract .result) (c .before .before .multiply .ensures) (c .before .subtract .ensures) (c .if1 .taken)
 
 shared-slice-read-multiply-2 : tie.Need-shared-slice-read-multiply-2
 shared-slice-read-multiply-2 c = search needs
@@ -31,28 +31,40 @@ subtract-requires-2 c κs = search needs
 
 returns-2 : tie.Need-returns-2
 returns-2 c =
-    let a = c .before .before .before .before .before .before .before .before .before .args in
-    second-no (a .v) (a .h .now) (c .before .before .before .before .before .before .multiply .result)
-    (c .before .before .before .before .before .subtract .result) (c .before .before .before .before .before .before .multiply .ensures)
-    (c .before .before .before .before .before .subtract .ensures)
-    (c .before .before .multiply2 .result) (c .before .subtract2 .result) (c .before .before .multiply2 .ensures) (c .before .subtract2 .ensures)
-    (c .if2 .taken)
+    let a = c .before .before .before .before .before .before .before .before .before .before .before .before .args in
+    second-no (a .v) (a .h .now) (c .before .before .before .before .before .before .multiply .result) (c .before .before .before .before .before .subtract .result) (c .before .before .before .before .before .before .multiply .ensures) (c .before .before .before .before .before .subtract .ensures)
+    (c .before .before .multiply2 .result) (c .before .subtract2 .result) (c .before .before .multiply2 .ensures) (c .before .subtract2 .ensures) (c .if2 .taken)
+
+slice-relend-prefix-recurs : tie.Need-slice-relend-prefix-recurs
+slice-relend-prefix-recurs c = search needs
+
+slice-aggregate-recurs : tie.Need-slice-aggregate-recurs
+slice-aggregate-recurs c = simp length-take (omega arith)
 
 recurs-requires : tie.Need-recurs-requires
 recurs-requires c κs =
-    let start = c .before .before .before .before .before .before .before .before .before in
-    (start .pre .0, (omega (arith, start .pre .0 .degree), start .pre .2))
+    let start = c .before .before .before .before .before .before .before .before .before .before .before .before .before .before .before in
+    let pre = start .pre in
+    let ready = pre .0 .0 in
+    ((ready, pre .0 .1 .prepared, pre .0 .1 .same), ((omega (arith, pre .0 .2, ready .degree), omega (arith, pre .0 .2, ready .degree), pre .0 .3),
+    simp length-take (omega (arith, pre .0 .2, pre .1, ready .degree))))
+
+same-length : tie.Need-same-length
+same-length c = search needs
+
+same-length-2 : tie.Need-same-length-2
+same-length-2 c = search needs
+
+same-length-3 : tie.Need-same-length-3
+same-length-3 c = search needs
 
 returns-3 : tie.Need-returns-3
 returns-3 c =
-    let start = c .before .before .before .before .before .before .before .before .before .before in
+    let start = c .before .before .before .before .before .before .before .before .before .before .before .before .before .before .before .before .before .before .before .before .before .before in
     let a = start .args in
-    all-yes (a .v) (a .h .now) (c .before .before .before .before .before .before .before .multiply .result)
-    (c .before .before .before .before .before .before .subtract .result) (c .before .before .before .before .before .before .before .multiply .ensures)
-    (c .before .before .before .before .before .before .subtract .ensures)
-    (c .before .before .before .multiply2 .result) (c .before .before .subtract2 .result) (c .before .before .before .multiply2 .ensures)
-    (c .before .before .subtract2 .ensures)
-    (c .recurs .result) (start .pre .0) (start .pre .1) (c .before .before .before .before .before .if1 .left) (c .before .if2 .left) (c .recurs .ensures)
+    all-yes (a .v) (a .h .now) (c .before .before .before .before .before .before .before .before .before .before .before .before .before .before .before .before .multiply .result) (c .before .before .before .before .before .before .before .before .before .before .before .before .before .before .before .subtract .result) (c .before .before .before .before .before .before .before .before .before .before .before .before .before .before .before .before .multiply .ensures) (c .before .before .before .before .before .before .before .before .before .before .before .before .before .before .before .subtract .ensures)
+    (c .before .before .before .before .before .before .before .before .before .before .before .before .multiply2 .result) (c .before .before .before .before .before .before .before .before .before .before .before .subtract2 .result) (c .before .before .before .before .before .before .before .before .before .before .before .before .multiply2 .ensures) (c .before .before .before .before .before .before .before .before .before .before .before .subtract2 .ensures)
+    (c .before .before .before .before .before .before .recurs .result) (start .pre .0 .0) (start .pre .0 .2) (c .before .before .before .before .before .before .before .before .before .before .before .before .before .before .if1 .left) (c .before .before .before .before .before .before .before .before .before .before .if2 .left) (c .before .before .before .before .before .before .recurs .ensures)
 
 pub conditions-spec : {M : Type 1} → statement M
 conditions-spec =
@@ -66,5 +78,10 @@ conditions-spec =
     multiply-requires-2
     subtract-requires-2
     returns-2
+    slice-relend-prefix-recurs
+    slice-aggregate-recurs
     recurs-requires
+    same-length
+    same-length-2
+    same-length-3
     returns-3)
