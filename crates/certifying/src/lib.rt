@@ -1,4 +1,5 @@
 // The end of every service that writes a certificate: from the values and a g with R1 to N, R3 and the words.
+use barrett::Modulus;
 use promises::Written;
 use sheet::Values;
 ghost use mathlib.Core.Path.{_≡_};
@@ -9,6 +10,7 @@ ghost use Rattle.zmod.specs.Residues.{poly};
 ghost use Rattle.isogeny.specs.Rules.{N, R1, Meets};
 ghost use Rattle.sheet.specs.Values.{half, question};
 ghost use Rattle.sheet.specs.Ready.{Ready, HoldsG, HoldsN};
+ghost use Rattle.rules.specs.Over.{Over};
 ghost use Rattle.promises.specs.Asked.{Room};
 ghost use Rattle.certifying.specs.Certified.{Certified};
 
@@ -26,14 +28,14 @@ pub fn finish(v: Values, g: &[u32], n: &[u32], answer: &mut [u32]) -> Written
 }
 
 // The certificate of a g with R1 if it has R3 too, else 11; with room for N.
-fn certify_in(v: Values, g: &[u32], n: &mut [u32], answer: &mut [u32]) -> Written
-    requires { ⌜ Ready v ⌝ }
+fn certify_in(v: Values, m: Modulus, g: &[u32], n: &mut [u32], answer: &mut [u32]) -> Written
+    requires { ⌜ (Ready v) × Over v m ⌝ }
     requires { ⌜ HoldsG v (now g) × R1 (Zmod (v .p)) (question v) (poly (v .p) (now g)) ⌝ }
     requires { ⌜ (length (now n) ≡ 2 * half v + 2) × Room (length (now answer)) ⌝ }
     ensures { λ r. ⌜ Certified v (now (g .entry)) (now (answer .entry)) (now (answer .exit)) r ⌝ }
 {
-    rules::numerator(v, g, n);
-    if !equation::rule_three(v, g, n) {
+    rules::numerator(v, m, g, n);
+    if !equation::rule_three(v, m, g, n) {
         return Written::Refused(11);
     }
     finish(v, g, n, answer)
@@ -46,7 +48,8 @@ pub fn certify(v: Values, g: &[u32], answer: &mut [u32]) -> Written
     requires { ⌜ Room (length (now answer)) ⌝ }
     ensures { λ r. ⌜ Certified v (now (g .entry)) (now (answer .entry)) (now (answer .exit)) r ⌝ }
 {
+    let m = barrett::modulus(v.p);
     let count = 2 * g.len();
     let mut n = promises::blank256();
-    certify_in(v, g, &mut n[..count], answer)
+    certify_in(v, m, g, &mut n[..count], answer)
 }

@@ -1,4 +1,5 @@
 // Check, and the beginning of every service that takes a certificate: questions 2 to 10, with the coefficients of g and N in lent slices.
+use barrett::Modulus;
 use promises::Verdict;
 use sheet::Form;
 use sheet::Reading;
@@ -17,47 +18,58 @@ ghost use Rattle.sheet.specs.declared.Form.the-variants.{Certificate};
 ghost use Rattle.sheet.specs.Values.{valuesOf, half, question};
 ghost use Rattle.sheet.specs.Asked.{asked};
 ghost use Rattle.sheet.specs.Ready.{Ready, HoldsG, HoldsN};
+ghost use Rattle.rules.specs.Over.{Over};
 ghost use Rattle.promises.specs.Asked.{rules-ask};
 ghost use Rattle.promises.specs.Answer.{CheckRight};
 ghost use Rattle.checking.specs.Passed.{Coefficients, Passed};
 
 // Whether N is that of R2, with room for R2's.
-fn same_numerator_in(v: Values, g: &[u32], n: &[u32], room: &mut [u32]) -> bool
-    requires { ⌜ (Ready v) × HoldsG v (now g) ⌝ }
+fn same_numerator_in(v: Values, m: Modulus, g: &[u32], n: &[u32], room: &mut [u32]) -> bool
+    requires { ⌜ (Ready v) × HoldsG v (now g) × Over v m ⌝ }
     requires { ⌜ HoldsN v (now n) × (length (now room) ≡ 2 * half v + 2) ⌝ }
     ensures { λ r. ⌜ (r ≡ true) ↔ (poly (v .p) (now (n .entry)) ≡ N (Zmod (v .p)) (question v) (poly (v .p) (now (g .entry)))) ⌝ }
 {
-    rules::numerator(v, g, room);
+    rules::numerator(v, m, g, room);
     poly::equal(n, room)
 }
 
 // The same, with room of its own.
-fn same_numerator(v: Values, g: &[u32], n: &[u32]) -> bool
-    requires { ⌜ (Ready v) × HoldsG v (now g) ⌝ }
+fn same_numerator(v: Values, m: Modulus, g: &[u32], n: &[u32]) -> bool
+    requires { ⌜ (Ready v) × HoldsG v (now g) × Over v m ⌝ }
     requires { ⌜ HoldsN v (now n) ⌝ }
     ensures { λ r. ⌜ (r ≡ true) ↔ (poly (v .p) (now (n .entry)) ≡ N (Zmod (v .p)) (question v) (poly (v .p) (now (g .entry)))) ⌝ }
 {
     let count = n.len();
     let mut room = promises::blank256();
-    same_numerator_in(v, g, n, &mut room[..count])
+    same_numerator_in(v, m, g, n, &mut room[..count])
 }
 
-// The number of the first of questions 8 to 10 that g and N do not pass, or 0.
-fn rules_number(v: Values, g: &[u32], n: &[u32]) -> u32
-    requires { ⌜ (Ready v) × HoldsG v (now g) ⌝ }
+// The number of the first of questions 8 to 10 that g and N do not pass, or 0, with a modulus that was prepared.
+fn rules_number_over(v: Values, m: Modulus, g: &[u32], n: &[u32]) -> u32
+    requires { ⌜ (Ready v) × HoldsG v (now g) × Over v m ⌝ }
     requires { ⌜ HoldsN v (now n) ⌝ }
     ensures { λ r. ⌜ Judged (rules-ask v (now (g .entry)) (now (n .entry))) r ⌝ }
 {
     if !rules::rule_one(v, g) {
         return 8;
     }
-    if !same_numerator(v, g, n) {
+    if !same_numerator(v, m, g, n) {
         return 9;
     }
-    if !equation::rule_three(v, g, n) {
+    if !equation::rule_three(v, m, g, n) {
         return 10;
     }
     0
+}
+
+// The same for the values of any sheet.
+fn rules_number(v: Values, g: &[u32], n: &[u32]) -> u32
+    requires { ⌜ (Ready v) × HoldsG v (now g) ⌝ }
+    requires { ⌜ HoldsN v (now n) ⌝ }
+    ensures { λ r. ⌜ Judged (rules-ask v (now (g .entry)) (now (n .entry))) r ⌝ }
+{
+    let m = barrett::modulus(v.p);
+    rules_number_over(v, m, g, n)
 }
 
 // The coefficients on a certificate that passes 2 to 7, to g and n, and the number of the first of questions 8 to 10 that it does not pass, or 0.

@@ -69,7 +69,23 @@ fn main() {
     let mut square = [0u32; 3];
     let mut slope = [0u32; 2];
     let mut bend = [0u32; 1];
-    rules::products(v, &g, &mut square, &mut slope, &mut bend);
+    let m = barrett::modulus(1009);
+    let mut e = [0u64; 8];
+    let mut acc = [0u64; 3];
+    let mut h = [0u32; 1];
+    let mut q = [0u32; 3];
+    rules::products(
+        v,
+        m,
+        &g,
+        &mut e,
+        &mut acc,
+        &mut h,
+        &mut q,
+        &mut square,
+        &mut slope,
+        &mut bend,
+    );
     let mut linear = [0u32; 4];
     let mut first = [0u32; 4];
     let mut second = [0u32; 4];

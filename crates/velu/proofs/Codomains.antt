@@ -30,7 +30,7 @@ use Rattle.velu.specs.Completed.{Completed, Finished}
 
 -- ── the values, from four power sums and h₁ and h₂
 
-module _ (v : Values) (g s h : List ℕ) (ready : Ready v) (g-words : HoldsG v g) (s-length : length s ≡ 4) (h-length : length h ≡ 3)
+module _ (v : Values) (g s h : List ℕ) (ready : Ready v) (g-words : HoldsG v g) (s-length : length s ≡ 5) (h-length : length h ≡ 3)
     (sums : Residues (v .p) (power-sums (Zmod (v .p)) (half v) (poly (v .p) g)) s)
     (expanded : Residues (v .p) (expansion (Zmod (v .p)) (question v .A) (question v .B) (poly (v .p) s)) h) where
   abbrev p : ℕ

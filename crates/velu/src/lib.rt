@@ -25,13 +25,13 @@ fn less_multiple(a: u32, k: u32, h: u32, p: u32) -> u32
     field::subtract(a, field::multiply(k, h, p), p)
 }
 
-// The values with σ, and with the only codomain that can pass, in room for four power sums and the expansion up to h₂.
-fn completed_in(v: Values, g: &[u32], s: &mut [u32], h: &mut [u32]) -> Values
+// The values with σ, and with the only codomain that can pass, in room for five power sums, one turn, and the expansion up to h₂.
+fn completed_in(v: Values, g: &[u32], e: &mut [u64], acc: &mut [u64], s: &mut [u32], h: &mut [u32]) -> Values
     requires { ⌜ (Ready v) × HoldsG v (now g) ⌝ }
-    requires { ⌜ (length (now s) ≡ 4) × (length (now h) ≡ 3) ⌝ }
+    requires { ⌜ (length (now e) ≡ 130) × (length (now acc) ≡ 5) × (length (now s) ≡ 5) × (length (now h) ≡ 3) ⌝ }
     ensures { λ r. ⌜ Completed v (now (g .entry)) r ⌝ }
 {
-    expansion::power_sums(v, g, s);
+    expansion::power_sums(v, g, e, acc, s);
     expansion::expansion(v, s, h);
     let p = v.p;
     let second = g.len() - 2;
@@ -50,13 +50,20 @@ fn completed_in(v: Values, g: &[u32], s: &mut [u32], h: &mut [u32]) -> Values
     }
 }
 
+// Room for g in the power sums. (As the result of a call its words stay out of the callers' proofs.)
+fn blank_sums() -> [u64; 130] {
+    [0; 130]
+}
+
 fn completed(v: Values, g: &[u32]) -> Values
     requires { ⌜ (Ready v) × HoldsG v (now g) ⌝ }
     ensures { λ r. ⌜ Completed v (now (g .entry)) r ⌝ }
 {
-    let mut s = [0u32; 4];
+    let mut e = blank_sums();
+    let mut acc = [0u64; 5];
+    let mut s = [0u32; 5];
     let mut h = [0u32; 3];
-    completed_in(v, g, &mut s, &mut h)
+    completed_in(v, g, &mut e, &mut acc, &mut s, &mut h)
 }
 
 // Questions 8 and 11, and the certificate.

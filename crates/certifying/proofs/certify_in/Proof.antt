@@ -17,20 +17,20 @@ abbrev start : tie.After-numerator → tie.Start
 start c = c .before .before .before .before .before
 
 -- the words of N
-words : (c : tie.After-numerator) → HoldsN (start c .args .v) (c .numerator .last .1 .1 .0)
+words : (c : tie.After-numerator) → HoldsN (start c .args .v) (c .numerator .last .1 .1 .1 .0)
 words c =
     let s = start c in
-    holds-n (s .args .v) (s .pre .0) (s .args .g .now) (c .numerator .last .1 .1 .0) (s .pre .1 .0 .0) (omega arith) (c .numerator .ensures)
+    holds-n (s .args .v) (s .pre .0 .0) (s .args .g .now) (c .numerator .last .1 .1 .1 .0) (s .pre .1 .0 .0) (omega arith) (c .numerator .ensures)
 
 whole : (c : tie.After-numerator)
-    → poly (start c .args .v .p) (c .numerator .last .1 .1 .0)
+    → poly (start c .args .v .p) (c .numerator .last .1 .1 .1 .0)
     ≡ N (Zmod (start c .args .v .p)) (question (start c .args .v)) (poly (start c .args .v .p) (start c .args .g .now))
 whole c =
     let s = start c in
-    whole-numerator (s .args .v) (s .pre .0) (s .args .g .now) (c .numerator .last .1 .1 .0) (s .pre .1 .0 .0) (omega arith) (c .numerator .ensures)
+    whole-numerator (s .args .v) (s .pre .0 .0) (s .args .g .now) (c .numerator .last .1 .1 .1 .0) (s .pre .1 .0 .0) (omega arith) (c .numerator .ensures)
 
 numerator-requires : tie.Need-numerator-requires
-numerator-requires c κs = let s = c .before .before .before .before in ((s .pre .0, s .pre .1 .0 .0), s .pre .1 .1 .0)
+numerator-requires c κs = let s = c .before .before .before .before in ((s .pre .0 .0, s .pre .1 .0 .0, s .pre .0 .1), s .pre .1 .1 .0)
 
 rule-three-requires : tie.Need-rule-three-requires
 rule-three-requires c κs =
@@ -62,7 +62,7 @@ finish-requires c κs =
     let s = start numerator in
     let v = s .args .v in
     let r3 = subst (R3 (Zmod (v .p)) (question v) (poly (v .p) (s .args .g .now))) (whole numerator) (shown (three .rule-three .ensures) (branch .if1 .left)) in
-    (s .pre .0, ((s .pre .1 .0 .0, record { r1 = s .pre .1 .0 .1; r3 = r3 }), ((words numerator, whole numerator), s .pre .1 .1 .1)))
+    (s .pre .0 .0, ((s .pre .1 .0 .0, record { r1 = s .pre .1 .0 .1; r3 = r3 }), ((words numerator, whole numerator), s .pre .1 .1 .1)))
 
 same-length-2 : tie.Need-same-length-2
 same-length-2 c = search needs

@@ -20,7 +20,7 @@ returns c =
     let numerator = c .before .before .before .before in
     let start = numerator .before .before .before .before .before in
     let v = start .args .v in
-    let room = numerator .numerator .last .1 .1 .0 in
+    let room = numerator .numerator .last .1 .1 .1 .0 in
     decides (c .equal .ensures (v .p) (start .pre .1 .0 .reduced) (numerator .numerator .ensures .reduced))
     (whole-numerator v (start .pre .0 .0) (start .args .g .now) room (start .pre .0 .1) (omega arith) (numerator .numerator .ensures))
 

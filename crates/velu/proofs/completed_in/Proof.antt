@@ -1,18 +1,22 @@
 -- `velu::completed_in` meets its contract. Assumes nothing.
 use borrow.Author.Needs.{needs}
+use mathlib.Core.Path.{ap}
+use Prim.Native.Nat.{_%_}
 use native.Mathlib.Omega.{arith}
 use Rattle.velu.proofs.Codomains.{completes}
 use Rattle.velu.proofs.completed_in.Statement.{statement}
 use Rattle.velu.proofs.completed_in.Tie as tie
 
 power-sums-requires : tie.Need-power-sums-requires
-power-sums-requires c κs = search needs
+power-sums-requires c κs =
+    let start = c .before .before .before .before .before .before .before .before in
+    (start .pre .0, (omega arith, ap (λ n. n % 4) (start .pre .1 .2), omega arith, omega (arith, start .pre .1, start .pre .0 .0 .degree)))
 
 expansion-requires : tie.Need-expansion-requires
 expansion-requires c κs =
-    let sums = c .before .before .before .before in
-    let start = sums .before .before .before .before .before in
-    (start .pre .0 .0, (omega arith, omega arith, omega arith, sums .power-sums .ensures .reduced))
+    let sums = c .before .before .before .before .before .before .before .before .power-sums in
+    let start = c .before .before .before .before .before .before .before .before .before .before .before .before .before .before .before .before .before in
+    (start .pre .0 .0, (omega arith, omega arith, omega arith, sums .ensures .reduced))
 
 sub-second : tie.Need-sub-second
 sub-second c = search needs
@@ -47,14 +51,19 @@ same-length c = search needs
 same-length-2 : tie.Need-same-length-2
 same-length-2 c = search needs
 
+same-length-3 : tie.Need-same-length-3
+same-length-3 c = search needs
+
+same-length-4 : tie.Need-same-length-4
+same-length-4 c = search needs
+
 returns : tie.Need-returns
 returns c =
-    let expansion = c .before .before .before .before .before .before .before .before .before in
-    let sums = expansion .before .before .before .before .before in
-    let start = sums .before .before .before .before .before in
-    completes (start .args .v) (start .args .g .now) (sums .power-sums .last .1 .1 .0) (expansion .expansion .last .1 .1 .0) (start .pre .0 .0)
-    (start .pre .0 .1)
-    (omega arith) (omega arith) (sums .power-sums .ensures) (expansion .expansion .ensures)
+    let expansion = c .before .before .before .before .before .before .before .before .before .expansion in
+    let sums = c .before .before .before .before .before .before .before .before .before .before .before .before .before .before .before .before .before .before .power-sums in
+    let start = c .before .before .before .before .before .before .before .before .before .before .before .before .before .before .before .before .before .before .before .before .before .before .before .before .before .before .before in
+    completes (start .args .v) (start .args .g .now) (sums .last .1 .1 .1 .1 .0) (expansion .last .1 .1 .0) (start .pre .0 .0) (start .pre .0 .1)
+    (omega arith) (omega arith) (sums .ensures) (expansion .ensures)
     (c .before .before .before .less-multiple .ensures) (c .before .less-multiple2 .ensures) (c .before .before .before .before .before .multiply .ensures)
     (c .negate .ensures)
 
@@ -75,4 +84,6 @@ completed-in-spec =
     negate-requires
     same-length
     same-length-2
+    same-length-3
+    same-length-4
     returns)
