@@ -173,20 +173,15 @@ pub fn check(bytes: &[u8]) -> u32 {
     }
 }
 
-fn power(a: u32, e: u32, p: u32) -> u32 {
-    if e == 0 {
-        return 1;
+/// By Euclid.
+fn inverse(a: u32, p: u32) -> u32 {
+    let (mut x, mut y, mut t, mut u, mut s) = (p, a, 0, 1, 1);
+    while 1 < y {
+        let q = x / y;
+        (x, y, t, u) = (y, x % y, u, t + q * u);
+        s = p - s;
     }
-    let mut i = 31 - e.leading_zeros();
-    let mut r = a;
-    while 0 < i {
-        i -= 1;
-        r = times(r, r, p);
-        if (e >> i) % 2 == 1 {
-            r = times(r, a, p);
-        }
-    }
-    r
+    times(s, u, p)
 }
 
 /// 1, x, x², .. and their derivatives, as many as the slices have words.
@@ -261,7 +256,7 @@ pub fn push(bytes: &[u8], point: u64) -> u64 {
     }
     let (nx, dn) = evaluate(n, powers, slopes, p);
     let w = times(y, rem(mul(dn, gx) + mul(2 * (p - nx), dg), p), p);
-    let i = power(gx, p - 2, p);
+    let i = inverse(gx, p);
     let square = times(i, i, p);
     let u = times(nx, square, p);
     let w = times(times(w, i, p), square, p);

@@ -97,6 +97,31 @@ pub fn inverse(a: u32, p: u32) -> u32
     power(a, p - 2, p)
 }
 
+// By Euclid, with no remainder modulo p but the last: x and y are remainders of p and a, and up to the sign s, which changes with each turn, −t a and
+// u a. x u + y t stays p, which bounds them all. Faster than the power.
+pub fn inverse_by_euclid(a: u32, p: u32) -> u32
+    requires { ⌜ Prime p ⌝ }
+    requires { ⌜ (0 < a) × (a < p) ⌝ }
+    ensures { λ r. ⌜ InverseOf p a r ⌝ }
+{
+    let mut x = p;
+    let mut y = a;
+    let mut t = 0;
+    let mut u = 1;
+    let mut s = 1;
+    while 1 < y {
+        let q = x / y;
+        let r = x % y;
+        let w = t + q * u;
+        x = y;
+        y = r;
+        t = u;
+        u = w;
+        s = p - s;
+    }
+    multiply(s, u, p)
+}
+
 // The entry at k of a table of inverses that is filled up to k: −(p / k) times the inverse of p % k, since (p % k) + k (p / k) is 0 modulo p.
 fn entry(table: &[u32], k: u32, p: u32) -> u32
     requires { ⌜ Prime p ⌝ }

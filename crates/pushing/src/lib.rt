@@ -57,7 +57,8 @@ fn slope(g: Jet, n: Jet, p: u32) -> u32
     )
 }
 
-// Where the point (x, y) goes, in room for the tables of x: one inverse serves for both quotients.
+// Where the point (x, y) goes, in room for the tables of x. One inverse serves for both quotients; by powers it would take most of the time over large
+// primes.
 fn image_in(
     v: Values,
     g: &[u32],
@@ -79,7 +80,7 @@ fn image_in(
     }
     let nx = evaluation::evaluate(n, powers, slopes, p);
     let w = field::multiply(y, slope(gx, nx, p), p);
-    let i = field::inverse(gx.value, p);
+    let i = field::inverse_by_euclid(gx.value, p);
     let square = field::multiply(i, i, p);
     let u = field::multiply(nx.value, square, p);
     let t = field::multiply(w, i, p);

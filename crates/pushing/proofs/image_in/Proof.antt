@@ -77,8 +77,8 @@ slope-requires c κs =
 multiply-requires : tie.Need-multiply-requires
 multiply-requires c κs = search needs
 
-inverse-requires : tie.Need-inverse-requires
-inverse-requires c κs =
+inverse-by-euclid-requires : tie.Need-inverse-by-euclid-requires
+inverse-by-euclid-requires c κs =
     let at = c .before .before in
     (start (tabled (g-known at)) .pre .0 .0 .prime .prime, (omega (arith, before-n at .if1 .left), at-g (g-known at) .value-is .below))
 
@@ -112,7 +112,7 @@ returns-2 c =
     let a = s .args in
     to-point (a .v) (s .pre .0 .0) (a .g .now) (a .n .now) (s .pre .0 .1 .count) (s .pre .0 .2 .count) (a .x) (a .y) (g-known at .evaluate .result)
     (at-g (g-known at)) (at .evaluate2 .result) (before-n at .if1 .left) (at-n at) (inverse .before .before .slope .ensures)
-    (inverse .before .multiply .ensures) (inverse .inverse .ensures) (c .before .before .before .multiply2 .ensures)
+    (inverse .before .multiply .ensures) (inverse .inverse-by-euclid .ensures) (c .before .before .before .multiply2 .ensures)
     (c .before .before .multiply3 .ensures) (c .before .multiply4 .ensures) (c .multiply5 .ensures)
 
 pub image-in-spec : {M : Type 1} → statement M
@@ -127,7 +127,7 @@ image-in-spec =
     evaluate-requires-2
     slope-requires
     multiply-requires
-    inverse-requires
+    inverse-by-euclid-requires
     multiply-requires-2
     multiply-requires-3
     multiply-requires-4
