@@ -55,18 +55,17 @@ fn by_expansion_in(
     conditions(v, m, h, e, acc, squares)
 }
 
-// Room. (As the result of a call its words stay out of the callers' proofs.)
-fn blank() -> [u32; 264] {
-    [0; 264]
+// Room of three sizes, as for R2; the power sums are as many as fill whole turns. (As the result of a call its words stay out of the callers' proofs.)
+fn blank28() -> [u32; 28] {
+    [0; 28]
 }
 
-fn blank_sums() -> [u64; 264] {
-    [0; 264]
+fn sums28() -> [u64; 28] {
+    [0; 28]
 }
 
-// The same, with room of its own: the power sums are as many as fill whole turns.
-pub fn by_expansion(v: Values, m: Modulus, g: &[u32]) -> bool
-    requires { ⌜ (Ready v) × Over v m × (3 * v .degree - 3 < v .p) ⌝ }
+fn by_expansion28(v: Values, m: Modulus, g: &[u32]) -> bool
+    requires { ⌜ (Ready v) × Over v m × (3 * v .degree - 3 < v .p) × (v .degree ≤ 21) ⌝ }
     requires { ⌜ HoldsG v (now g) × R1 (Zmod (v .p)) (question v) (poly (v .p) (now g)) ⌝ }
     ensures { λ r. ⌜ (r ≡ true) ↔ (R3 (Zmod (v .p)) (question v) (poly (v .p) (now (g .entry)))
         (N (Zmod (v .p)) (question v) (poly (v .p) (now (g .entry))))) ⌝ }
@@ -76,11 +75,11 @@ pub fn by_expansion(v: Values, m: Modulus, g: &[u32]) -> bool
     let j = n + 1;
     let k = n - 2;
     let c = n + 6;
-    let mut e = blank_sums();
-    let mut acc = blank_sums();
-    let mut s = blank();
-    let mut h = blank();
-    let mut squares = blank();
+    let mut e = sums28();
+    let mut acc = sums28();
+    let mut s = blank28();
+    let mut h = blank28();
+    let mut squares = blank28();
     by_expansion_in(
         v,
         m,
@@ -91,4 +90,92 @@ pub fn by_expansion(v: Values, m: Modulus, g: &[u32]) -> bool
         &mut h[..j],
         &mut squares[..k],
     )
+}
+
+fn blank88() -> [u32; 88] {
+    [0; 88]
+}
+
+fn sums88() -> [u64; 88] {
+    [0; 88]
+}
+
+fn by_expansion88(v: Values, m: Modulus, g: &[u32]) -> bool
+    requires { ⌜ (Ready v) × Over v m × (3 * v .degree - 3 < v .p) × (v .degree ≤ 79) ⌝ }
+    requires { ⌜ HoldsG v (now g) × R1 (Zmod (v .p)) (question v) (poly (v .p) (now g)) ⌝ }
+    ensures { λ r. ⌜ (r ≡ true) ↔ (R3 (Zmod (v .p)) (question v) (poly (v .p) (now (g .entry)))
+        (N (Zmod (v .p)) (question v) (poly (v .p) (now (g .entry))))) ⌝ }
+{
+    let n = v.degree as usize;
+    let i = (n + 4) / 4 * 4 + 1;
+    let j = n + 1;
+    let k = n - 2;
+    let c = n + 6;
+    let mut e = sums88();
+    let mut acc = sums88();
+    let mut s = blank88();
+    let mut h = blank88();
+    let mut squares = blank88();
+    by_expansion_in(
+        v,
+        m,
+        g,
+        &mut e[..c],
+        &mut acc[..i],
+        &mut s[..i],
+        &mut h[..j],
+        &mut squares[..k],
+    )
+}
+
+fn blank264() -> [u32; 264] {
+    [0; 264]
+}
+
+fn sums264() -> [u64; 264] {
+    [0; 264]
+}
+
+fn by_expansion264(v: Values, m: Modulus, g: &[u32]) -> bool
+    requires { ⌜ (Ready v) × Over v m × (3 * v .degree - 3 < v .p) ⌝ }
+    requires { ⌜ HoldsG v (now g) × R1 (Zmod (v .p)) (question v) (poly (v .p) (now g)) ⌝ }
+    ensures { λ r. ⌜ (r ≡ true) ↔ (R3 (Zmod (v .p)) (question v) (poly (v .p) (now (g .entry)))
+        (N (Zmod (v .p)) (question v) (poly (v .p) (now (g .entry))))) ⌝ }
+{
+    let n = v.degree as usize;
+    let i = (n + 4) / 4 * 4 + 1;
+    let j = n + 1;
+    let k = n - 2;
+    let c = n + 6;
+    let mut e = sums264();
+    let mut acc = sums264();
+    let mut s = blank264();
+    let mut h = blank264();
+    let mut squares = blank264();
+    by_expansion_in(
+        v,
+        m,
+        g,
+        &mut e[..c],
+        &mut acc[..i],
+        &mut s[..i],
+        &mut h[..j],
+        &mut squares[..k],
+    )
+}
+
+// Does R3 hold?
+pub fn by_expansion(v: Values, m: Modulus, g: &[u32]) -> bool
+    requires { ⌜ (Ready v) × Over v m × (3 * v .degree - 3 < v .p) ⌝ }
+    requires { ⌜ HoldsG v (now g) × R1 (Zmod (v .p)) (question v) (poly (v .p) (now g)) ⌝ }
+    ensures { λ r. ⌜ (r ≡ true) ↔ (R3 (Zmod (v .p)) (question v) (poly (v .p) (now (g .entry)))
+        (N (Zmod (v .p)) (question v) (poly (v .p) (now (g .entry))))) ⌝ }
+{
+    if v.degree <= 21 {
+        return by_expansion28(v, m, g);
+    }
+    if v.degree <= 79 {
+        return by_expansion88(v, m, g);
+    }
+    by_expansion264(v, m, g)
 }

@@ -102,7 +102,8 @@ fn put(out: &mut [u32], at: usize, w: u32, x: u32, y: u32, z: u32)
     out[at + 3] = z;
 }
 
-// Four power sums from i on, each of which waits for the one before, and then their rows, for those that follow.
+// Four power sums from i on, each of which waits for the one before, and then their rows, for those that follow. (The factors are read back from s: of
+// remainders the compiler knows too much, and takes a product of 64 bits where the vectors have one of 32.)
 fn sums_turn(e: &[u64], d: usize, acc: &mut [u64], s: &mut [u32], i: usize, p: u32)
     requires { ⌜ (1 ≤ i) × (i + 4 ≤ length (now s)) × (length (now s) ≤ 257) × (length (now acc) ≡ length (now s)) × (d + 3 ≤ length (now e)) ⌝ }
     requires { ⌜ (0 < p) × (p ≤ 2 ^ 28) × Reduced p (now e) × ((t : ℕ) → d ≤ t → getD (now e) t 0 ≡ 0) ⌝ }
@@ -122,10 +123,10 @@ fn sums_turn(e: &[u64], d: usize, acc: &mut [u64], s: &mut [u32], i: usize, p: u
         i + 4,
         len,
         e,
-        field::wide(w),
-        field::wide(x),
-        field::wide(y),
-        field::wide(z),
+        rows::word(s, i),
+        rows::word(s, 1 + i),
+        rows::word(s, 2 + i),
+        rows::word(s, 3 + i),
     );
 }
 

@@ -60,7 +60,7 @@ pub fn clear(out: &mut [u64])
 }
 
 // The word at i, 0 past the end.
-fn word(a: &[u32], i: usize) -> u64
+pub fn word(a: &[u32], i: usize) -> u64
     ensures { λ r. ⌜ r ≡ getD (now (a .entry)) i 0 ⌝ }
 {
     if i < a.len() { field::wide(a[i]) } else { 0 }

@@ -219,19 +219,19 @@ fn numerator_in(
     sum_of_parts(v, square, slope, bend, out);
 }
 
-// Room. (As the result of a call its words stay out of the callers' proofs.)
-fn blank() -> [u32; 256] {
-    [0; 256]
+// Room of three sizes, so that small degrees clear little: for ℓ up to 21, up to 79, and for all. (As the result of a call its words stay out of the
+// callers' proofs.)
+fn blank24() -> [u32; 24] {
+    [0; 24]
 }
 
-fn blank_sums() -> [u64; 256] {
-    [0; 256]
+fn sums24() -> [u64; 24] {
+    [0; 24]
 }
 
-// The N that R2 gives.
-pub fn numerator(v: Values, m: Modulus, g: &[u32], out: &mut [u32])
+fn numerator24(v: Values, m: Modulus, g: &[u32], out: &mut [u32])
     requires { ⌜ (Ready v) × HoldsG v (now g) × Over v m ⌝ }
-    requires { ⌜ length (now out) ≡ 2 * half v + 2 ⌝ }
+    requires { ⌜ (length (now out) ≡ 2 * half v + 2) × (half v ≤ 10) ⌝ }
     ensures { λ _. ⌜ Residues (v .p) (N (Zmod (v .p)) (question v) (poly (v .p) (now (g .entry)))) (now (out .exit)) ⌝ }
 {
     let d = g.len() - 1;
@@ -239,13 +239,13 @@ pub fn numerator(v: Values, m: Modulus, g: &[u32], out: &mut [u32])
     let j = 2 * d;
     let k = 2 * d - 1;
     let c = d + 7;
-    let mut e = blank_sums();
-    let mut acc = blank_sums();
-    let mut h = blank();
-    let mut q = blank();
-    let mut square = blank();
-    let mut slope = blank();
-    let mut bend = blank();
+    let mut e = sums24();
+    let mut acc = sums24();
+    let mut h = blank24();
+    let mut q = blank24();
+    let mut square = blank24();
+    let mut slope = blank24();
+    let mut bend = blank24();
     numerator_in(
         v,
         m,
@@ -259,4 +259,101 @@ pub fn numerator(v: Values, m: Modulus, g: &[u32], out: &mut [u32])
         &mut bend[..k],
         out,
     );
+}
+
+fn blank80() -> [u32; 80] {
+    [0; 80]
+}
+
+fn sums80() -> [u64; 80] {
+    [0; 80]
+}
+
+fn numerator80(v: Values, m: Modulus, g: &[u32], out: &mut [u32])
+    requires { ⌜ (Ready v) × HoldsG v (now g) × Over v m ⌝ }
+    requires { ⌜ (length (now out) ≡ 2 * half v + 2) × (half v ≤ 39) ⌝ }
+    ensures { λ _. ⌜ Residues (v .p) (N (Zmod (v .p)) (question v) (poly (v .p) (now (g .entry)))) (now (out .exit)) ⌝ }
+{
+    let d = g.len() - 1;
+    let i = 2 * d + 1;
+    let j = 2 * d;
+    let k = 2 * d - 1;
+    let c = d + 7;
+    let mut e = sums80();
+    let mut acc = sums80();
+    let mut h = blank80();
+    let mut q = blank80();
+    let mut square = blank80();
+    let mut slope = blank80();
+    let mut bend = blank80();
+    numerator_in(
+        v,
+        m,
+        g,
+        &mut e[..c],
+        &mut acc[..i],
+        &mut h[..d],
+        &mut q[..i],
+        &mut square[..i],
+        &mut slope[..j],
+        &mut bend[..k],
+        out,
+    );
+}
+
+fn blank256() -> [u32; 256] {
+    [0; 256]
+}
+
+fn sums256() -> [u64; 256] {
+    [0; 256]
+}
+
+fn numerator256(v: Values, m: Modulus, g: &[u32], out: &mut [u32])
+    requires { ⌜ (Ready v) × HoldsG v (now g) × Over v m ⌝ }
+    requires { ⌜ length (now out) ≡ 2 * half v + 2 ⌝ }
+    ensures { λ _. ⌜ Residues (v .p) (N (Zmod (v .p)) (question v) (poly (v .p) (now (g .entry)))) (now (out .exit)) ⌝ }
+{
+    let d = g.len() - 1;
+    let i = 2 * d + 1;
+    let j = 2 * d;
+    let k = 2 * d - 1;
+    let c = d + 7;
+    let mut e = sums256();
+    let mut acc = sums256();
+    let mut h = blank256();
+    let mut q = blank256();
+    let mut square = blank256();
+    let mut slope = blank256();
+    let mut bend = blank256();
+    numerator_in(
+        v,
+        m,
+        g,
+        &mut e[..c],
+        &mut acc[..i],
+        &mut h[..d],
+        &mut q[..i],
+        &mut square[..i],
+        &mut slope[..j],
+        &mut bend[..k],
+        out,
+    );
+}
+
+// The N that R2 gives.
+pub fn numerator(v: Values, m: Modulus, g: &[u32], out: &mut [u32])
+    requires { ⌜ (Ready v) × HoldsG v (now g) × Over v m ⌝ }
+    requires { ⌜ length (now out) ≡ 2 * half v + 2 ⌝ }
+    ensures { λ _. ⌜ Residues (v .p) (N (Zmod (v .p)) (question v) (poly (v .p) (now (g .entry)))) (now (out .exit)) ⌝ }
+{
+    if g.len() <= 11 {
+        numerator24(v, m, g, out);
+        return;
+    }
+    if g.len() <= 40 {
+        numerator80(v, m, g, out);
+        return;
+    }
+    numerator256(v, m, g, out);
 }

@@ -1,9 +1,9 @@
--- `equation::short::by_expansion` meets its contract. Assumes nothing.
+-- `equation::short::by_expansion88` meets its contract. Assumes nothing.
 use native.Mathlib.Omega.{arith}
 use lib.ListN.{length-take}
 use borrow.Author.Needs.{needs}
-use Rattle.equation.proofs.short.by_expansion.Statement.{statement}
-use Rattle.equation.proofs.short.by_expansion.Tie as tie
+use Rattle.equation.proofs.short.by_expansion88.Statement.{statement}
+use Rattle.equation.proofs.short.by_expansion88.Tie as tie
 
 cast-n : tie.Need-cast-n
 cast-n c = search needs
@@ -26,20 +26,20 @@ sub-k c = search (needs, c .before .before .pre .0 .0 .degree)
 add-c : tie.Need-add-c
 add-c c = search (needs, c .before .before .pre .0 .0 .degree)
 
-blank-sums-requires : tie.Need-blank-sums-requires
-blank-sums-requires c κs = search needs
+sums88-requires : tie.Need-sums88-requires
+sums88-requires c κs = search needs
 
-blank-sums-requires-2 : tie.Need-blank-sums-requires-2
-blank-sums-requires-2 c κs = search needs
+sums88-requires-2 : tie.Need-sums88-requires-2
+sums88-requires-2 c κs = search needs
 
-blank-requires : tie.Need-blank-requires
-blank-requires c κs = search needs
+blank88-requires : tie.Need-blank88-requires
+blank88-requires c κs = search needs
 
-blank-requires-2 : tie.Need-blank-requires-2
-blank-requires-2 c κs = search needs
+blank88-requires-2 : tie.Need-blank88-requires-2
+blank88-requires-2 c κs = search needs
 
-blank-requires-3 : tie.Need-blank-requires-3
-blank-requires-3 c κs = search needs
+blank88-requires-3 : tie.Need-blank88-requires-3
+blank88-requires-3 c κs = search needs
 
 array-borrow-prefix-e : tie.Need-array-borrow-prefix-e
 array-borrow-prefix-e c = search (needs, c .before .before .before .before .before .before .before .pre .0 .0 .degree)
@@ -75,10 +75,10 @@ by-expansion-in-requires : tie.Need-by-expansion-in-requires
 by-expansion-in-requires c κs =
     let start = c .before .before .before .before .before .before .before .before .before .before .before .before in
     let degree = start .pre .0 .0 .degree in
-    (start .pre .0, (start .pre .1, (simp length-take (omega (arith, degree)), simp length-take (omega (arith, degree)))))
+    ((start .pre .0 .0, start .pre .0 .1, start .pre .0 .2), (start .pre .1, (simp length-take (omega (arith, degree)), simp length-take (omega (arith, degree)))))
 
 returns : tie.Need-returns
 returns c = search needs
 
-pub by-expansion-spec : {M : Type 1} → statement M
-by-expansion-spec = tie.close (tie.spec cast-n add-i mul-i add-i-2 add-j sub-k add-c blank-sums-requires blank-sums-requires-2 blank-requires blank-requires-2 blank-requires-3 array-borrow-prefix-e slice-aggregate-by-expansion-in array-borrow-prefix-acc slice-aggregate-by-expansion-in-2 array-borrow-prefix-s slice-aggregate-by-expansion-in-3 array-borrow-prefix-h slice-aggregate-by-expansion-in-4 array-borrow-prefix-squares slice-aggregate-by-expansion-in-5 by-expansion-in-requires returns)
+pub by-expansion88-spec : {M : Type 1} → statement M
+by-expansion88-spec = tie.close (tie.spec cast-n add-i mul-i add-i-2 add-j sub-k add-c sums88-requires sums88-requires-2 blank88-requires blank88-requires-2 blank88-requires-3 array-borrow-prefix-e slice-aggregate-by-expansion-in array-borrow-prefix-acc slice-aggregate-by-expansion-in-2 array-borrow-prefix-s slice-aggregate-by-expansion-in-3 array-borrow-prefix-h slice-aggregate-by-expansion-in-4 array-borrow-prefix-squares slice-aggregate-by-expansion-in-5 by-expansion-in-requires returns)
