@@ -16,7 +16,14 @@ ghost use Rattle.rules.specs.Over.{Over};
 ghost use Rattle.sheet.specs.Ready.{Ready, HoldsG, HoldsN};
 
 // Are 5h₁ = A - Ã and 7h₂ = B - B̃, and does h obey the recurrence? e, acc and squares are room for that.
-fn conditions(v: Values, m: Modulus, h: &[u32], e: &mut [u64], acc: &mut [u64], squares: &mut [u32]) -> bool
+fn conditions(
+    v: Values,
+    m: Modulus,
+    h: &[u32],
+    e: &mut [u64],
+    acc: &mut [u64],
+    squares: &mut [u32],
+) -> bool
     requires { ⌜ (Ready v) × Over v m × (length (now h) ≡ v .degree + 1) × (Reduced (v .p) (now h)) ⌝ }
     requires { ⌜ (length (now squares) ≡ v .degree - 2) × (length (now squares) ≤ length (now acc)) × (v .degree + 6 ≤ length (now e)) ⌝ }
     ensures { λ r. ⌜ (r ≡ true) ↔ Short (Zmod (v .p)) (question v) (poly (v .p) (now (h .entry))) ⌝ }

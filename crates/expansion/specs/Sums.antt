@@ -43,6 +43,7 @@ module _ (R : CRing) (d : ℕ) (g : Seq R) where
     where
       e : 1 + i - 1 ≡ suc (i - 1)
       e = omega arith
+
       e′ : suc (i - 1) ≡ i
       e′ = omega arith
 

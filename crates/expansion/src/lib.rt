@@ -268,7 +268,14 @@ fn recurs_by(v: Values, h: &[u32], squares: &[u32]) -> bool
 }
 
 // Does h obey the recurrence wherever it can be read off its words? All its sums are those of one square; e, acc and squares are its room.
-pub fn recurs(v: Values, m: Modulus, h: &[u32], e: &mut [u64], acc: &mut [u64], squares: &mut [u32]) -> bool
+pub fn recurs(
+    v: Values,
+    m: Modulus,
+    h: &[u32],
+    e: &mut [u64],
+    acc: &mut [u64],
+    squares: &mut [u32],
+) -> bool
     requires { ⌜ (Ready v) × (Prepared m) × (m .p ≡ v .p) ⌝ }
     requires { ⌜ (3 ≤ length (now h)) × (length (now h) ≤ 256) × Reduced (v .p) (now h) ⌝ }
     requires { ⌜ (length (now squares) ≡ length (now h) - 3) × (length (now acc) ≡ length (now squares)) × (length (now h) + 5 ≤ length (now e)) ⌝ }

@@ -18,7 +18,11 @@ pub fn sum_more(s: u64, w: u64, a: u64, x: u64, b: u64, y: u64, c: u64, z: u64, 
     requires { ⌜ s + w * a + x * b + y * c + z * d < 2 ^ 64 ⌝ }
     ensures { λ r. ⌜ r ≡ s + w * a + x * b + y * c + z * d ⌝ }
 {
-    s + barrett::product(w, a) + barrett::product(x, b) + barrett::product(y, c) + barrett::product(z, d)
+    s
+        + barrett::product(w, a)
+        + barrett::product(x, b)
+        + barrett::product(y, c)
+        + barrett::product(z, d)
 }
 
 // out = out + w a + x b + y c + z d, word by word.

@@ -26,7 +26,14 @@ fn less_multiple(a: u32, k: u32, h: u32, p: u32) -> u32
 }
 
 // The values with σ, and with the only codomain that can pass, in room for five power sums, one turn, and the expansion up to h₂.
-fn completed_in(v: Values, g: &[u32], e: &mut [u64], acc: &mut [u64], s: &mut [u32], h: &mut [u32]) -> Values
+fn completed_in(
+    v: Values,
+    g: &[u32],
+    e: &mut [u64],
+    acc: &mut [u64],
+    s: &mut [u32],
+    h: &mut [u32],
+) -> Values
     requires { ⌜ (Ready v) × HoldsG v (now g) ⌝ }
     requires { ⌜ (length (now e) ≡ 130) × (length (now acc) ≡ 5) × (length (now s) ≡ 5) × (length (now h) ≡ 3) ⌝ }
     ensures { λ r. ⌜ Completed v (now (g .entry)) r ⌝ }

@@ -58,9 +58,12 @@ loop-less c = search needs
 
 loop-again : tie.Need-loop-again Inv-loop μ-loop
 loop-again c =
-    let loop = c .before .before .before .before .loop in
-    (search needs, search needs, stored-more _ _ (loop .e) (loop .t) (c .wide .result) (omega arith) (loop .inv .2)
-    (subst (Residue _ _) (sym (c .wide .ensures)) (c .before .negate .ensures)))
+    let loop = c .before .before .before .before .loop in (
+      search needs,
+      search needs,
+      stored-more _ _ (loop .e) (loop .t) (c .wide .result) (omega arith) (loop .inv .2)
+          (subst (Residue _ _) (sym (c .wide .ensures)) (c .before .negate .ensures)),
+    )
 
 same-length : tie.Need-same-length Inv-loop μ-loop
 same-length c = search needs

@@ -27,10 +27,15 @@ weights-requires c κs =
     let a = start .args in
     let ready = start .pre .0 .0 in
     let holds = start .pre .0 .1 in
-    let back = c .before .before .before .before .negated in
-    (omega (arith, start .pre .1), (omega (arith, holds .count, ready .degree), omega (arith, holds .count, start .pre .1),
-    λ t. omega (arith, ready .prime, backwards-reduced (a .v .p) (half (a .v)) (a .g .now) (back .last .1 .0) (search needs) (holds .count) (back .ensures) t),
-    λ t l. back .ensures .past t (omega (arith, holds .count))))
+    let back = c .before .before .before .before .negated in (
+      omega (arith, start .pre .1),
+      (
+        omega (arith, holds .count, ready .degree),
+        omega (arith, holds .count, start .pre .1),
+        λ t. omega (arith, ready .prime, backwards-reduced (a .v .p) (half (a .v)) (a .g .now) (back .last .1 .0) (search needs) (holds .count) (back .ensures) t),
+        λ t l. back .ensures .past t (omega (arith, holds .count)),
+      ),
+    )
 
 sub-wide : tie.Need-sub-wide
 sub-wide c = search needs
@@ -51,11 +56,14 @@ sums-turns-requires c κs =
     let ready = start .pre .0 .0 in
     let holds = start .pre .0 .1 in
     let back = c .before .before .before .before .before .before .before .before .before .before .before .before .before .negated in
-    let low = backwards-reduced (a .v .p) (half (a .v)) (a .g .now) (back .last .1 .0) (search needs) (holds .count) (back .ensures) in
-    ((simp length-set (omega (arith, start .pre .1)), simp length-set (omega (arith, start .pre .1)), simp length-set (start .pre .1 .1), simp length-set (omega (arith, start .pre .1, c .before .before .before .before .before .before .before .before .weights .kept)), omega (arith, holds .count, start .pre .1)),
-    ((search needs, omega (arith, ready .prime), low, λ t l. back .ensures .past t (omega (arith, holds .count))),
-    weights-low (back .last .1 .0) (c .before .before .before .before .before .before .before .before .weights .last .1 .1 .0) (length (a .g .now) - 1) (omega (arith, holds .count, ready .degree)) (c .before .before .before .before .before .before .before .before .weights .ensures)
-    (λ t. omega (arith, ready .prime, low t)) (λ t l. back .ensures .past t (omega (arith, holds .count)))))
+    let low = backwards-reduced (a .v .p) (half (a .v)) (a .g .now) (back .last .1 .0) (search needs) (holds .count) (back .ensures) in (
+      (simp length-set (omega (arith, start .pre .1)), simp length-set (omega (arith, start .pre .1)), simp length-set (start .pre .1 .1), simp length-set (omega (arith, start .pre .1, c .before .before .before .before .before .before .before .before .weights .kept)), omega (arith, holds .count, start .pre .1)),
+      (
+        (search needs, omega (arith, ready .prime), low, λ t l. back .ensures .past t (omega (arith, holds .count))),
+        weights-low (back .last .1 .0) (c .before .before .before .before .before .before .before .before .weights .last .1 .1 .0) (length (a .g .now) - 1) (omega (arith, holds .count, ready .degree)) (c .before .before .before .before .before .before .before .before .weights .ensures)
+            (λ t. omega (arith, ready .prime, low t)) (λ t l. back .ensures .past t (omega (arith, holds .count))),
+      ),
+    )
 
 same-length : tie.Need-same-length
 same-length c = search needs

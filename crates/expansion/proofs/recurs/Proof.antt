@@ -27,23 +27,37 @@ square-requires c κs =
     let start = c .before .before .before .before .before .before .before .before in
     let a = start .args in
     let over = start .pre .0 in
-    let sizes = start .pre .1 in
-    ((over .1, subst (λ p. Reduced p (take (length (a .h .now) - 1) (drop 1 (a .h .now)))) (sym (over .2))
-    (part-below (a .h .now) 1 (length (a .h .now) - 1) (a .v .p) (search needs) (sizes .0 .2)),
-    turns-fit _ _ _ (omega (arith, over .2, over .0 .prime)) (omega (arith, sizes, length-take (length (a .h .now) - 1) (drop 1 (a .h .now)), length-drop 1 (a .h .now)))),
-    (omega (arith, sizes), omega (arith, sizes, length-take (length (a .h .now) - 1) (drop 1 (a .h .now)), length-drop 1 (a .h .now)),
-    omega (arith, sizes, length-take (length (a .h .now) - 1) (drop 1 (a .h .now)), length-drop 1 (a .h .now))))
+    let sizes = start .pre .1 in (
+      (
+        over .1,
+        subst (λ p. Reduced p (take (length (a .h .now) - 1) (drop 1 (a .h .now)))) (sym (over .2))
+            (part-below (a .h .now) 1 (length (a .h .now) - 1) (a .v .p) (search needs) (sizes .0 .2)),
+        turns-fit _ _ _ (omega (arith, over .2, over .0 .prime)) (omega (arith, sizes, length-take (length (a .h .now) - 1) (drop 1 (a .h .now)), length-drop 1 (a .h .now))),
+      ),
+      (
+        omega (arith, sizes),
+        omega (arith, sizes, length-take (length (a .h .now) - 1) (drop 1 (a .h .now)), length-drop 1 (a .h .now)),
+        omega (arith, sizes, length-take (length (a .h .now) - 1) (drop 1 (a .h .now)), length-drop 1 (a .h .now)),
+      ),
+    )
 
 recurs-by-requires : tie.Need-recurs-by-requires
 recurs-by-requires c κs =
     let start = c .before .before .before .before .before .before .before .before .before .before .before .before .before .before .before .before in
     let a = start .args in
     let sizes = start .pre .1 in
-    let square = c .before .before .before .before .before .before .before .square in
-    (start .pre .0 .0, ((omega (arith, sizes), sizes .0 .2), (omega (arith, sizes, square .kept),
-    squares-of (a .v .p) (a .h .now) (square .last .1 .1 .1 .0) (length (a .h .now) - 1) (omega arith) (omega (arith, sizes, square .kept))
-    (subst (λ p. Residues p (conv (Zmod p) (poly p (take (length (a .h .now) - 1) (drop 1 (a .h .now)))) (poly p (take (length (a .h .now) - 1) (drop 1 (a .h .now)))))
-    (square .last .1 .1 .1 .0)) (start .pre .0 .2) (square .ensures)))))
+    let square = c .before .before .before .before .before .before .before .square in (
+      start .pre .0 .0,
+      (
+        (omega (arith, sizes), sizes .0 .2),
+        (
+          omega (arith, sizes, square .kept),
+          squares-of (a .v .p) (a .h .now) (square .last .1 .1 .1 .0) (length (a .h .now) - 1) (omega arith) (omega (arith, sizes, square .kept))
+              (subst (λ p. Residues p (conv (Zmod p) (poly p (take (length (a .h .now) - 1) (drop 1 (a .h .now)))) (poly p (take (length (a .h .now) - 1) (drop 1 (a .h .now)))))
+              (square .last .1 .1 .1 .0)) (start .pre .0 .2) (square .ensures)),
+        ),
+      ),
+    )
 
 same-length : tie.Need-same-length
 same-length c = search needs

@@ -32,9 +32,19 @@ sum-more-requires c κs =
     let a = start .args in
     let w = c .before .before .wide .ensures in
     let x = c .before .wide2 .ensures in
-    let y = c .wide3 .ensures in
-    ((omega (arith, w, start .fits .w .fits), search needs, omega (arith, x, start .fits .x .fits), search needs, omega (arith, y, start .fits .y .fits), search needs,
-    search needs, search needs), subst (λ n. n < 2 ^ 64) (sym (total c)) (start .pre .4))
+    let y = c .wide3 .ensures in (
+      (
+        omega (arith, w, start .fits .w .fits),
+        search needs,
+        omega (arith, x, start .fits .x .fits),
+        search needs,
+        omega (arith, y, start .fits .y .fits),
+        search needs,
+        search needs,
+        search needs,
+      ),
+      subst (λ n. n < 2 ^ 64) (sym (total c)) (start .pre .4),
+    )
 
 reduce-requires : tie.Need-reduce-requires
 reduce-requires c κs = search needs

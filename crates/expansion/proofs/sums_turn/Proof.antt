@@ -1,6 +1,7 @@
 -- `expansion::sums_turn` meets its contract. Assumes nothing.
-use mathlib.Core.Path.{sym, _∙_, ap}
-use Prim.Native.Nat.{_+_}
+use mathlib.Core.Path.{_≡_, sym, _∙_, ap}
+use mathlib.Core.List.{List}
+use Prim.Native.Nat.{ℕ, _+_}
 use native.Mathlib.Omega.{arith}
 use borrow.Author.Needs.{needs}
 use lib.ListN.{getD}
@@ -39,9 +40,13 @@ residue-requires c κs =
     let start = c .before .before .before .before .before .before .before in
     let a = start .args in
     let small = start .pre .1 .0 .2 in
-    let w = c .before .before .reduce .ensures .below in
-    (start .pre .1 .0 .0, omega (arith, small 0), search needs, search needs,
-    omega (arith, start .pre .1 .1 (1 + a .i), product-le {x = c .before .before .reduce .result} {y = getD (a .e .now) 0 0} (omega arith) (omega (arith, small 0))))
+    let w = c .before .before .reduce .ensures .below in (
+      start .pre .1 .0 .0,
+      omega (arith, small 0),
+      search needs,
+      search needs,
+      omega (arith, start .pre .1 .1 (1 + a .i), product-le {x = c .before .before .reduce .result} {y = getD (a .e .now) 0 0} (omega arith) (omega (arith, small 0))),
+    )
 
 add-residue-2 : tie.Need-add-residue-2
 add-residue-2 c = search needs
@@ -64,10 +69,18 @@ residue-requires-2 c κs =
     let a = start .args in
     let small = start .pre .1 .0 .2 in
     let w = c .before .before .before .before .before .before .reduce .ensures .below in
-    let x = c .before .before .before .residue .ensures .below in
-    (start .pre .1 .0 .0, omega (arith, small 1), omega (arith, small 0), search needs,
-    omega (arith, start .pre .1 .1 (2 + a .i), product-le {x = c .before .before .before .before .before .before .reduce .result} {y = getD (a .e .now) 1 0} (omega arith) (omega (arith, small 1)),
-    product-le {x = c .before .before .before .residue .result} {y = getD (a .e .now) 0 0} (omega arith) (omega (arith, small 0))))
+    let x = c .before .before .before .residue .ensures .below in (
+      start .pre .1 .0 .0,
+      omega (arith, small 1),
+      omega (arith, small 0),
+      search needs,
+      omega (
+        arith,
+        start .pre .1 .1 (2 + a .i),
+        product-le {x = c .before .before .before .before .before .before .reduce .result} {y = getD (a .e .now) 1 0} (omega arith) (omega (arith, small 1)),
+        product-le {x = c .before .before .before .residue .result} {y = getD (a .e .now) 0 0} (omega arith) (omega (arith, small 0)),
+      ),
+    )
 
 add-residue-3 : tie.Need-add-residue-3
 add-residue-3 c = search needs
@@ -94,11 +107,19 @@ residue-requires-3 c κs =
     let small = start .pre .1 .0 .2 in
     let w = c .before .before .before .before .before .before .before .before .before .before .before .reduce .ensures .below in
     let x = c .before .before .before .before .before .before .before .before .residue .ensures .below in
-    let y = c .before .before .before .before .residue2 .ensures .below in
-    (start .pre .1 .0 .0, omega (arith, small 2), omega (arith, small 1), omega (arith, small 0),
-    omega (arith, start .pre .1 .1 (3 + a .i), product-le {x = c .before .before .before .before .before .before .before .before .before .before .before .reduce .result} {y = getD (a .e .now) 2 0} (omega arith) (omega (arith, small 2)),
-    product-le {x = c .before .before .before .before .before .before .before .before .residue .result} {y = getD (a .e .now) 1 0} (omega arith) (omega (arith, small 1)),
-    product-le {x = c .before .before .before .before .residue2 .result} {y = getD (a .e .now) 0 0} (omega arith) (omega (arith, small 0))))
+    let y = c .before .before .before .before .residue2 .ensures .below in (
+      start .pre .1 .0 .0,
+      omega (arith, small 2),
+      omega (arith, small 1),
+      omega (arith, small 0),
+      omega (
+        arith,
+        start .pre .1 .1 (3 + a .i),
+        product-le {x = c .before .before .before .before .before .before .before .before .before .before .before .reduce .result} {y = getD (a .e .now) 2 0} (omega arith) (omega (arith, small 2)),
+        product-le {x = c .before .before .before .before .before .before .before .before .residue .result} {y = getD (a .e .now) 1 0} (omega arith) (omega (arith, small 1)),
+        product-le {x = c .before .before .before .before .residue2 .result} {y = getD (a .e .now) 0 0} (omega arith) (omega (arith, small 0)),
+      ),
+    )
 
 put-requires : tie.Need-put-requires
 put-requires c κs = search needs
@@ -115,33 +136,66 @@ least-requires c κs = search needs
 add-add-rows : tie.Need-add-add-rows
 add-add-rows c = record { fits = omega (arith, c .before .before .before .before .before .before .before .before .before .before .before .before .before .before .before .before .before .before .before .before .before .before .before .pre .0) }
 
-wide-requires : tie.Need-wide-requires
-wide-requires c κs = search needs
+word-requires : tie.Need-word-requires
+word-requires c κs = search needs
 
-wide-requires-2 : tie.Need-wide-requires-2
-wide-requires-2 c κs = search needs
+add-word : tie.Need-add-word
+add-word c = record { fits = omega (arith, c .before .before .before .before .before .before .before .before .before .before .before .before .before .before .before .before .before .before .before .before .before .before .before .before .before .before .pre .0) }
 
-wide-requires-3 : tie.Need-wide-requires-3
-wide-requires-3 c κs = search needs
+word-requires-2 : tie.Need-word-requires-2
+word-requires-2 c κs = search needs
 
-wide-requires-4 : tie.Need-wide-requires-4
-wide-requires-4 c κs = search needs
+add-word-2 : tie.Need-add-word-2
+add-word-2 c = record { fits = omega (arith, c .before .before .before .before .before .before .before .before .before .before .before .before .before .before .before .before .before .before .before .before .before .before .before .before .before .before .before .before .pre .0) }
+
+word-requires-3 : tie.Need-word-requires-3
+word-requires-3 c κs = search needs
+
+add-word-3 : tie.Need-add-word-3
+add-word-3 c = record { fits = omega (arith, c .before .before .before .before .before .before .before .before .before .before .before .before .before .before .before .before .before .before .before .before .before .before .before .before .before .before .before .before .before .before .pre .0) }
+
+word-requires-4 : tie.Need-word-requires-4
+word-requires-4 c κs = search needs
+
+-- the factors are the words that were put
+module _ (c : tie.After-word4) where
+  abbrev s : List ℕ
+  s = c .before .before .before .before .before .before .before .before .before .before .before .before .put .last .0
+
+  first : c .before .before .before .before .before .before .word .result ≡ c .before .before .before .before .before .before .before .before .before .before .before .before .before .before .before .before .before .before .before .before .before .before .before .before .before .before .reduce .result
+  first = c .before .before .before .before .before .before .word .ensures ∙ c .before .before .before .before .before .before .before .before .before .before .before .before .put .ensures .first
+
+  second : c .before .before .before .before .word2 .result ≡ c .before .before .before .before .before .before .before .before .before .before .before .before .before .before .before .before .before .before .before .before .before .before .before .residue .result
+  second = c .before .before .before .before .word2 .ensures ∙ ap (λ n. getD s n 0) (omega arith) ∙ c .before .before .before .before .before .before .before .before .before .before .before .before .put .ensures .second
+
+  third : c .before .before .word3 .result ≡ c .before .before .before .before .before .before .before .before .before .before .before .before .before .before .before .before .before .before .before .residue2 .result
+  third = c .before .before .word3 .ensures ∙ ap (λ n. getD s n 0) (omega arith) ∙ c .before .before .before .before .before .before .before .before .before .before .before .before .put .ensures .third
+
+  fourth : c .word4 .result ≡ c .before .before .before .before .before .before .before .before .before .before .before .before .before .before .residue3 .result
+  fourth = c .word4 .ensures ∙ ap (λ n. getD s n 0) (omega arith) ∙ c .before .before .before .before .before .before .before .before .before .before .before .before .put .ensures .fourth
 
 add-rows-requires : tie.Need-add-rows-requires
 add-rows-requires c κs =
-    let start = c .before .before .before .before .before .before .before .before .before .before .before .before .before .before .before .before .before .before .before .before .before .before .before .before .before .before .before in
+    let start = c .before .before .before .before .before .before .before .before .before .before .before .before .before .before .before .before .before .before .before .before .before .before .before .before .before .before .before .before .before .before .before in
     let a = start .args in
     let small = start .pre .1 .0 .2 in
-    let w = c .before .before .before .before .before .before .before .before .before .before .before .before .before .before .before .before .before .before .before .before .before .before .reduce .ensures .below in
-    let x = c .before .before .before .before .before .before .before .before .before .before .before .before .before .before .before .before .before .before .before .residue .ensures .below in
-    let y = c .before .before .before .before .before .before .before .before .before .before .before .before .before .before .before .residue2 .ensures .below in
-    let z = c .before .before .before .before .before .before .before .before .before .before .residue3 .ensures .below in
-    let size = c .before .before .before .before .before .least .ensures in
-    ((omega (arith, size), omega (arith, size), λ j. omega (arith, small j)),
-    ((omega (arith, c .before .before .before .wide .ensures), omega (arith, c .before .before .wide2 .ensures), omega (arith, c .before .wide3 .ensures), omega (arith, c .wide4 .ensures)),
-    λ j l. omega (arith, start .pre .1 .1 (a .i + 4 + j), row-le 268435455 268435455 (getD (a .acc .now) (a .i + 4 + j) 0) (a .e .now) j (c .before .before .before .wide .result)
-    (c .before .before .wide2 .result) (c .before .wide3 .result) (c .wide4 .result) (omega (arith, c .before .before .before .wide .ensures)) (omega (arith, c .before .before .wide2 .ensures))
-    (omega (arith, c .before .wide3 .ensures)) (omega (arith, c .wide4 .ensures)) (λ u. omega (arith, small u)))))
+    let w = c .before .before .before .before .before .before .before .before .before .before .before .before .before .before .before .before .before .before .before .before .before .before .before .before .before .before .reduce .ensures .below in
+    let x = c .before .before .before .before .before .before .before .before .before .before .before .before .before .before .before .before .before .before .before .before .before .before .before .residue .ensures .below in
+    let y = c .before .before .before .before .before .before .before .before .before .before .before .before .before .before .before .before .before .before .before .residue2 .ensures .below in
+    let z = c .before .before .before .before .before .before .before .before .before .before .before .before .before .before .residue3 .ensures .below in
+    let size = c .before .before .before .before .before .before .before .before .before .least .ensures in (
+      (omega (arith, size), omega (arith, size), λ j. omega (arith, small j)),
+      (
+        (omega (arith, first c), omega (arith, second c), omega (arith, third c), omega (arith, fourth c)),
+        λ j l. omega (
+          arith,
+          start .pre .1 .1 (a .i + 4 + j),
+          row-le 268435455 268435455 (getD (a .acc .now) (a .i + 4 + j) 0) (a .e .now) j (c .before .before .before .before .before .before .word .result)
+              (c .before .before .before .before .word2 .result) (c .before .before .word3 .result) (c .word4 .result) (omega (arith, first c)) (omega (arith, second c)) (omega (arith, third c))
+              (omega (arith, fourth c)) (λ u. omega (arith, small u)),
+        ),
+      ),
+    )
 
 same-length : tie.Need-same-length
 same-length c = search needs
@@ -151,38 +205,44 @@ same-length-2 c = search needs
 
 returns : tie.Need-returns
 returns c =
-    let start = c .before .before .before .before .before .before .before .before .before .before .before .before .before .before .before .before .before .before .before .before .before .before .before .before .before .before .before .before .before .before in
+    let start = c .before .before .before .before .before .before .before .before .before .before .before .before .before .before .before .before .before .before .before .before .before .before .before .before .before .before .before .before .before .before .before .before .before .before in
     let a = start .args in
     let small = start .pre .1 .0 .2 in
     let added = c .before .before .add-rows in
-    let w = c .before .before .before .before .before .before .before .before .before .before .before .before .before .before .before .before .before .before .before .before .before .before .before .before .before .reduce .ensures in
-    let x = c .before .before .before .before .before .before .before .before .before .before .before .before .before .before .before .before .before .before .before .before .before .before .residue .ensures in
-    let y = c .before .before .before .before .before .before .before .before .before .before .before .before .before .before .before .before .before .before .residue2 .ensures in
-    let z = c .before .before .before .before .before .before .before .before .before .before .before .before .before .residue3 .ensures in
-    let put = c .before .before .before .before .before .before .before .before .before .before .before .put in
-    let size = c .before .before .before .before .before .before .before .before .least .ensures in
-    let rows = same-rows (a .acc .now) (a .e .now) (added .last .0) (a .i + 4) (c .before .before .before .before .before .before .before .before .least .result) (c .before .before .before .before .before .before .before .before .before .before .before .before .before .before .before .before .before .before .before .before .before .before .before .before .before .reduce .result) (c .before .before .before .before .before .before .before .before .before .before .before .before .before .before .before .before .before .before .before .before .before .before .residue .result)
-    (c .before .before .before .before .before .before .before .before .before .before .before .before .before .before .before .before .before .before .residue2 .result) (c .before .before .before .before .before .before .before .before .before .before .before .before .before .residue3 .result) (c .before .before .before .before .before .before .wide .result) (c .before .before .before .before .before .wide2 .result) (c .before .before .before .before .wide3 .result) (c .before .before .before .wide4 .result)
-    (c .before .before .before .before .before .before .wide .ensures) (c .before .before .before .before .before .wide2 .ensures) (c .before .before .before .before .wide3 .ensures) (c .before .before .before .wide4 .ensures) (added .ensures)
-    in
-    (λ k. omega (arith, start .pre .1 .1 k, added-le 268435455 268435455 (a .acc .now) (a .e .now) (a .i + 4) (c .before .before .before .before .before .before .before .before .least .result) (c .before .before .before .before .before .before .before .before .before .before .before .before .before .before .before .before .before .before .before .before .before .before .before .before .before .reduce .result)
-    (c .before .before .before .before .before .before .before .before .before .before .before .before .before .before .before .before .before .before .before .before .before .before .residue .result) (c .before .before .before .before .before .before .before .before .before .before .before .before .before .before .before .before .before .before .residue2 .result) (c .before .before .before .before .before .before .before .before .before .before .before .before .before .residue3 .result) (added .last .0) rows (omega (arith, w .below)) (omega (arith, x .below))
-    (omega (arith, y .below)) (omega (arith, z .below)) (λ u. omega (arith, small u)) k),
-    λ g n h. record {
-      solved = solved-four (a .p) (Newton (Zmod (a .p)) (a .d) g) (newton-causal (a .p) (a .d) g) (a .s .now) (put .last .0) (a .i) (c .before .before .before .before .before .before .before .before .before .before .before .before .before .before .before .before .before .before .before .before .before .before .before .before .before .reduce .result)
-          (c .before .before .before .before .before .before .before .before .before .before .before .before .before .before .before .before .before .before .before .before .before .before .residue .result) (c .before .before .before .before .before .before .before .before .before .before .before .before .before .before .before .before .before .before .residue2 .result) (c .before .before .before .before .before .before .before .before .before .before .before .before .before .residue3 .result) (put .ensures) (w .below) (x .below) (y .below) (z .below)
-          (newton₀ (a .p) (a .d) g (a .e .now) (a .acc .now) (a .s .now) (put .last .0) (a .i) _ _ _ _ (start .pre .0 .0) (omega arith) n (h .due-from) (put .ensures)
-          (sym (w .class)))
-          (newton₁ (a .p) (a .d) g (a .e .now) (a .acc .now) (a .s .now) (put .last .0) (a .i) _ _ _ _ (start .pre .0 .0) (omega arith) n (h .due-from) (put .ensures)
-          (sym (x .class ∙ ap (mk (a .p)) (omega arith))))
-          (newton₂ (a .p) (a .d) g (a .e .now) (a .acc .now) (a .s .now) (put .last .0) (a .i) _ _ _ _ (start .pre .0 .0) (omega arith) n (h .due-from) (put .ensures)
-          (sym (y .class ∙ ap (mk (a .p)) (omega arith))))
-          (newton₃ (a .p) (a .d) g (a .e .now) (a .acc .now) (a .s .now) (put .last .0) (a .i) _ _ _ _ (start .pre .0 .0) (omega arith) n (h .due-from) (put .ensures)
-          (sym (z .class)))
-          (h .solved);
-      due-from = due-rows (a .p) (a .d) g (a .e .now) (a .acc .now) (a .s .now) (put .last .0) (a .i) _ _ _ _ (start .pre .0 .0) (omega arith) n (h .due-from) (put .ensures)
-          (c .before .before .before .before .before .before .before .before .least .result) (added .last .0) (omega arith) rows (λ k l m u le. start .pre .1 .0 .3 u (omega (arith, size)));
-    })
+    let words = c .before .before .before in
+    let w = c .before .before .before .before .before .before .before .before .before .before .before .before .before .before .before .before .before .before .before .before .before .before .before .before .before .before .before .before .before .reduce in
+    let x = c .before .before .before .before .before .before .before .before .before .before .before .before .before .before .before .before .before .before .before .before .before .before .before .before .before .before .residue in
+    let y = c .before .before .before .before .before .before .before .before .before .before .before .before .before .before .before .before .before .before .before .before .before .before .residue2 in
+    let z = c .before .before .before .before .before .before .before .before .before .before .before .before .before .before .before .before .before .residue3 in
+    let put = c .before .before .before .before .before .before .before .before .before .before .before .before .before .before .before .put in
+    let least = c .before .before .before .before .before .before .before .before .before .before .before .before .least in
+    let rows = same-rows (a .acc .now) (a .e .now) (added .last .0) (a .i + 4) (least .result) (w .result) (x .result) (y .result) (z .result)
+    (c .before .before .before .before .before .before .before .before .before .word .result) (c .before .before .before .before .before .before .before .word2 .result) (c .before .before .before .before .before .word3 .result) (words .word4 .result) (first words) (second words) (third words) (fourth words)
+    (added .ensures)
+    in (
+      λ k. omega (
+        arith,
+        start .pre .1 .1 k,
+        added-le 268435455 268435455 (a .acc .now) (a .e .now) (a .i + 4) (least .result) (w .result) (x .result) (y .result)
+            (z .result) (added .last .0) rows (omega (arith, w .ensures .below)) (omega (arith, x .ensures .below)) (omega (arith, y .ensures .below))
+            (omega (arith, z .ensures .below)) (λ u. omega (arith, small u)) k,
+      ),
+      λ g n h. record {
+        solved = solved-four (a .p) (Newton (Zmod (a .p)) (a .d) g) (newton-causal (a .p) (a .d) g) (a .s .now) (put .last .0) (a .i) (w .result) (x .result)
+            (y .result) (z .result) (put .ensures) (w .ensures .below) (x .ensures .below) (y .ensures .below) (z .ensures .below)
+            (newton₀ (a .p) (a .d) g (a .e .now) (a .acc .now) (a .s .now) (put .last .0) (a .i) _ _ _ _ (start .pre .0 .0) (omega arith) n (h .due-from) (put .ensures)
+            (sym (w .ensures .class)))
+            (newton₁ (a .p) (a .d) g (a .e .now) (a .acc .now) (a .s .now) (put .last .0) (a .i) _ _ _ _ (start .pre .0 .0) (omega arith) n (h .due-from) (put .ensures)
+            (sym (x .ensures .class ∙ ap (mk (a .p)) (omega arith))))
+            (newton₂ (a .p) (a .d) g (a .e .now) (a .acc .now) (a .s .now) (put .last .0) (a .i) _ _ _ _ (start .pre .0 .0) (omega arith) n (h .due-from) (put .ensures)
+            (sym (y .ensures .class ∙ ap (mk (a .p)) (omega arith))))
+            (newton₃ (a .p) (a .d) g (a .e .now) (a .acc .now) (a .s .now) (put .last .0) (a .i) _ _ _ _ (start .pre .0 .0) (omega arith) n (h .due-from) (put .ensures)
+            (sym (z .ensures .class)))
+            (h .solved);
+        due-from = due-rows (a .p) (a .d) g (a .e .now) (a .acc .now) (a .s .now) (put .last .0) (a .i) _ _ _ _ (start .pre .0 .0) (omega arith) n (h .due-from)
+            (put .ensures) (least .result) (added .last .0) (omega arith) rows (λ k l m u le. start .pre .1 .0 .3 u (omega (arith, least .ensures)));
+      },
+    )
 
 pub sums-turn-spec : {M : Type 1} → statement M
-sums-turn-spec = tie.close (tie.spec mul-reduce slice-read-reduce reduce-requires add-residue mul-residue slice-read-residue shared-slice-read-residue residue-requires add-residue-2 mul-residue-2 slice-read-residue-2 shared-slice-read-residue-2 shared-slice-read-residue-3 residue-requires-2 add-residue-3 mul-residue-3 slice-read-residue-3 shared-slice-read-residue-4 shared-slice-read-residue-5 shared-slice-read-residue-6 residue-requires-3 put-requires add-least sub-least least-requires add-add-rows wide-requires wide-requires-2 wide-requires-3 wide-requires-4 add-rows-requires same-length same-length-2 returns)
+sums-turn-spec = tie.close (tie.spec mul-reduce slice-read-reduce reduce-requires add-residue mul-residue slice-read-residue shared-slice-read-residue residue-requires add-residue-2 mul-residue-2 slice-read-residue-2 shared-slice-read-residue-2 shared-slice-read-residue-3 residue-requires-2 add-residue-3 mul-residue-3 slice-read-residue-3 shared-slice-read-residue-4 shared-slice-read-residue-5 shared-slice-read-residue-6 residue-requires-3 put-requires add-least sub-least least-requires add-add-rows word-requires add-word word-requires-2 add-word-2 word-requires-3 add-word-3 word-requires-4 add-rows-requires same-length same-length-2 returns)

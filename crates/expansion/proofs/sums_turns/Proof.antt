@@ -37,9 +37,15 @@ loop-again : tie.Need-loop-again Inv-loop μ-loop
 loop-again c =
     let start = c .before .before .before .before .before .before .before .before .before .before .before .before in
     let loop = c .before .before .before .before .before .before .before .before .loop in
-    let turn = c .before .before .before .before .sums-turn in
-    (search needs, search needs, search needs, omega (arith, loop .inv .3), omega (arith, start .pre .0, loop .inv .3), turn .ensures .0,
-    λ g n h. turn .ensures .1 g n (loop .inv .6 g n h))
+    let turn = c .before .before .before .before .sums-turn in (
+      search needs,
+      search needs,
+      search needs,
+      omega (arith, loop .inv .3),
+      omega (arith, start .pre .0, loop .inv .3),
+      turn .ensures .0,
+      λ g n h. turn .ensures .1 g n (loop .inv .6 g n h),
+    )
 
 same-length : tie.Need-same-length Inv-loop μ-loop
 same-length c = search needs

@@ -34,9 +34,11 @@ first c j l =
     (ap (λ xs. getD xs 0 0) (c .before .before .before .clear .ensures) ∙ zero-at (length (c .before .before .before .before .before .before .before .args .acc .now)) 0 ∙ sym (N.zero-mul _))
 
 loop-holds : tie.Need-loop-holds Inv-loop μ-loop
-loop-holds c =
-    (omega (arith, c .least .ensures), search needs,
-    record { same-length = refl; within = omega arith; filled = λ j l. first c j l; kept = λ j l. refl })
+loop-holds c = (
+  omega (arith, c .least .ensures),
+  search needs,
+  record { same-length = refl; within = omega arith; filled = λ j l. first c j l; kept = λ j l. refl },
+)
 
 mul-product : tie.Need-mul-product Inv-loop μ-loop
 mul-product c = search needs

@@ -9,7 +9,7 @@ use Rattle.parts.proofs.main.Tie as tie
 -- ── the places
 
 abbrev formed : tie.After-second → tie.After-products
-formed c = c .before .before .before .before .before .before .before .before .before
+formed c = c .before .before .before .before .before .before .before .before .before .before .before .before .before
 
 abbrev filled : tie.After-lines → tie.After-fill
 filled c = c .before .before .before .before .before
@@ -25,6 +25,9 @@ third-lines c = c .before
 
 -- ── the needs
 
+modulus-requires : tie.Need-modulus-requires
+modulus-requires c κs = search needs
+
 slice-aggregate-products : tie.Need-slice-aggregate-products
 slice-aggregate-products c = search needs
 
@@ -37,8 +40,22 @@ slice-aggregate-products-3 c = search needs
 slice-aggregate-products-4 : tie.Need-slice-aggregate-products-4
 slice-aggregate-products-4 c = search needs
 
+slice-aggregate-products-5 : tie.Need-slice-aggregate-products-5
+slice-aggregate-products-5 c = search needs
+
+slice-aggregate-products-6 : tie.Need-slice-aggregate-products-6
+slice-aggregate-products-6 c = search needs
+
+slice-aggregate-products-7 : tie.Need-slice-aggregate-products-7
+slice-aggregate-products-7 c = search needs
+
+slice-aggregate-products-8 : tie.Need-slice-aggregate-products-8
+slice-aggregate-products-8 c = search needs
+
 products-requires : tie.Need-products-requires
-products-requires c κs = ((first-ready, first-holds), (refl, refl, refl))
+products-requires c κs =
+    let m = c .before .before .before .before .before .before .before .before .modulus .ensures in
+    ((first-ready, first-holds, record { prepared = m .1; same = m .0 }), ((refl, refl, refl, refl), (refl, refl, refl)))
 
 slice-aggregate-fill : tie.Need-slice-aggregate-fill
 slice-aggregate-fill c = search needs
@@ -110,10 +127,15 @@ pub main-spec : {M : Type 1} → statement M
 main-spec =
     tie.close
     (tie.spec
+    modulus-requires
     slice-aggregate-products
     slice-aggregate-products-2
     slice-aggregate-products-3
     slice-aggregate-products-4
+    slice-aggregate-products-5
+    slice-aggregate-products-6
+    slice-aggregate-products-7
+    slice-aggregate-products-8
     products-requires
     slice-aggregate-fill
     slice-aggregate-fill-2

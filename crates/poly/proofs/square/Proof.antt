@@ -15,9 +15,15 @@ square-requires c κs =
     let pre = c .before .before .before .before .before .before .pre in
     let a = c .before .before .before .before .before .before .args in
     let m = pre .0 .0 in
-    let same : length (a .out .now) ≡ length (a .acc .now) = omega arith in
-    ((pre .1 .1, pre .1 .2), (prepared-positive m, omega (arith, prepared-below m), pre .0 .1,
-    subst (λ n. 8 * turns (length (a .a .now)) n * a .m .p ≤ 2 ^ 36) same (pre .0 .2)))
+    let same : length (a .out .now) ≡ length (a .acc .now) = omega arith in (
+      (pre .1 .1, pre .1 .2),
+      (
+        prepared-positive m,
+        omega (arith, prepared-below m),
+        pre .0 .1,
+        subst (λ n. 8 * turns (length (a .a .now)) n * a .m .p ≤ 2 ^ 36) same (pre .0 .2),
+      ),
+    )
 
 remainders-requires : tie.Need-remainders-requires
 remainders-requires c κs = search needs

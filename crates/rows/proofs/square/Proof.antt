@@ -22,9 +22,13 @@ square-turns-requires c κs =
     let pre = start .pre in
     let a = start .args in
     let clear = c .before .before .before .before .clear in
-    let same : length (a .acc .now) ≡ length (clear .last .0) = omega arith in
-    ((omega arith, search needs), ((pre .1 .0, pre .1 .1, pre .1 .2, subst (λ n. 8 * turns (length (a .a .now)) n * a .p ≤ 2 ^ 36) same (pre .1 .3)),
-    (c .before .before .before .before .before .before .before .before .prepare .ensures, clear .ensures ∙ ap (λ n. replicate n 0) same)))
+    let same : length (a .acc .now) ≡ length (clear .last .0) = omega arith in (
+      (omega arith, search needs),
+      (
+        (pre .1 .0, pre .1 .1, pre .1 .2, subst (λ n. 8 * turns (length (a .a .now)) n * a .p ≤ 2 ^ 36) same (pre .1 .3)),
+        (c .before .before .before .before .before .before .before .before .prepare .ensures, clear .ensures ∙ ap (λ n. replicate n 0) same),
+      ),
+    )
 
 same-length : tie.Need-same-length
 same-length c = search needs

@@ -33,9 +33,10 @@ square-requires c κs =
     let a = begin .args in
     let over = begin .pre .0 .2 in
     let holds = begin .pre .0 .1 in
-    let ready = begin .pre .0 .0 in
-    ((over .prepared, over-reduced over (a .g .now) (holds .reduced), turns-fit _ _ _ (omega (arith, over .same, ready .prime)) (omega (arith, holds .count, ready .degree))),
-    (omega arith, omega (arith, holds .count), omega (arith, holds .count, ready .degree)))
+    let ready = begin .pre .0 .0 in (
+      (over .prepared, over-reduced over (a .g .now) (holds .reduced), turns-fit _ _ _ (omega (arith, over .same, ready .prime)) (omega (arith, holds .count, ready .degree))),
+      (omega arith, omega (arith, holds .count), omega (arith, holds .count, ready .degree)),
+    )
 
 slope-of-requires : tie.Need-slope-of-requires
 slope-of-requires c κs =
@@ -56,11 +57,18 @@ square-requires-2 c κs =
     let first = square (slope third) in
     let begin = start first in
     let over = begin .pre .0 .2 in
-    let ready = begin .pre .0 .0 in
-    ((over .prepared, over-reduced over (third .derivative .last .1 .0) (third .derivative .ensures .reduced),
-    turns-fit _ _ _ (omega (arith, over .same, ready .prime)) (omega (arith, ready .degree, begin .pre, third .derivative .kept))),
-    (omega (arith, begin .pre, first .square .kept), omega (arith, begin .pre, first .square .kept, third .derivative .kept, ready .degree),
-    omega (arith, ready .degree, begin .pre, third .derivative .kept)))
+    let ready = begin .pre .0 .0 in (
+      (
+        over .prepared,
+        over-reduced over (third .derivative .last .1 .0) (third .derivative .ensures .reduced),
+        turns-fit _ _ _ (omega (arith, over .same, ready .prime)) (omega (arith, ready .degree, begin .pre, third .derivative .kept)),
+      ),
+      (
+        omega (arith, begin .pre, first .square .kept),
+        omega (arith, begin .pre, first .square .kept, third .derivative .kept, ready .degree),
+        omega (arith, ready .degree, begin .pre, third .derivative .kept),
+      ),
+    )
 
 bend-of-requires : tie.Need-bend-of-requires
 bend-of-requires c κs =

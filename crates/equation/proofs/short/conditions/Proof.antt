@@ -45,9 +45,13 @@ recurs-requires : tie.Need-recurs-requires
 recurs-requires c κs =
     let start = c .before .before .before .before .before .before .before .before .before .before .before .before .before .before .before in
     let pre = start .pre in
-    let ready = pre .0 .0 in
-    ((ready, pre .0 .1 .prepared, pre .0 .1 .same), ((omega (arith, pre .0 .2, ready .degree), omega (arith, pre .0 .2, ready .degree), pre .0 .3),
-    simp length-take (omega (arith, pre .0 .2, pre .1, ready .degree))))
+    let ready = pre .0 .0 in (
+      (ready, pre .0 .1 .prepared, pre .0 .1 .same),
+      (
+        (omega (arith, pre .0 .2, ready .degree), omega (arith, pre .0 .2, ready .degree), pre .0 .3),
+        simp length-take (omega (arith, pre .0 .2, pre .1, ready .degree)),
+      ),
+    )
 
 same-length : tie.Need-same-length
 same-length c = search needs
