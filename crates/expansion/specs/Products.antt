@@ -69,4 +69,5 @@ Squares p h xs = (k : ℕ) → 3 ≤ k → k < length h
 pub squares-of : (p : ℕ) (h xs : List ℕ) (n : ℕ) → n ≡ length h - 1 → length h ≤ length xs + 3
     → Residues p (conv (Zmod p) (poly p (take n (drop 1 h))) (poly p (take n (drop 1 h)))) xs → Squares p h xs
 squares-of p h xs n size long r k l m =
-    residue-same (square-part (Zmod p) (poly p h) (poly p (take n (drop 1 h))) k l (λ i q. part-at p h 1 n i (omega arith))) (residues-at r (k - 3) (omega arith))
+    residue-same (square-part (Zmod p) (poly p h) (poly p (take n (drop 1 h))) k l (λ i q. part-at p h 1 n i (omega arith))) (residues-at r (k - 3) (omega
+    arith))

@@ -141,9 +141,12 @@ module _ (p d : ℕ) (g : Seq (Zmod p)) where
       where
         four : mk p (row-more (getD acc k 0) e (k - (i + 4)) w x y z) ≡ due (Zmod p) d g S k (i + 4)
         four =
-            mk-add p (getD acc k 0 + w * getD e (3 + (k - (i + 4))) 0 + x * getD e (2 + (k - (i + 4))) 0 + y * getD e (1 + (k - (i + 4))) 0) (z * getD e (k - (i + 4)) 0)
-            ∙ ap (plus p (mk p (getD acc k 0 + w * getD e (3 + (k - (i + 4))) 0 + x * getD e (2 + (k - (i + 4))) 0 + y * getD e (1 + (k - (i + 4))) 0))) (mk-mul p z (getD e (k - (i + 4)) 0))
-            ∙ step k (3 + i) z (k - (i + 4)) (omega arith) fourth (omega arith) _ (three k (3 + (k - (i + 4))) (2 + (k - (i + 4))) (1 + (k - (i + 4))) (omega arith) (omega arith) (omega arith) (omega arith))
+            mk-add p (getD acc k 0 + w * getD e (3 + (k - (i + 4))) 0 + x * getD e (2 + (k - (i + 4))) 0 + y * getD e (1 + (k - (i + 4))) 0) (z * getD e (k -
+            (i + 4)) 0)
+            ∙ ap (plus p (mk p (getD acc k 0 + w * getD e (3 + (k - (i + 4))) 0 + x * getD e (2 + (k - (i + 4))) 0 + y * getD e (1 + (k - (i + 4))) 0)))
+            (mk-mul p z (getD e (k - (i + 4)) 0))
+            ∙ step k (3 + i) z (k - (i + 4)) (omega arith) fourth (omega arith) _ (three k (3 + (k - (i + 4))) (2 + (k - (i + 4))) (1 + (k - (i + 4))) (omega
+            arith) (omega arith) (omega arith) (omega arith))
             (i + 4) (omega arith)
 
         none : (u : ℕ) → k - (i + 4) ≤ u → ¬ (k < i + 4 + len) → getD e u 0 ≡ 0
@@ -156,7 +159,8 @@ module _ (p d : ℕ) (g : Seq (Zmod p)) where
             ∙ ap (λ t. mk p (row-more (getD acc t 0) e (k - (i + 4)) w x y z)) at ∙ four
         go (no h) =
             ap (mk p) (added .after k (omega arith)
-            ∙ sym (ap₂ (λ a b. getD acc k 0 + w * a + x * b + y * getD e (1 + (k - (i + 4))) 0 + z * getD e (k - (i + 4)) 0) (none (3 + (k - (i + 4))) (omega arith) h) (none (2 + (k - (i + 4))) (omega arith) h)
+            ∙ sym (ap₂ (λ a b. getD acc k 0 + w * a + x * b + y * getD e (1 + (k - (i + 4))) 0 + z * getD e (k - (i + 4)) 0) (none (3 + (k - (i + 4))) (omega
+            arith) h) (none (2 + (k - (i + 4))) (omega arith) h)
             ∙ ap₂ (λ a b. getD acc k 0 + w * 0 + x * 0 + y * a + z * b) (none (1 + (k - (i + 4))) (omega arith) h) (none (k - (i + 4)) (omega arith) h)
             ∙ omega (arith, N.mul-zero w, N.mul-zero x, N.mul-zero y, N.mul-zero z)))
             ∙ four

@@ -8,7 +8,25 @@ use Rattle.ring.specs.Ring
 use Rattle.ring.specs.Ring.{CRing}
 use Rattle.ring.specs.Identity.{solve2, solve4}
 use Rattle.ring.specs.Identity.Ex.{:0, _:+_, _:*_}
-use Rattle.series.specs.Series.{Seq, Series, tail, head-then, zeros, const, sums, sum, sum-suc, sum-same, conv, conv-zero, conv-suc, conv-sum, conv-const, conv-sums, conv-zeros}
+use Rattle.series.specs.Series.{
+  Seq,
+  Series,
+  tail,
+  head-then,
+  zeros,
+  const,
+  sums,
+  sum,
+  sum-suc,
+  sum-same,
+  conv,
+  conv-zero,
+  conv-suc,
+  conv-sum,
+  conv-const,
+  conv-sums,
+  conv-zeros,
+}
 use Rattle.series.specs.Degree.{Below}
 use Rattle.series.specs.Reversal.{shift, shift-low, shift-at, conv-shift}
 

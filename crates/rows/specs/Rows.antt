@@ -81,7 +81,8 @@ pub record Four (xs₀ : List ℕ) (at w x y z : ℕ) (xs : List ℕ) : Type 0 w
 
 pub put-four : (xs : List ℕ) (at w x y z : ℕ) → at + 4 ≤ length xs → Four xs at w x y z (set (set (set (set xs at w) (at + 1) x) (at + 2) y) (at + 3) z)
 put-four xs at w x y z inside = record {
-  first = other w₃ (at + 3) at z (omega arith) ∙ other w₂ (at + 2) at y (omega arith) ∙ other w₁ (at + 1) at x (omega arith) ∙ getD-set-same xs at w 0 (omega arith);
+  first = other w₃ (at + 3) at z (omega arith) ∙ other w₂ (at + 2) at y (omega arith) ∙ other w₁ (at + 1) at x (omega arith) ∙ getD-set-same xs at w 0 (omega
+      arith);
   second = other w₃ (at + 3) (at + 1) z (omega arith) ∙ other w₂ (at + 2) (at + 1) y (omega arith)
       ∙ getD-set-same w₁ (at + 1) x 0 (omega (arith, length-set xs at w));
   third = other w₃ (at + 3) (at + 2) z (omega arith) ∙ getD-set-same w₂ (at + 2) y 0 (omega (arith, length-set xs at w, length-set w₁ (at + 1) x));

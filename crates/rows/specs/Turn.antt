@@ -20,7 +20,8 @@ use Rattle.rows.specs.Block.{upper, upper-low, upper-high, block, block-
 
 -- the class of a sum with one word of each row added
 pub row-class : (p s w x y z t₃ t₂ t₁ t₀ : ℕ) → mk p (s + w * t₃ + x * t₂ + y * t₁ + z * t₀)
-    ≡ plus p (plus p (plus p (plus p (mk p s) (times p (mk p w) (mk p t₃))) (times p (mk p x) (mk p t₂))) (times p (mk p y) (mk p t₁))) (times p (mk p z) (mk p t₀))
+    ≡ plus p (plus p (plus p (plus p (mk p s) (times p (mk p w) (mk p t₃))) (times p (mk p x) (mk p t₂))) (times p (mk p y) (mk p t₁))) (times p (mk p z) (mk
+    p t₀))
 row-class p s w x y z t₃ t₂ t₁ t₀ =
     mk-add p (s + w * t₃ + x * t₂ + y * t₁) (z * t₀)
     ∙ ap₂ (plus p) (mk-add p (s + w * t₃ + x * t₂) (y * t₁) ∙ ap₂ (plus p) (mk-add p (s + w * t₃) (x * t₂)
@@ -40,7 +41,8 @@ module _ (p : ℕ) (a e acc acc′ : List ℕ) (i s len : ℕ)
     A = poly p a
 
     abbrev four : ℕ → Elt p
-    four n = plus p (plus p (plus p (times p (A i) (E (3 + n))) (times p (A (1 + i)) (E (2 + n)))) (times p (A (2 + i)) (E (1 + n)))) (times p (A (3 + i)) (E n))
+    four n = plus p (plus p (plus p (times p (A i) (E (3 + n))) (times p (A (1 + i)) (E (2 + n)))) (times p (A (2 + i)) (E (1 + n)))) (times p (A (3 + i)) (E
+        n))
 
     null : (n : ℕ) → ((u : ℕ) → n ≤ u → u < 4 + n → getD e u 0 ≡ 0) → four n ≡ mk p 0
     null n z =
@@ -68,7 +70,8 @@ module _ (p : ℕ) (a e acc acc′ : List ℕ) (i s len : ℕ)
             let e : i + (k - i) ≡ k = omega arith in
             ap (conv (Zmod p) (block (Zmod p) i A) (λ j. E (3 + j))) (sym e) ∙ block-at (Zmod p) i A E zeros-first (k - i)
 
-        go : Dec (k < i) → Dec (k < i + s) → Dec (k < i + s + len) → poly p acc′ k ≡ plus p (poly p acc k) (conv (Zmod p) (block (Zmod p) i A) (λ j. E (3 + j)) k)
+        go : Dec (k < i) → Dec (k < i + s) → Dec (k < i + s + len) → poly p acc′ k ≡ plus p (poly p acc k) (conv (Zmod p) (block (Zmod p) i A) (λ j. E (3 +
+            j)) k)
         go (yes l) _ _ = same (added .before k (omega arith)) (block-low (Zmod p) i A _ k l)
         go (no l) (yes m) _ = same (added .before k m) (product (omega arith) ∙ null (k - i) (λ u lo hi. low u (omega arith)))
         go (no l) (no m) (no n) =
@@ -84,7 +87,8 @@ module _ (p : ℕ) (a e acc acc′ : List ℕ) (i s len : ℕ)
             row : (c : ℕ) → c < 4 → getD (take (length e - s) (drop s e)) (c + (k - (i + s))) 0 ≡ getD e (c + (k - i)) 0
             row c h = part-at e s (length e - s) (c + (k - (i + s))) (omega arith) ∙ ap (λ t. getD e t 0) (omega arith)
 
-            words : row-more (getD acc (i + s + (k - (i + s))) 0) (take (length e - s) (drop s e)) (k - (i + s)) (getD a i 0) (getD a (1 + i) 0) (getD a (2 + i) 0)
+            words : row-more (getD acc (i + s + (k - (i + s))) 0) (take (length e - s) (drop s e)) (k - (i + s)) (getD a i 0) (getD a (1 + i) 0) (getD a (2 +
+                i) 0)
                 (getD a (3 + i) 0)
                 ≡ getD acc k 0 + getD a i 0 * getD e (3 + (k - i)) 0 + getD a (1 + i) 0 * getD e (2 + (k - i)) 0 + getD a (2 + i) 0 * getD e (1 + (k - i)) 0
                 + getD a (3 + i) 0 * getD e (k - i) 0

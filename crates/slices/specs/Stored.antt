@@ -1,4 +1,5 @@
--- Slices that loops fill, and parts of slices. The invariant of a loop that goes through a slice from the front and stores one word a turn: `Stored P xs₀ xs k` where the words before k have the
+-- Slices that loops fill, and parts of slices. The invariant of a loop that goes through a slice from the front and stores one word a turn: `Stored P xs₀ xs
+-- k` where the words before k have the
 -- property P of their place, and those from k on are still the words of xs₀.
 -- Assumes nothing.
 use mathlib.Core.Path.{_≡_, refl, sym, _∙_, ap}

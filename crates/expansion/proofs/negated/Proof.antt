@@ -76,8 +76,10 @@ returns c =
     record {
       words = λ t l. subst (λ n. Residue (a .p) (minus (a .p) (mk (a .p) (getD (a .g .now) (n - 1 - t) 0))) (getD (loop .e) t 0)) (loop .inv .0)
           (loop .inv .2 .filled t (omega arith));
-      past = λ t l. loop .inv .2 .kept t (omega arith) ∙ ap (λ xs. getD xs t 0) (c .before .before .before .before .clear .ensures) ∙ zero-at (length (a .e .now)) t;
+      past = λ t l. loop .inv .2 .kept t (omega arith) ∙ ap (λ xs. getD xs t 0) (c .before .before .before .before .clear .ensures) ∙ zero-at (length (a .e
+          .now)) t;
     }
 
 pub negated-spec : {M : Type 1} → statement M
-negated-spec = tie.close (tie.spec Inv-loop μ-loop clear-requires sub-d loop-holds sub-negate sub-negate-2 mul-negate shared-slice-read-negate negate-requires wide-requires mul-e slice-write-e add-t loop-less loop-again same-length returns)
+negated-spec = tie.close (tie.spec Inv-loop μ-loop clear-requires sub-d loop-holds sub-negate sub-negate-2 mul-negate shared-slice-read-negate
+    negate-requires wide-requires mul-e slice-write-e add-t loop-less loop-again same-length returns)

@@ -32,7 +32,13 @@ square-requires c κs =
         over .1,
         subst (λ p. Reduced p (take (length (a .h .now) - 1) (drop 1 (a .h .now)))) (sym (over .2))
             (part-below (a .h .now) 1 (length (a .h .now) - 1) (a .v .p) (search needs) (sizes .0 .2)),
-        turns-fit _ _ _ (omega (arith, over .2, over .0 .prime)) (omega (arith, sizes, length-take (length (a .h .now) - 1) (drop 1 (a .h .now)), length-drop 1 (a .h .now))),
+        turns-fit _ _ _ (omega (arith, over .2, over .0 .prime)) (omega (
+          arith,
+          sizes,
+          length-take (length (a .h .now) - 1) (drop 1 (a .h .now)),
+          length-drop
+              1 (a .h .now),
+        )),
       ),
       (
         omega (arith, sizes),
@@ -53,7 +59,8 @@ recurs-by-requires c κs =
         (
           omega (arith, sizes, square .kept),
           squares-of (a .v .p) (a .h .now) (square .last .1 .1 .1 .0) (length (a .h .now) - 1) (omega arith) (omega (arith, sizes, square .kept))
-              (subst (λ p. Residues p (conv (Zmod p) (poly p (take (length (a .h .now) - 1) (drop 1 (a .h .now)))) (poly p (take (length (a .h .now) - 1) (drop 1 (a .h .now)))))
+              (subst (λ p. Residues p (conv (Zmod p) (poly p (take (length (a .h .now) - 1) (drop 1 (a .h .now)))) (poly p (take (length (a .h .now) - 1)
+              (drop 1 (a .h .now)))))
               (square .last .1 .1 .1 .0)) (start .pre .0 .2) (square .ensures)),
         ),
       ),
@@ -72,4 +79,5 @@ returns : tie.Need-returns
 returns c = search needs
 
 pub recurs-spec : {M : Type 1} → statement M
-recurs-spec = tie.close (tie.spec sub-square part-square-start part-square-end square-requires recurs-by-requires same-length same-length-2 same-length-3 returns)
+recurs-spec = tie.close (tie.spec sub-square part-square-start part-square-end square-requires recurs-by-requires same-length same-length-2 same-length-3
+    returns)

@@ -20,11 +20,14 @@ wide-requires-3 c κs = search needs
 
 -- what is added up
 total : (c : tie.After-wide3)
-    → c .before .before .before .args .s + c .before .before .wide .result * c .before .before .before .args .a + c .before .wide2 .result * c .before .before .before .args .b + c .wide3 .result * c .before .before .before .args .c + 0 * 0
-    ≡ c .before .before .before .args .s + c .before .before .before .args .w * c .before .before .before .args .a + c .before .before .before .args .x * c .before .before .before .args .b + c .before .before .before .args .y * c .before .before .before .args .c
+    → c .before .before .before .args .s + c .before .before .wide .result * c .before .before .before .args .a + c .before .wide2 .result * c .before
+    .before .before .args .b + c .wide3 .result * c .before .before .before .args .c + 0 * 0
+    ≡ c .before .before .before .args .s + c .before .before .before .args .w * c .before .before .before .args .a + c .before .before .before .args .x * c
+    .before .before .before .args .b + c .before .before .before .args .y * c .before .before .before .args .c
 total c =
     let a = c .before .before .before .args in
-    ap (λ n. n + 0 * 0) (ap₂ _+_ (ap₂ _+_ (ap (λ n. a .s + n * a .a) (c .before .before .wide .ensures)) (ap (λ n. n * a .b) (c .before .wide2 .ensures))) (ap (λ n. n * a .c) (c .wide3 .ensures))) ∙ N.add-zero _
+    ap (λ n. n + 0 * 0) (ap₂ _+_ (ap₂ _+_ (ap (λ n. a .s + n * a .a) (c .before .before .wide .ensures)) (ap (λ n. n * a .b) (c .before .wide2 .ensures)))
+    (ap (λ n. n * a .c) (c .wide3 .ensures))) ∙ N.add-zero _
 
 sum-more-requires : tie.Need-sum-more-requires
 sum-more-requires c κs =
@@ -50,7 +53,8 @@ reduce-requires : tie.Need-reduce-requires
 reduce-requires c κs = search needs
 
 returns : tie.Need-returns
-returns c = subst (λ n. Residue (c .before .before .before .before .before .args .p) (mk (c .before .before .before .before .before .args .p) n) (c .reduce .result)) (c .before .sum-more .ensures ∙ total (c .before .before)) (c .reduce .ensures)
+returns c = subst (λ n. Residue (c .before .before .before .before .before .args .p) (mk (c .before .before .before .before .before .args .p) n) (c .reduce
+    .result)) (c .before .sum-more .ensures ∙ total (c .before .before)) (c .reduce .ensures)
 
 pub residue-spec : {M : Type 1} → statement M
 residue-spec = tie.close (tie.spec wide-requires wide-requires-2 wide-requires-3 sum-more-requires reduce-requires returns)

@@ -45,7 +45,14 @@ residue-requires c κs =
       omega (arith, small 0),
       search needs,
       search needs,
-      omega (arith, start .pre .1 .1 (1 + a .i), product-le {x = c .before .before .reduce .result} {y = getD (a .e .now) 0 0} (omega arith) (omega (arith, small 0))),
+      omega (
+        arith,
+        start .pre .1 .1 (1 + a .i),
+        product-le {x = c .before .before .reduce .result} {y = getD (a .e .now) 0 0} (omega arith) (omega (
+          arith,
+          small 0,
+        )),
+      ),
     )
 
 add-residue-2 : tie.Need-add-residue-2
@@ -115,8 +122,10 @@ residue-requires-3 c κs =
       omega (
         arith,
         start .pre .1 .1 (3 + a .i),
-        product-le {x = c .before .before .before .before .before .before .before .before .before .before .before .reduce .result} {y = getD (a .e .now) 2 0} (omega arith) (omega (arith, small 2)),
-        product-le {x = c .before .before .before .before .before .before .before .before .residue .result} {y = getD (a .e .now) 1 0} (omega arith) (omega (arith, small 1)),
+        product-le {x = c .before .before .before .before .before .before .before .before .before .before .before .reduce .result} {y = getD (a .e .now) 2 0}
+            (omega arith) (omega (arith, small 2)),
+        product-le {x = c .before .before .before .before .before .before .before .before .residue .result} {y = getD (a .e .now) 1 0} (omega arith) (omega
+            (arith, small 1)),
         product-le {x = c .before .before .before .before .residue2 .result} {y = getD (a .e .now) 0 0} (omega arith) (omega (arith, small 0)),
       ),
     )
@@ -134,25 +143,49 @@ least-requires : tie.Need-least-requires
 least-requires c κs = search needs
 
 add-add-rows : tie.Need-add-add-rows
-add-add-rows c = record { fits = omega (arith, c .before .before .before .before .before .before .before .before .before .before .before .before .before .before .before .before .before .before .before .before .before .before .before .pre .0) }
+add-add-rows c = record {
+  fits = omega (
+    arith,
+    c .before .before .before .before .before .before .before .before .before .before .before .before .before
+        .before .before .before .before .before .before .before .before .before .before .pre .0,
+  );
+}
 
 word-requires : tie.Need-word-requires
 word-requires c κs = search needs
 
 add-word : tie.Need-add-word
-add-word c = record { fits = omega (arith, c .before .before .before .before .before .before .before .before .before .before .before .before .before .before .before .before .before .before .before .before .before .before .before .before .before .before .pre .0) }
+add-word c = record {
+  fits = omega (
+    arith,
+    c .before .before .before .before .before .before .before .before .before .before .before .before .before .before
+        .before .before .before .before .before .before .before .before .before .before .before .before .pre .0,
+  );
+}
 
 word-requires-2 : tie.Need-word-requires-2
 word-requires-2 c κs = search needs
 
 add-word-2 : tie.Need-add-word-2
-add-word-2 c = record { fits = omega (arith, c .before .before .before .before .before .before .before .before .before .before .before .before .before .before .before .before .before .before .before .before .before .before .before .before .before .before .before .before .pre .0) }
+add-word-2 c = record {
+  fits = omega (
+    arith,
+    c .before .before .before .before .before .before .before .before .before .before .before .before .before
+        .before .before .before .before .before .before .before .before .before .before .before .before .before .before .before .pre .0,
+  );
+}
 
 word-requires-3 : tie.Need-word-requires-3
 word-requires-3 c κs = search needs
 
 add-word-3 : tie.Need-add-word-3
-add-word-3 c = record { fits = omega (arith, c .before .before .before .before .before .before .before .before .before .before .before .before .before .before .before .before .before .before .before .before .before .before .before .before .before .before .before .before .before .before .pre .0) }
+add-word-3 c = record {
+  fits = omega (
+    arith,
+    c .before .before .before .before .before .before .before .before .before .before .before .before .before
+        .before .before .before .before .before .before .before .before .before .before .before .before .before .before .before .before .before .pre .0,
+  );
+}
 
 word-requires-4 : tie.Need-word-requires-4
 word-requires-4 c κs = search needs
@@ -162,26 +195,38 @@ module _ (c : tie.After-word4) where
   abbrev s : List ℕ
   s = c .before .before .before .before .before .before .before .before .before .before .before .before .put .last .0
 
-  first : c .before .before .before .before .before .before .word .result ≡ c .before .before .before .before .before .before .before .before .before .before .before .before .before .before .before .before .before .before .before .before .before .before .before .before .before .before .reduce .result
-  first = c .before .before .before .before .before .before .word .ensures ∙ c .before .before .before .before .before .before .before .before .before .before .before .before .put .ensures .first
+  first : c .before .before .before .before .before .before .word .result ≡ c .before .before .before .before .before .before .before .before .before .before
+      .before .before .before .before .before .before .before .before .before .before .before .before .before .before .before .before .reduce .result
+  first = c .before .before .before .before .before .before .word .ensures ∙ c .before .before .before .before .before .before .before .before .before
+      .before .before .before .put .ensures .first
 
-  second : c .before .before .before .before .word2 .result ≡ c .before .before .before .before .before .before .before .before .before .before .before .before .before .before .before .before .before .before .before .before .before .before .before .residue .result
-  second = c .before .before .before .before .word2 .ensures ∙ ap (λ n. getD s n 0) (omega arith) ∙ c .before .before .before .before .before .before .before .before .before .before .before .before .put .ensures .second
+  second : c .before .before .before .before .word2 .result ≡ c .before .before .before .before .before .before .before .before .before .before .before
+      .before .before .before .before .before .before .before .before .before .before .before .before .residue .result
+  second = c .before .before .before .before .word2 .ensures ∙ ap (λ n. getD s n 0) (omega arith) ∙ c .before .before .before .before .before .before .before
+      .before .before .before .before .before .put .ensures .second
 
-  third : c .before .before .word3 .result ≡ c .before .before .before .before .before .before .before .before .before .before .before .before .before .before .before .before .before .before .before .residue2 .result
-  third = c .before .before .word3 .ensures ∙ ap (λ n. getD s n 0) (omega arith) ∙ c .before .before .before .before .before .before .before .before .before .before .before .before .put .ensures .third
+  third : c .before .before .word3 .result ≡ c .before .before .before .before .before .before .before .before .before .before .before .before .before
+      .before .before .before .before .before .before .residue2 .result
+  third = c .before .before .word3 .ensures ∙ ap (λ n. getD s n 0) (omega arith) ∙ c .before .before .before .before .before .before .before .before .before
+      .before .before .before .put .ensures .third
 
-  fourth : c .word4 .result ≡ c .before .before .before .before .before .before .before .before .before .before .before .before .before .before .residue3 .result
-  fourth = c .word4 .ensures ∙ ap (λ n. getD s n 0) (omega arith) ∙ c .before .before .before .before .before .before .before .before .before .before .before .before .put .ensures .fourth
+  fourth : c .word4 .result ≡ c .before .before .before .before .before .before .before .before .before .before .before .before .before .before .residue3
+      .result
+  fourth = c .word4 .ensures ∙ ap (λ n. getD s n 0) (omega arith) ∙ c .before .before .before .before .before .before .before .before .before .before .before
+      .before .put .ensures .fourth
 
 add-rows-requires : tie.Need-add-rows-requires
 add-rows-requires c κs =
-    let start = c .before .before .before .before .before .before .before .before .before .before .before .before .before .before .before .before .before .before .before .before .before .before .before .before .before .before .before .before .before .before .before in
+    let start = c .before .before .before .before .before .before .before .before .before .before .before .before .before .before .before .before .before
+    .before .before .before .before .before .before .before .before .before .before .before .before .before .before in
     let a = start .args in
     let small = start .pre .1 .0 .2 in
-    let w = c .before .before .before .before .before .before .before .before .before .before .before .before .before .before .before .before .before .before .before .before .before .before .before .before .before .before .reduce .ensures .below in
-    let x = c .before .before .before .before .before .before .before .before .before .before .before .before .before .before .before .before .before .before .before .before .before .before .before .residue .ensures .below in
-    let y = c .before .before .before .before .before .before .before .before .before .before .before .before .before .before .before .before .before .before .before .residue2 .ensures .below in
+    let w = c .before .before .before .before .before .before .before .before .before .before .before .before .before .before .before .before .before .before
+    .before .before .before .before .before .before .before .before .reduce .ensures .below in
+    let x = c .before .before .before .before .before .before .before .before .before .before .before .before .before .before .before .before .before .before
+    .before .before .before .before .before .residue .ensures .below in
+    let y = c .before .before .before .before .before .before .before .before .before .before .before .before .before .before .before .before .before .before
+    .before .residue2 .ensures .below in
     let z = c .before .before .before .before .before .before .before .before .before .before .before .before .before .before .residue3 .ensures .below in
     let size = c .before .before .before .before .before .before .before .before .before .least .ensures in (
       (omega (arith, size), omega (arith, size), λ j. omega (arith, small j)),
@@ -191,7 +236,8 @@ add-rows-requires c κs =
           arith,
           start .pre .1 .1 (a .i + 4 + j),
           row-le 268435455 268435455 (getD (a .acc .now) (a .i + 4 + j) 0) (a .e .now) j (c .before .before .before .before .before .before .word .result)
-              (c .before .before .before .before .word2 .result) (c .before .before .word3 .result) (c .word4 .result) (omega (arith, first c)) (omega (arith, second c)) (omega (arith, third c))
+              (c .before .before .before .before .word2 .result) (c .before .before .word3 .result) (c .word4 .result) (omega (arith, first c)) (omega
+              (arith, second c)) (omega (arith, third c))
               (omega (arith, fourth c)) (λ u. omega (arith, small u)),
         ),
       ),
@@ -205,19 +251,26 @@ same-length-2 c = search needs
 
 returns : tie.Need-returns
 returns c =
-    let start = c .before .before .before .before .before .before .before .before .before .before .before .before .before .before .before .before .before .before .before .before .before .before .before .before .before .before .before .before .before .before .before .before .before .before in
+    let start = c .before .before .before .before .before .before .before .before .before .before .before .before .before .before .before .before .before
+    .before .before .before .before .before .before .before .before .before .before .before .before .before .before .before .before .before in
     let a = start .args in
     let small = start .pre .1 .0 .2 in
     let added = c .before .before .add-rows in
     let words = c .before .before .before in
-    let w = c .before .before .before .before .before .before .before .before .before .before .before .before .before .before .before .before .before .before .before .before .before .before .before .before .before .before .before .before .before .reduce in
-    let x = c .before .before .before .before .before .before .before .before .before .before .before .before .before .before .before .before .before .before .before .before .before .before .before .before .before .before .residue in
-    let y = c .before .before .before .before .before .before .before .before .before .before .before .before .before .before .before .before .before .before .before .before .before .before .residue2 in
-    let z = c .before .before .before .before .before .before .before .before .before .before .before .before .before .before .before .before .before .residue3 in
+    let w = c .before .before .before .before .before .before .before .before .before .before .before .before .before .before .before .before .before .before
+    .before .before .before .before .before .before .before .before .before .before .before .reduce in
+    let x = c .before .before .before .before .before .before .before .before .before .before .before .before .before .before .before .before .before .before
+    .before .before .before .before .before .before .before .before .residue in
+    let y = c .before .before .before .before .before .before .before .before .before .before .before .before .before .before .before .before .before .before
+    .before .before .before .before .residue2 in
+    let z = c .before .before .before .before .before .before .before .before .before .before .before .before .before .before .before .before .before
+    .residue3 in
     let put = c .before .before .before .before .before .before .before .before .before .before .before .before .before .before .before .put in
     let least = c .before .before .before .before .before .before .before .before .before .before .before .before .least in
     let rows = same-rows (a .acc .now) (a .e .now) (added .last .0) (a .i + 4) (least .result) (w .result) (x .result) (y .result) (z .result)
-    (c .before .before .before .before .before .before .before .before .before .word .result) (c .before .before .before .before .before .before .before .word2 .result) (c .before .before .before .before .before .word3 .result) (words .word4 .result) (first words) (second words) (third words) (fourth words)
+    (c .before .before .before .before .before .before .before .before .before .word .result) (c .before .before .before .before .before .before .before
+    .word2 .result) (c .before .before .before .before .before .word3 .result) (words .word4 .result) (first words) (second words) (third words) (fourth
+    words)
     (added .ensures)
     in (
       λ k. omega (
@@ -230,13 +283,17 @@ returns c =
       λ g n h. record {
         solved = solved-four (a .p) (Newton (Zmod (a .p)) (a .d) g) (newton-causal (a .p) (a .d) g) (a .s .now) (put .last .0) (a .i) (w .result) (x .result)
             (y .result) (z .result) (put .ensures) (w .ensures .below) (x .ensures .below) (y .ensures .below) (z .ensures .below)
-            (newton₀ (a .p) (a .d) g (a .e .now) (a .acc .now) (a .s .now) (put .last .0) (a .i) _ _ _ _ (start .pre .0 .0) (omega arith) n (h .due-from) (put .ensures)
+            (newton₀ (a .p) (a .d) g (a .e .now) (a .acc .now) (a .s .now) (put .last .0) (a .i) _ _ _ _ (start .pre .0 .0) (omega arith) n (h .due-from)
+            (put .ensures)
             (sym (w .ensures .class)))
-            (newton₁ (a .p) (a .d) g (a .e .now) (a .acc .now) (a .s .now) (put .last .0) (a .i) _ _ _ _ (start .pre .0 .0) (omega arith) n (h .due-from) (put .ensures)
+            (newton₁ (a .p) (a .d) g (a .e .now) (a .acc .now) (a .s .now) (put .last .0) (a .i) _ _ _ _ (start .pre .0 .0) (omega arith) n (h .due-from)
+            (put .ensures)
             (sym (x .ensures .class ∙ ap (mk (a .p)) (omega arith))))
-            (newton₂ (a .p) (a .d) g (a .e .now) (a .acc .now) (a .s .now) (put .last .0) (a .i) _ _ _ _ (start .pre .0 .0) (omega arith) n (h .due-from) (put .ensures)
+            (newton₂ (a .p) (a .d) g (a .e .now) (a .acc .now) (a .s .now) (put .last .0) (a .i) _ _ _ _ (start .pre .0 .0) (omega arith) n (h .due-from)
+            (put .ensures)
             (sym (y .ensures .class ∙ ap (mk (a .p)) (omega arith))))
-            (newton₃ (a .p) (a .d) g (a .e .now) (a .acc .now) (a .s .now) (put .last .0) (a .i) _ _ _ _ (start .pre .0 .0) (omega arith) n (h .due-from) (put .ensures)
+            (newton₃ (a .p) (a .d) g (a .e .now) (a .acc .now) (a .s .now) (put .last .0) (a .i) _ _ _ _ (start .pre .0 .0) (omega arith) n (h .due-from)
+            (put .ensures)
             (sym (z .ensures .class)))
             (h .solved);
         due-from = due-rows (a .p) (a .d) g (a .e .now) (a .acc .now) (a .s .now) (put .last .0) (a .i) _ _ _ _ (start .pre .0 .0) (omega arith) n (h .due-from)
@@ -245,4 +302,8 @@ returns c =
     )
 
 pub sums-turn-spec : {M : Type 1} → statement M
-sums-turn-spec = tie.close (tie.spec mul-reduce slice-read-reduce reduce-requires add-residue mul-residue slice-read-residue shared-slice-read-residue residue-requires add-residue-2 mul-residue-2 slice-read-residue-2 shared-slice-read-residue-2 shared-slice-read-residue-3 residue-requires-2 add-residue-3 mul-residue-3 slice-read-residue-3 shared-slice-read-residue-4 shared-slice-read-residue-5 shared-slice-read-residue-6 residue-requires-3 put-requires add-least sub-least least-requires add-add-rows word-requires add-word word-requires-2 add-word-2 word-requires-3 add-word-3 word-requires-4 add-rows-requires same-length same-length-2 returns)
+sums-turn-spec = tie.close (tie.spec mul-reduce slice-read-reduce reduce-requires add-residue mul-residue slice-read-residue shared-slice-read-residue
+    residue-requires add-residue-2 mul-residue-2 slice-read-residue-2 shared-slice-read-residue-2 shared-slice-read-residue-3 residue-requires-2
+    add-residue-3 mul-residue-3 slice-read-residue-3 shared-slice-read-residue-4 shared-slice-read-residue-5 shared-slice-read-residue-6 residue-requires-3
+    put-requires add-least sub-least least-requires add-add-rows word-requires add-word word-requires-2 add-word-2 word-requires-3 add-word-3 word-requires-4
+    add-rows-requires same-length same-length-2 returns)

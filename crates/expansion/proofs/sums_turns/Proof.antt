@@ -24,8 +24,13 @@ loop-holds c = (refl, refl, search needs, refl, search needs, c .before .before 
 sums-turn-requires : tie.Need-sums-turn-requires Inv-loop μ-loop
 sums-turn-requires c κs =
     let start = c .before .before .before .before .before .before .before in
-    let loop = c .before .before .before .loop in
-    ((search needs, omega (arith, start .pre .0, loop .inv .3), omega (arith, start .pre .0), omega (arith, start .pre .0), search needs), (start .pre .1 .0, loop .inv .5))
+    let loop = c .before .before .before .loop in (
+      (search needs, omega (arith, start .pre .0, loop .inv .3), omega (arith, start .pre .0), omega (arith, start .pre .0), search needs),
+      (
+        start .pre .1 .0,
+        loop .inv .5,
+      ),
+    )
 
 add-i : tie.Need-add-i Inv-loop μ-loop
 add-i c = search needs

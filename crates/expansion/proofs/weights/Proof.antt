@@ -27,11 +27,14 @@ least-requires : tie.Need-least-requires Inv-loop μ-loop
 least-requires c κs = search needs
 
 -- the word at 0 stays 0
-first : (c : tie.After-least Inv-loop μ-loop) (j : ℕ) → j < 1 → getD (c .before .before .before .clear .last .0) j 0 ≡ 2 * j * getD (c .before .before .before .before .before .before .before .args .e .now) (j - 1) 0
+first : (c : tie.After-least Inv-loop μ-loop) (j : ℕ) → j < 1 → getD (c .before .before .before .clear .last .0) j 0 ≡ 2 * j * getD (c .before .before
+    .before .before .before .before .before .args .e .now) (j - 1) 0
 first c j l =
     let at : 0 ≡ j = omega arith in
-    subst (λ j. getD (c .before .before .before .clear .last .0) j 0 ≡ 2 * j * getD (c .before .before .before .before .before .before .before .args .e .now) (j - 1) 0) at
-    (ap (λ xs. getD xs 0 0) (c .before .before .before .clear .ensures) ∙ zero-at (length (c .before .before .before .before .before .before .before .args .acc .now)) 0 ∙ sym (N.zero-mul _))
+    subst (λ j. getD (c .before .before .before .clear .last .0) j 0 ≡ 2 * j * getD (c .before .before .before .before .before .before .before .args .e .now)
+    (j - 1) 0) at
+    (ap (λ xs. getD xs 0 0) (c .before .before .before .clear .ensures) ∙ zero-at (length (c .before .before .before .before .before .before .before .args
+    .acc .now)) 0 ∙ sym (N.zero-mul _))
 
 loop-holds : tie.Need-loop-holds Inv-loop μ-loop
 loop-holds c = (
@@ -83,7 +86,9 @@ returns c =
     let loop = c .before .loop in
     let start = c .before .before .before .before .before .before .before .before .before in
     let a = start .args in
-    weights-all (a .e .now) (c .before .before .before .before .before .clear .last .0) (loop .acc) (a .d) (length (a .acc .now)) (loop .k) (omega arith) (loop .inv .2) (c .before .before .before .before .before .clear .ensures) (start .pre .1 .3)
+    weights-all (a .e .now) (c .before .before .before .before .before .clear .last .0) (loop .acc) (a .d) (length (a .acc .now)) (loop .k) (omega arith)
+    (loop .inv .2) (c .before .before .before .before .before .clear .ensures) (start .pre .1 .3)
 
 pub weights-spec : {M : Type 1} → statement M
-weights-spec = tie.close (tie.spec Inv-loop μ-loop clear-requires add-least least-requires loop-holds mul-product sub-product mul-product-2 shared-slice-read-product product-requires mul-acc slice-write-acc add-k loop-less loop-again same-length returns)
+weights-spec = tie.close (tie.spec Inv-loop μ-loop clear-requires add-least least-requires loop-holds mul-product sub-product mul-product-2
+    shared-slice-read-product product-requires mul-acc slice-write-acc add-k loop-less loop-again same-length returns)

@@ -38,7 +38,8 @@ same-length-3 : tie.Need-same-length-3
 same-length-3 c = search needs
 
 returns : tie.Need-returns
-returns c = sums-residues (search needs) (c .before .before .before .before .before .before .before .before .before .square .ensures) (c .before .before .remainders .ensures)
+returns c = sums-residues (search needs) (c .before .before .before .before .before .before .before .before .before .square .ensures) (c .before .before
+    .remainders .ensures)
 
 pub square-spec : {M : Type 1} → statement M
 square-spec = tie.close (tie.spec square-requires remainders-requires same-length same-length-2 same-length-3 returns)

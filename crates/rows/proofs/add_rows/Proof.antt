@@ -66,8 +66,12 @@ four-requires c κs =
         ),
         (
           start .pre .1 .0,
-          λ j l. subst (λ n. n < 2 ^ 64) (sym (rows-are (a .acc .now) (a .e .now) (a .at) (a .len) (a .at + a .len - a .at) (a .w) (a .x) (a .y) (a .z) (omega arith)
-              (omega arith) j (omega (arith, length-take (a .at + a .len - a .at) (drop (a .at) (a .acc .now)))))) (start .pre .1 .1 j (omega (arith, length-take (a .at + a .len - a .at) (drop (a .at) (a .acc .now))))),
+          λ j l. subst (λ n. n < 2 ^ 64) (sym (rows-are (a .acc .now) (a .e .now) (a .at) (a .len) (a .at + a .len - a .at) (a .w) (a .x) (a .y) (a .z)
+              (omega arith)
+              (omega arith) j (omega (arith, length-take (a .at + a .len - a .at) (drop (a .at) (a .acc .now)))))) (start .pre .1 .1 j (omega (
+                arith,
+                length-take (a .at + a .len - a .at) (drop (a .at) (a .acc .now)),
+              ))),
         ),
       ),
     )
@@ -81,7 +85,9 @@ returns c =
     let a = start .args in
     let four = c .before .before .four in
     rows-added (a .acc .now) (a .e .now) (a .at) (a .len) (a .at + a .len - a .at) (a .w) (a .x) (a .y) (a .z) (omega arith) (omega arith) (four .last .0)
-    (omega arith) (omega (arith, length-take (a .at + a .len - a .at) (drop (a .at) (a .acc .now)), length-drop (a .at) (a .acc .now))) (λ j l. four .ensures j (omega (arith, length-take (a .at + a .len - a .at) (drop (a .at) (a .acc .now)), length-drop (a .at) (a .acc .now))))
+    (omega arith) (omega (arith, length-take (a .at + a .len - a .at) (drop (a .at) (a .acc .now)), length-drop (a .at) (a .acc .now))) (λ j l. four .ensures
+    j (omega (arith, length-take (a .at + a .len - a .at) (drop (a .at) (a .acc .now)), length-drop (a .at) (a .acc .now))))
 
 pub add-rows-spec : {M : Type 1} → statement M
-add-rows-spec = tie.close (tie.spec add-to mul-four sub-four part-four-start part-four-end sub-four-2 part-four-start-2 part-four-end-2 sub-four-3 part-four-start-3 part-four-end-3 sub-four-4 part-four-start-4 part-four-end-4 four-requires same-length returns)
+add-rows-spec = tie.close (tie.spec add-to mul-four sub-four part-four-start part-four-end sub-four-2 part-four-start-2 part-four-end-2 sub-four-3
+    part-four-start-3 part-four-end-3 sub-four-4 part-four-start-4 part-four-end-4 four-requires same-length returns)

@@ -40,8 +40,12 @@ loop-less c = search needs
 loop-again : tie.Need-loop-again Inv-loop μ-loop
 loop-again c =
     let loop = c .before .before .loop in
-    let a = c .before .before .before .before .before .args in
-    (simp length-set (loop .inv .0), search needs, twice-more (a .a .now) (a .out .now) (loop .out) (loop .k) _ (search needs) (ap (λ n. 2 * n) (c .word .ensures)) (loop .inv .2))
+    let a = c .before .before .before .before .before .args in (
+      simp length-set (loop .inv .0),
+      search needs,
+      twice-more (a .a .now) (a .out .now) (loop .out) (loop .k) _ (search needs) (ap (λ n. 2 * n) (c .word
+          .ensures)) (loop .inv .2),
+    )
 
 same-length : tie.Need-same-length Inv-loop μ-loop
 same-length c = search needs

@@ -75,7 +75,12 @@ loop-again : tie.Need-loop-again Inv-loop μ-loop
 loop-again c =
     let loop = c .before .before .before .before .before .before .before .loop in
     let a = c .before .before .before .before .before .before .before .before .before .before .before .before .before .args in
-    stored-more _ (a .out .now) (loop .out) (loop .j) (c .sum-more .result) (search needs) (loop .inv) (omega (arith, c .sum-more .ensures, word-kept _ _ _ _ (loop .inv)))
+    stored-more _ (a .out .now) (loop .out) (loop .j) (c .sum-more .result) (search needs) (loop .inv) (omega (
+      arith,
+      c .sum-more .ensures,
+      word-kept _ _ _ _
+          (loop .inv),
+    ))
 
 same-length : tie.Need-same-length Inv-loop μ-loop
 same-length c = search needs
@@ -84,4 +89,6 @@ returns : tie.Need-returns Inv-loop μ-loop
 returns c = λ j l. c .before .loop .inv .filled j (omega arith)
 
 pub four-spec : {M : Type 1} → statement M
-four-spec = tie.close (tie.spec Inv-loop μ-loop loop-holds mul-sum-more slice-read-sum-more mul-sum-more-2 shared-slice-read-sum-more mul-sum-more-3 shared-slice-read-sum-more-2 mul-sum-more-4 shared-slice-read-sum-more-3 mul-sum-more-5 shared-slice-read-sum-more-4 sum-more-requires mul-out slice-write-out add-j loop-less loop-again same-length returns)
+four-spec = tie.close (tie.spec Inv-loop μ-loop loop-holds mul-sum-more slice-read-sum-more mul-sum-more-2 shared-slice-read-sum-more mul-sum-more-3
+    shared-slice-read-sum-more-2 mul-sum-more-4 shared-slice-read-sum-more-3 mul-sum-more-5 shared-slice-read-sum-more-4 sum-more-requires mul-out
+    slice-write-out add-j loop-less loop-again same-length returns)

@@ -29,7 +29,8 @@ returns c =
     let double = c .before .before .double in
     let clear = c .before .before .before .before .before .before .clear in
     let a = c .before .before .before .before .before .before .before .before .before .before .args in
-    above-none (a .a .now) (clear .last .0) (double .last .1 .0) (length (a .e .now)) (length (clear .last .0) - 3) (clear .ensures) (search needs) (search needs) (search needs)
+    above-none (a .a .now) (clear .last .0) (double .last .1 .0) (length (a .e .now)) (length (clear .last .0) - 3) (clear .ensures) (search needs) (search
+    needs) (search needs)
     (double .ensures)
 
 pub prepare-spec : {M : Type 1} → statement M

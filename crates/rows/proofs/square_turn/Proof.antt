@@ -38,17 +38,26 @@ put-requires : tie.Need-put-requires
 put-requires c κs = search needs
 
 -- what holds of the four words that were read holds of a's
-words : (c : tie.After-put) (P : ℕ → ℕ → ℕ → ℕ → Type 0) → P (c .before .before .before .before .before .word .result) (c .before .before .before .before .word2 .result) (c .before .before .before .word3 .result) (c .before .before .word4 .result)
-    → P (getD (c .before .before .before .before .before .before .before .before .before .args .a .now) (c .before .before .before .before .before .before .before .before .before .args .i) 0) (getD (c .before .before .before .before .before .before .before .before .before .args .a .now) (1 + c .before .before .before .before .before .before .before .before .before .args .i) 0) (getD (c .before .before .before .before .before .before .before .before .before .args .a .now) (2 + c .before .before .before .before .before .before .before .before .before .args .i) 0)
-    (getD (c .before .before .before .before .before .before .before .before .before .args .a .now) (3 + c .before .before .before .before .before .before .before .before .before .args .i) 0)
-words c P = of-words (c .before .before .before .before .before .before .before .before .before .args .a .now) (c .before .before .before .before .before .before .before .before .before .args .i) _ _ _ _ (c .before .before .before .before .before .word .ensures) (c .before .before .before .before .word2 .ensures) (c .before .before .before .word3 .ensures) (c .before .before .word4 .ensures) P
+words : (c : tie.After-put) (P : ℕ → ℕ → ℕ → ℕ → Type 0) → P (c .before .before .before .before .before .word .result) (c .before .before .before .before
+    .word2 .result) (c .before .before .before .word3 .result) (c .before .before .word4 .result)
+    → P (getD (c .before .before .before .before .before .before .before .before .before .args .a .now) (c .before .before .before .before .before .before
+    .before .before .before .args .i) 0) (getD (c .before .before .before .before .before .before .before .before .before .args .a .now) (1 + c .before
+    .before .before .before .before .before .before .before .before .args .i) 0) (getD (c .before .before .before .before .before .before .before .before
+    .before .args .a .now) (2 + c .before .before .before .before .before .before .before .before .before .args .i) 0)
+    (getD (c .before .before .before .before .before .before .before .before .before .args .a .now) (3 + c .before .before .before .before .before .before
+    .before .before .before .args .i) 0)
+words c P = of-words (c .before .before .before .before .before .before .before .before .before .args .a .now) (c .before .before .before .before .before
+    .before .before .before .before .args .i) _ _ _ _ (c .before .before .before .before .before .word .ensures) (c .before .before .before .before .word2
+    .ensures) (c .before .before .before .word3 .ensures) (c .before .before .word4 .ensures) P
 
 -- the room while the rows are added
-room : (c : tie.After-put) → Held (c .before .before .before .before .before .before .before .before .before .args .a .now) (c .before .before .before .before .before .before .before .before .before .args .i) (c .put .last .0)
+room : (c : tie.After-put) → Held (c .before .before .before .before .before .before .before .before .before .args .a .now) (c .before .before .before
+    .before .before .before .before .before .before .args .i) (c .put .last .0)
 room c =
     let start = c .before .before .before .before .before .before .before .before .before in
     let a = start .args in
-    held (a .a .now) (a .e .now) (c .put .last .0) (a .i) (start .pre .1 .1 .0) (words c (λ w x y z. Four (a .e .now) (a .i + 3) w x y z (c .put .last .0)) (c .put .ensures))
+    held (a .a .now) (a .e .now) (c .put .last .0) (a .i) (start .pre .1 .1 .0) (words c (λ w x y z. Four (a .e .now) (a .i + 3) w x y z (c .put .last .0))
+    (c .put .ensures))
 
 sub-least : tie.Need-sub-least
 sub-least c = search needs
@@ -102,7 +111,9 @@ add-rows-requires c κs =
           omega (arith, c .before .before .before .before .before .before .before .before .word4 .ensures, low (3 + i)),
         ),
         λ j l.
-            to-words (a .a .now) i _ _ _ _ (c .before .before .before .before .before .before .before .before .before .before .before .word .ensures) (c .before .before .before .before .before .before .before .before .before .before .word2 .ensures) (c .before .before .before .before .before .before .before .before .before .word3 .ensures) (c .before .before .before .before .before .before .before .before .word4 .ensures)
+            to-words (a .a .now) i _ _ _ _ (c .before .before .before .before .before .before .before .before .before .before .before .word .ensures) (c
+            .before .before .before .before .before .before .before .before .before .before .word2 .ensures) (c .before .before .before .before .before
+            .before .before .before .before .word3 .ensures) (c .before .before .before .before .before .before .before .before .word4 .ensures)
             (λ w x y z. row-more (getD (a .acc .now) (i + i + j) 0) (take (length (put .put .last .0) - i) (drop i (put .put .last .0))) j w x y z < 2 ^ 64)
             (omega (
               arith,
@@ -127,17 +138,22 @@ same-length-2 c = search needs
 
 returns : tie.Need-returns
 returns c =
-    let start = c .before .before .before .before .before .before .before .before .before .before .before .before .before .before .before .before .before .before .before .before .before .before in
+    let start = c .before .before .before .before .before .before .before .before .before .before .before .before .before .before .before .before .before
+    .before .before .before .before .before in
     let a = start .args in
     let put = c .before .before .before .before .before .before .before .before .before .before .before .before .before in
     let low = start .pre .1 .0 .2 in
     let size = c .before .before .before .before .before .before .before .before .before .before .least .ensures in (
       above-more (a .a .now) (put .put .last .0) (c .before .before .put2 .last .0) (a .i) (room put) (c .before .before .put2 .ensures),
-      turned (a .p) (a .a .now) (put .put .last .0) (a .acc .now) (a .i) (c .before .before .before .before .before .before .before .before .before .before .least .result) (start .pre .0 .0) (room put) low (c .before .before .before .before .before .before .add-rows .last .0)
+      turned (a .p) (a .a .now) (put .put .last .0) (a .acc .now) (a .i) (c .before .before .before .before .before .before .before .before .before .before
+          .least .result) (start .pre .0 .0) (room put) low (c .before .before .before .before .before .before .add-rows .last .0)
           (omega (arith, size)) size
-          (words put (λ w x y z. RowsAdded (a .acc .now) (take (length (put .put .last .0) - a .i) (drop (a .i) (put .put .last .0))) (a .i + a .i) (c .before .before .before .before .before .before .before .before .before .before .least .result) w x y z
+          (words put (λ w x y z. RowsAdded (a .acc .now) (take (length (put .put .last .0) - a .i) (drop (a .i) (put .put .last .0))) (a .i + a .i) (c
+          .before .before .before .before .before .before .before .before .before .before .least .result) w x y z
           (c .before .before .before .before .before .before .add-rows .last .0)) (c .before .before .before .before .before .before .add-rows .ensures)),
     )
 
 pub square-turn-spec : {M : Type 1} → statement M
-square-turn-spec = tie.close (tie.spec word-requires add-word word-requires-2 add-word-2 word-requires-3 add-word-3 word-requires-4 add-put put-requires sub-least add-least add-least-2 sub-least-2 least-requires add-add-rows mul-add-rows sub-add-rows part-add-rows-start part-add-rows-end add-rows-requires add-put-2 put-requires-2 same-length same-length-2 returns)
+square-turn-spec = tie.close (tie.spec word-requires add-word word-requires-2 add-word-2 word-requires-3 add-word-3 word-requires-4 add-put put-requires
+    sub-least add-least add-least-2 sub-least-2 least-requires add-add-rows mul-add-rows sub-add-rows part-add-rows-start part-add-rows-end add-rows-requires
+    add-put-2 put-requires-2 same-length same-length-2 returns)

@@ -67,8 +67,15 @@ loop-again c =
     let loop = c .before .before .before .before .before .before .before .before .before .loop in
     let turn = c .before .before .before .before .square-turn in
     let four = loop .inv .2 in
-    let fits = turn-room (a .p) (a .a .now) (loop .i) (length (a .a .now)) (length (a .acc .now)) four (search needs) (omega arith) (start .pre .1 .0 .3) in
-    (search needs, search needs, omega arith, fits, turn .ensures .0, added-more (a .p) (a .a .now) (loop .i) (loop .acc) _ (search needs) (loop .inv .5) (turn .ensures .1))
+    let fits = turn-room (a .p) (a .a .now) (loop .i) (length (a .a .now)) (length (a .acc .now)) four (search needs) (omega arith) (start .pre .1 .0 .3) in (
+      search needs,
+      search needs,
+      omega arith,
+      fits,
+      turn .ensures .0,
+      added-more (a .p) (a .a .now) (loop .i) (loop .acc) _ (search needs) (loop .inv .5)
+          (turn .ensures .1),
+    )
 
 same-length-3 : tie.Need-same-length-3 Inv-loop μ-loop
 same-length-3 c = search needs
@@ -84,4 +91,5 @@ returns-2 c =
     added-all (a .p) (a .a .now) (loop .i) (loop .acc) (search needs) (loop .inv .3) (omega arith) (loop .inv .5)
 
 pub square-turns-spec : {M : Type 1} → statement M
-square-turns-spec = tie.close (tie.spec Inv-loop μ-loop loop-holds mul-if1 same-length same-length-2 returns square-turn-requires add-i loop-less loop-again same-length-3 same-length-4 returns-2)
+square-turns-spec = tie.close (tie.spec Inv-loop μ-loop loop-holds mul-if1 same-length same-length-2 returns square-turn-requires add-i loop-less loop-again
+    same-length-3 same-length-4 returns-2)

@@ -8,8 +8,14 @@ products-requires c κs = search needs
 
 sum-of-parts-requires : tie.Need-sum-of-parts-requires
 sum-of-parts-requires c κs =
-    let hold = c .before .before .before .before .before .before .before .before .before .before .before .before .before .before .before .before .before .before .products .ensures in
-    (c .before .before .before .before .before .before .before .before .before .before .before .before .before .before .before .before .before .before .before .before .before .before .before .before .before .before .before .before .before .before .before .before .before .before .before .pre .0 .0, hold .square-is .reduced, hold .slope-is .reduced, hold .bend-is .reduced)
+    let hold = c .before .before .before .before .before .before .before .before .before .before .before .before .before .before .before .before .before
+    .before .products .ensures in (
+      c .before .before .before .before .before .before .before .before .before .before .before .before .before .before .before .before .before .before
+          .before .before .before .before .before .before .before .before .before .before .before .before .before .before .before .before .before .pre .0 .0,
+      hold .square-is .reduced,
+      hold .slope-is .reduced,
+      hold .bend-is .reduced,
+    )
 
 same-length : tie.Need-same-length
 same-length c = search needs
@@ -36,7 +42,9 @@ same-length-8 : tie.Need-same-length-8
 same-length-8 c = search needs
 
 returns : tie.Need-returns
-returns c = c .before .before .sum-of-parts .ensures _ (c .before .before .before .before .before .before .before .before .before .before .before .before .before .before .before .before .before .before .before .before .before .products .ensures)
+returns c = c .before .before .sum-of-parts .ensures _ (c .before .before .before .before .before .before .before .before .before .before .before .before
+    .before .before .before .before .before .before .before .before .before .products .ensures)
 
 pub numerator-in-spec : {M : Type 1} → statement M
-numerator-in-spec = tie.close (tie.spec products-requires sum-of-parts-requires same-length same-length-2 same-length-3 same-length-4 same-length-5 same-length-6 same-length-7 same-length-8 returns)
+numerator-in-spec = tie.close (tie.spec products-requires sum-of-parts-requires same-length same-length-2 same-length-3 same-length-4 same-length-5
+    same-length-6 same-length-7 same-length-8 returns)

@@ -34,7 +34,15 @@ square-requires c κs =
     let over = begin .pre .0 .2 in
     let holds = begin .pre .0 .1 in
     let ready = begin .pre .0 .0 in (
-      (over .prepared, over-reduced over (a .g .now) (holds .reduced), turns-fit _ _ _ (omega (arith, over .same, ready .prime)) (omega (arith, holds .count, ready .degree))),
+      (
+        over .prepared,
+        over-reduced over (a .g .now) (holds .reduced),
+        turns-fit _ _ _ (omega (arith, over .same, ready .prime)) (omega (
+          arith,
+          holds .count,
+          ready .degree,
+        )),
+      ),
       (omega arith, omega (arith, holds .count), omega (arith, holds .count, ready .degree)),
     )
 
@@ -122,8 +130,10 @@ returns c =
     (omega (arith, begin .pre, ready .degree, fourth .square3 .kept, third .derivative .kept))
     (omega (arith, begin .pre, ready .degree, second .slope-of .kept, fifth .bend-of .kept))
     (omega (arith, begin .pre, ready .degree, third .derivative .kept, fifth .bend-of .kept))
-    (over-square over (a .g .now) (first .square .last .1 .1 .1 .0) (first .square .ensures)) (second .slope-of .ensures) (third .derivative .ensures) (over-square over (third .derivative .last .1 .0) (fourth .square3 .last .1 .1 .1 .0) (fourth .square3 .ensures))
+    (over-square over (a .g .now) (first .square .last .1 .1 .1 .0) (first .square .ensures)) (second .slope-of .ensures) (third .derivative .ensures)
+    (over-square over (third .derivative .last .1 .0) (fourth .square3 .last .1 .1 .1 .0) (fourth .square3 .ensures))
     (fifth .bend-of .ensures)
 
 pub products-spec : {M : Type 1} → statement M
-products-spec = tie.close (tie.spec square-requires slope-of-requires derivative-requires square-requires-2 bend-of-requires same-length same-length-2 same-length-3 same-length-4 same-length-5 same-length-6 same-length-7 returns)
+products-spec = tie.close (tie.spec square-requires slope-of-requires derivative-requires square-requires-2 bend-of-requires same-length same-length-2
+    same-length-3 same-length-4 same-length-5 same-length-6 same-length-7 returns)

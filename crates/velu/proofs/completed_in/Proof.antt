@@ -60,8 +60,10 @@ same-length-4 c = search needs
 returns : tie.Need-returns
 returns c =
     let expansion = c .before .before .before .before .before .before .before .before .before .expansion in
-    let sums = c .before .before .before .before .before .before .before .before .before .before .before .before .before .before .before .before .before .before .power-sums in
-    let start = c .before .before .before .before .before .before .before .before .before .before .before .before .before .before .before .before .before .before .before .before .before .before .before .before .before .before .before in
+    let sums = c .before .before .before .before .before .before .before .before .before .before .before .before .before .before .before .before .before
+    .before .power-sums in
+    let start = c .before .before .before .before .before .before .before .before .before .before .before .before .before .before .before .before .before
+    .before .before .before .before .before .before .before .before .before .before in
     completes (start .args .v) (start .args .g .now) (sums .last .1 .1 .1 .1 .0) (expansion .last .1 .1 .0) (start .pre .0 .0) (start .pre .0 .1)
     (omega arith) (omega arith) (sums .ensures) (expansion .ensures)
     (c .before .before .before .less-multiple .ensures) (c .before .less-multiple2 .ensures) (c .before .before .before .before .before .multiply .ensures)

@@ -14,14 +14,16 @@ power-sums-requires c κs =
 
 expansion-requires : tie.Need-expansion-requires
 expansion-requires c κs =
-    let start = c .before .before .before .before .before .before .before .before .before .before .before .before .before .before .before .before .before .before in
+    let start = c .before .before .before .before .before .before .before .before .before .before .before .before .before .before .before .before .before
+    .before in
     let sizes = start .pre .1 .1 in
     let sums = c .before .before .before .before .before .before .before .before .power-sums in
     (start .pre .0 .0, (omega (arith, sizes .1), omega (arith, sizes, sums .kept), omega (arith, sizes, sums .kept), sums .ensures .reduced))
 
 conditions-requires : tie.Need-conditions-requires
 conditions-requires c κs =
-    let start = c .before .before .before .before .before .before .before .before .before .before .before .before .before .before .before .before .before .before .before .before .before .before .before .before .before in
+    let start = c .before .before .before .before .before .before .before .before .before .before .before .before .before .before .before .before .before
+    .before .before .before .before .before .before .before .before in
     let sizes = start .pre .1 .1 in
     let sums = c .before .before .before .before .before .before .before .before .before .before .before .before .before .before .before .power-sums in
     let h = c .before .before .before .before .before .before .expansion in
@@ -44,14 +46,18 @@ same-length-5 c = search needs
 
 returns : tie.Need-returns
 returns c =
-    let start = c .before .before .before .before .before .before .before .before .before .before .before .before .before .before .before .before .before .before .before .before .before .before .before .before .before .before .before .before .before .before .before .before in
+    let start = c .before .before .before .before .before .before .before .before .before .before .before .before .before .before .before .before .before
+    .before .before .before .before .before .before .before .before .before .before .before .before .before .before .before in
     let a = start .args in
     let sizes = start .pre .1 .1 in
-    let sums = c .before .before .before .before .before .before .before .before .before .before .before .before .before .before .before .before .before .before .before .before .before .before .power-sums in
+    let sums = c .before .before .before .before .before .before .before .before .before .before .before .before .before .before .before .before .before
+    .before .before .before .before .before .power-sums in
     let h = c .before .before .before .before .before .before .before .before .before .before .before .before .before .expansion in
     decided (a .v) (start .pre .0 .0) (start .pre .0 .2) (a .g .now) (sums .last .1 .1 .1 .1 .0) (h .last .1 .1 .0)
-    (start .pre .1 .0 .1) (omega (arith, sizes, sums .kept)) (omega (arith, sizes, h .kept)) (sums .ensures) (h .ensures) (c .before .before .before .before .before .before .conditions .result)
+    (start .pre .1 .0 .1) (omega (arith, sizes, sums .kept)) (omega (arith, sizes, h .kept)) (sums .ensures) (h .ensures) (c .before .before .before .before
+    .before .before .conditions .result)
     (c .before .before .before .before .before .before .conditions .ensures)
 
 pub by-expansion-in-spec : {M : Type 1} → statement M
-by-expansion-in-spec = tie.close (tie.spec power-sums-requires expansion-requires conditions-requires same-length same-length-2 same-length-3 same-length-4 same-length-5 returns)
+by-expansion-in-spec = tie.close (tie.spec power-sums-requires expansion-requires conditions-requires same-length same-length-2 same-length-3 same-length-4
+    same-length-5 returns)

@@ -18,7 +18,8 @@ subtract-requires c κs = search needs
 returns : tie.Need-returns
 returns c =
     let a = c .before .before .before .before .before .before .before .before .args in
-    first-no (a .v) (a .h .now) (c .before .before .multiply .result) (c .before .subtract .result) (c .before .before .multiply .ensures) (c .before .subtract .ensures) (c .if1 .taken)
+    first-no (a .v) (a .h .now) (c .before .before .multiply .result) (c .before .subtract .result) (c .before .before .multiply .ensures) (c .before
+    .subtract .ensures) (c .if1 .taken)
 
 shared-slice-read-multiply-2 : tie.Need-shared-slice-read-multiply-2
 shared-slice-read-multiply-2 c = search needs
@@ -32,8 +33,10 @@ subtract-requires-2 c κs = search needs
 returns-2 : tie.Need-returns-2
 returns-2 c =
     let a = c .before .before .before .before .before .before .before .before .before .before .before .before .args in
-    second-no (a .v) (a .h .now) (c .before .before .before .before .before .before .multiply .result) (c .before .before .before .before .before .subtract .result) (c .before .before .before .before .before .before .multiply .ensures) (c .before .before .before .before .before .subtract .ensures)
-    (c .before .before .multiply2 .result) (c .before .subtract2 .result) (c .before .before .multiply2 .ensures) (c .before .subtract2 .ensures) (c .if2 .taken)
+    second-no (a .v) (a .h .now) (c .before .before .before .before .before .before .multiply .result) (c .before .before .before .before .before .subtract
+    .result) (c .before .before .before .before .before .before .multiply .ensures) (c .before .before .before .before .before .subtract .ensures)
+    (c .before .before .multiply2 .result) (c .before .subtract2 .result) (c .before .before .multiply2 .ensures) (c .before .subtract2 .ensures) (c .if2
+    .taken)
 
 slice-relend-prefix-recurs : tie.Need-slice-relend-prefix-recurs
 slice-relend-prefix-recurs c = search needs
@@ -64,11 +67,21 @@ same-length-3 c = search needs
 
 returns-3 : tie.Need-returns-3
 returns-3 c =
-    let start = c .before .before .before .before .before .before .before .before .before .before .before .before .before .before .before .before .before .before .before .before .before .before in
+    let start = c .before .before .before .before .before .before .before .before .before .before .before .before .before .before .before .before .before
+    .before .before .before .before .before in
     let a = start .args in
-    all-yes (a .v) (a .h .now) (c .before .before .before .before .before .before .before .before .before .before .before .before .before .before .before .before .multiply .result) (c .before .before .before .before .before .before .before .before .before .before .before .before .before .before .before .subtract .result) (c .before .before .before .before .before .before .before .before .before .before .before .before .before .before .before .before .multiply .ensures) (c .before .before .before .before .before .before .before .before .before .before .before .before .before .before .before .subtract .ensures)
-    (c .before .before .before .before .before .before .before .before .before .before .before .before .multiply2 .result) (c .before .before .before .before .before .before .before .before .before .before .before .subtract2 .result) (c .before .before .before .before .before .before .before .before .before .before .before .before .multiply2 .ensures) (c .before .before .before .before .before .before .before .before .before .before .before .subtract2 .ensures)
-    (c .before .before .before .before .before .before .recurs .result) (start .pre .0 .0) (start .pre .0 .2) (c .before .before .before .before .before .before .before .before .before .before .before .before .before .before .if1 .left) (c .before .before .before .before .before .before .before .before .before .before .if2 .left) (c .before .before .before .before .before .before .recurs .ensures)
+    all-yes (a .v) (a .h .now) (c .before .before .before .before .before .before .before .before .before .before .before .before .before .before .before
+    .before .multiply .result) (c .before .before .before .before .before .before .before .before .before .before .before .before .before .before .before
+    .subtract .result) (c .before .before .before .before .before .before .before .before .before .before .before .before .before .before .before .before
+    .multiply .ensures) (c .before .before .before .before .before .before .before .before .before .before .before .before .before .before .before
+    .subtract .ensures)
+    (c .before .before .before .before .before .before .before .before .before .before .before .before .multiply2 .result) (c .before .before .before .before
+    .before .before .before .before .before .before .before .subtract2 .result) (c .before .before .before .before .before .before .before .before
+    .before .before .before .before .multiply2 .ensures) (c .before .before .before .before .before .before .before .before .before .before .before
+    .subtract2 .ensures)
+    (c .before .before .before .before .before .before .recurs .result) (start .pre .0 .0) (start .pre .0 .2) (c .before .before .before .before .before
+    .before .before .before .before .before .before .before .before .before .if1 .left) (c .before .before .before .before .before .before .before
+    .before .before .before .if2 .left) (c .before .before .before .before .before .before .recurs .ensures)
 
 pub conditions-spec : {M : Type 1} → statement M
 conditions-spec =
