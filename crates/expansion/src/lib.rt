@@ -130,7 +130,7 @@ fn sums_turn(e: &[u64], d: usize, acc: &mut [u64], s: &mut [u32], i: usize, p: u
     );
 }
 
-// The turns, from the first word on.
+// The turns, from the first word on. (The loop goes by acc, so that of a word that is read back not even its place is known.)
 fn sums_turns(e: &[u64], d: usize, acc: &mut [u64], s: &mut [u32], p: u32)
     requires { ⌜ (1 ≤ length (now s)) × (length (now s) ≤ 257) × (length (now s) % 4 ≡ 1) × (length (now acc) ≡ length (now s)) × (d + 3 ≤ length (now e)) ⌝ }
     requires { ⌜ (0 < p) × (p ≤ 2 ^ 28) × Reduced p (now e) × ((t : ℕ) → d ≤ t → getD (now e) t 0 ≡ 0) ⌝ }
@@ -139,7 +139,7 @@ fn sums_turns(e: &[u64], d: usize, acc: &mut [u64], s: &mut [u32], p: u32)
         → Known p d g (now (acc .exit)) (now (s .exit)) (length (now (s .entry)))) ⌝ }
 {
     let mut i = 1;
-    while i < s.len() {
+    while i < acc.len() {
         sums_turn(e, d, acc, s, i, p);
         i += 4;
     }

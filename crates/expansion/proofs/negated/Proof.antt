@@ -39,7 +39,9 @@ shared-slice-read-negate : tie.Need-shared-slice-read-negate Inv-loop μ-loop
 shared-slice-read-negate c = search needs
 
 negate-requires : tie.Need-negate-requires Inv-loop μ-loop
-negate-requires c κs = c .before .before .before .before .before .before .before .before .before .pre .2 _
+negate-requires c κs =
+    let at-start = c .before .before .before .before .before .before .before .before .before in
+    at-start .pre .2 _
 
 wide-requires : tie.Need-wide-requires Inv-loop μ-loop
 wide-requires c κs = search needs
@@ -70,14 +72,16 @@ same-length c = search needs
 
 returns : tie.Need-returns Inv-loop μ-loop
 returns c =
-    let loop = c .before .loop in
-    let a = c .before .before .before .before .before .before .before .before .args in
+    let at-loop = c .before in
+    let at-clear = at-loop .before .before .before in
+    let at-start = at-clear .before .before .before .before in
+    let loop = at-loop .loop in
+    let a = at-start .args in
     let end : loop .t ≡ length (a .g .now) - 1 = omega arith in
     record {
       words = λ t l. subst (λ n. Residue (a .p) (minus (a .p) (mk (a .p) (getD (a .g .now) (n - 1 - t) 0))) (getD (loop .e) t 0)) (loop .inv .0)
           (loop .inv .2 .filled t (omega arith));
-      past = λ t l. loop .inv .2 .kept t (omega arith) ∙ ap (λ xs. getD xs t 0) (c .before .before .before .before .clear .ensures) ∙ zero-at (length (a .e
-          .now)) t;
+      past = λ t l. loop .inv .2 .kept t (omega arith) ∙ ap (λ xs. getD xs t 0) (at-clear .clear .ensures) ∙ zero-at (length (a .e .now)) t;
     }
 
 pub negated-spec : {M : Type 1} → statement M

@@ -23,11 +23,12 @@ negated-requires c κs = search needs
 
 weights-requires : tie.Need-weights-requires
 weights-requires c κs =
-    let start = c .before .before .before .before .before .before .before .before .before .before in
+    let at-negated = c .before .before .before .before in
+    let start = at-negated .before .before .before .before .before .before in
     let a = start .args in
     let ready = start .pre .0 .0 in
     let holds = start .pre .0 .1 in
-    let back = c .before .before .before .before .negated in (
+    let back = at-negated .negated in (
       omega (arith, start .pre .1),
       (
         omega (arith, holds .count, ready .degree),
@@ -35,8 +36,7 @@ weights-requires c κs =
         λ t. omega (
           arith,
           ready .prime,
-          backwards-reduced (a .v .p) (half (a .v)) (a .g .now) (back .last .1 .0) (search needs) (holds .count) (back
-              .ensures) t,
+          backwards-reduced (a .v .p) (half (a .v)) (a .g .now) (back .last .1 .0) (search needs) (holds .count) (back .ensures) t,
         ),
         λ t l. back .ensures .past t (omega (arith, holds .count)),
       ),
@@ -56,30 +56,30 @@ slice-write-s c = search needs
 
 sums-turns-requires : tie.Need-sums-turns-requires
 sums-turns-requires c κs =
-    let start = c .before .before .before .before .before .before .before .before .before .before .before .before .before .before .before .before .before
-    .before .before in
+    let at-weights = c .before .before .before .before .before .before .before .before in
+    let at-negated = at-weights .before .before .before .before .before in
+    let start = at-negated .before .before .before .before .before .before in
     let a = start .args in
     let ready = start .pre .0 .0 in
     let holds = start .pre .0 .1 in
-    let back = c .before .before .before .before .before .before .before .before .before .before .before .before .before .negated in
+    let back = at-negated .negated in
     let low = backwards-reduced (a .v .p) (half (a .v)) (a .g .now) (back .last .1 .0) (search needs) (holds .count) (back .ensures) in (
       (
         simp length-set (omega (arith, start .pre .1)),
         simp length-set (omega (arith, start .pre .1)),
         simp length-set (start .pre .1 .1),
         simp length-set
-            (omega (arith, start .pre .1, c .before .before .before .before .before .before .before .before .weights .kept)),
+            (omega (arith, start .pre .1, at-weights .weights .kept)),
         omega (
           arith,
           holds .count,
-          start
-              .pre .1,
+          start .pre .1,
         ),
       ),
       (
         (search needs, omega (arith, ready .prime), low, λ t l. back .ensures .past t (omega (arith, holds .count))),
-        weights-low (back .last .1 .0) (c .before .before .before .before .before .before .before .before .weights .last .1 .1 .0) (length (a .g .now) - 1)
-            (omega (arith, holds .count, ready .degree)) (c .before .before .before .before .before .before .before .before .weights .ensures)
+        weights-low (back .last .1 .0) (at-weights .weights .last .1 .1 .0) (length (a .g .now) - 1)
+            (omega (arith, holds .count, ready .degree)) (at-weights .weights .ensures)
             (λ t. omega (arith, ready .prime, low t)) (λ t l. back .ensures .past t (omega (arith, holds .count))),
       ),
     )
@@ -91,40 +91,44 @@ same-length-2 : tie.Need-same-length-2
 same-length-2 c = search needs
 
 same-length-3 : tie.Need-same-length-3
-same-length-3 c = c .before .before .before .before .sums-turns .kept .1 .1 .1 .0 ∙ length-set (c .before .before .before .before .before .before .before
-    .before .before .before .before .before .before .before .before .before .before .before .before .before .before .before .before .before .args .s .now) 0
-    (c .before .before .before .before .before .before .before .before .reduce .result)
+same-length-3 c =
+    let at-sums-turns = c .before .before .before .before in
+    let at-reduce = at-sums-turns .before .before .before .before in
+    let at-start = at-reduce .before .before .before .before .before .before .before .before .before .before .before .before .before .before .before .before in
+    at-sums-turns .sums-turns .kept .1 .1 .1 .0 ∙ length-set (at-start .args .s .now) 0
+    (at-reduce .reduce .result)
 
 returns : tie.Need-returns
 returns c =
-    let start = c .before .before .before .before .before .before .before .before .before .before .before .before .before .before .before .before .before
-    .before .before .before .before .before .before .before in
+    let at-sums-turns = c .before .before .before .before in
+    let at-reduce = at-sums-turns .before .before .before .before in
+    let at-wide = at-reduce .before in
+    let at-weights = at-wide .before .before .before .before in
+    let at-negated = at-weights .before .before .before .before .before in
+    let start = at-negated .before .before .before .before .before .before in
     let a = start .args in
     let p = a .v .p in
     let ready = start .pre .0 .0 in
     let holds = start .pre .0 .1 in
-    let back = c .before .before .before .before .before .before .before .before .before .before .before .before .before .before .before .before .before
-    .before .negated in
+    let back = at-negated .negated in
     let G = poly p (a .g .now) in
     let d = length (a .g .now) - 1 in
     let half-is : d ≡ half (a .v) = omega (arith, holds .count) in
     let n = backwards-negated p d (a .g .now) (back .last .1 .0) (search needs) (omega (arith, holds .count)) (back .ensures) in
-    let s = c .before .before .before .before .sums-turns .last .1 .1 .1 .0 in
-    let r = c .before .before .before .before .before .before .before .before .reduce in
-    let degree : c .before .before .before .before .before .before .before .before .before .wide .result ≡ 2 * d = omega (
+    let s = at-sums-turns .sums-turns .last .1 .1 .1 .0 in
+    let r = at-reduce .reduce in
+    let degree : at-wide .wide .result ≡ 2 * d = omega (
       arith,
-      c .before .before .before
-          .before .before .before .before .before .before .wide .ensures,
+      at-wide .wide .ensures,
       holds .count,
       ready .degree,
     ) in
     let first : Residue p (mk p (2 * d)) (r .result) = subst (λ n. Residue p (mk p n) (r .result)) degree (r .ensures) in
-    let known = c .before .before .before .before .sums-turns .ensures G n
-    (known-first p d G (back .last .1 .0) (c .before .before .before .before .before .before .before .before .before .before .before .before .before .weights
-    .last .1 .1 .0) (a .s .now) (r .result) (omega (arith, start .pre .1)) n (c .before .before .before .before .before .before .before .before .before
-    .before .before .before .before .weights .ensures) first)
+    let known = at-sums-turns .sums-turns .ensures G n
+    (known-first p d G (back .last .1 .0) (at-weights .weights .last .1 .1 .0) (a .s .now) (r .result) (omega (arith, start .pre .1)) n (at-weights .weights
+    .ensures) first)
     in
-    let size : length (set (a .s .now) 0 (r .result)) ≡ length s = sym (c .before .before .before .before .sums-turns .kept .1 .1 .1 .0) in
+    let size : length (set (a .s .now) 0 (r .result)) ≡ length s = sym (at-sums-turns .sums-turns .kept .1 .1 .1 .0) in
     record {
       reduced = solved-all p (Newton (Zmod p) d G) (search needs) s _ (omega (arith, size)) (known .solved);
       coefficients = λ i l. sums-step (Zmod p) d G (poly p s) _ (known .solved .equations) i (omega (arith, size)) ∙ ap (λ m. power-sums (Zmod p) m G i)

@@ -49,10 +49,11 @@ square-requires c κs =
 
 recurs-by-requires : tie.Need-recurs-by-requires
 recurs-by-requires c κs =
-    let start = c .before .before .before .before .before .before .before .before .before .before .before .before .before .before .before .before in
+    let at-square = c .before .before .before .before .before .before .before in
+    let start = at-square .before .before .before .before .before .before .before .before .before in
     let a = start .args in
     let sizes = start .pre .1 in
-    let square = c .before .before .before .before .before .before .before .square in (
+    let square = at-square .square in (
       start .pre .0 .0,
       (
         (omega (arith, sizes), sizes .0 .2),

@@ -70,12 +70,14 @@ weighted-requires-2 c κs = omega (arith, c .before .before .weighted .ensures .
 
 returns : tie.Need-returns
 returns c =
-    let start = c .before .before .before .before .before .before .before .before .before in
+    let at-negate = c .before in
+    let at-weighted = at-negate .before .before in
+    let start = at-weighted .before .before .before .before .before .before in
     let a = start .args in
-    let weighted = c .before .before .before .weighted in
+    let weighted = at-weighted .weighted in
     recurs-is (a .v .p) (question (a .v) .A) (question (a .v) .B) (a .h .now) (a .k) (omega arith) (a .y) (a .z) (weighted .result)
-    (getD (a .squares .now) (a .k - 3) 0) (c .before .negate .result) (c .weighted2 .result) (omega arith) (start .pre .1 .1 .1 .0) (start .pre .1 .1 .1 .1)
-    (weighted .ensures) (start .pre .1 .1 .0 .1 (a .k) (start .pre .1 .0 .0) (start .pre .1 .0 .1)) (c .before .negate .ensures) (c .weighted2 .ensures)
+    (getD (a .squares .now) (a .k - 3) 0) (at-negate .negate .result) (c .weighted2 .result) (omega arith) (start .pre .1 .1 .1 .0) (start .pre .1 .1 .1 .1)
+    (weighted .ensures) (start .pre .1 .1 .0 .1 (a .k) (start .pre .1 .0 .0) (start .pre .1 .0 .1)) (at-negate .negate .ensures) (c .weighted2 .ensures)
 
 pub recurs-at-spec : {M : Type 1} → statement M
 recurs-at-spec =

@@ -41,8 +41,9 @@ loop-holds c =
 
 recurs-at-requires : tie.Need-recurs-at-requires Inv-loop μ-loop
 recurs-at-requires c κs =
-    let start = c .before .before .before .before .before .before .before in
-    let inv = c .before .loop .inv in
+    let at-loop = c .before in
+    let start = at-loop .before .before .before .before .before .before in
+    let inv = at-loop .loop .inv in
     (start .pre .0, ((omega arith, omega arith, start .pre .1 .0 .0, start .pre .1 .0 .1), (start .pre .1 .1, (inv .2, inv .3))))
 
 returns : tie.Need-returns Inv-loop μ-loop
@@ -54,20 +55,24 @@ returns c =
     )
 
 add-requires-3 : tie.Need-add-requires-3 Inv-loop μ-loop
-add-requires-3 c κs = (
-  omega (arith, c .before .before .before .loop .inv .2 .below),
-  omega
-      (arith, c .before .before .before .before .before .before .add .ensures .below),
-  omega arith,
-)
+add-requires-3 c κs =
+    let at-loop = c .before .before .before in
+    let at-add = at-loop .before .before .before in (
+      omega (arith, at-loop .loop .inv .2 .below),
+      omega
+          (arith, at-add .add .ensures .below),
+      omega arith,
+    )
 
 add-requires-4 : tie.Need-add-requires-4 Inv-loop μ-loop
-add-requires-4 c κs = (
-  omega (arith, c .before .before .before .before .loop .inv .3 .below),
-  omega
-      (arith, c .before .before .before .before .before .before .add2 .ensures .below),
-  omega arith,
-)
+add-requires-4 c κs =
+    let at-loop = c .before .before .before .before in
+    let at-add2 = at-loop .before .before in (
+      omega (arith, at-loop .loop .inv .3 .below),
+      omega
+          (arith, at-add2 .add2 .ensures .below),
+      omega arith,
+    )
 
 add-k : tie.Need-add-k Inv-loop μ-loop
 add-k c = search needs
@@ -77,16 +82,23 @@ loop-less c = search needs
 
 loop-again : tie.Need-loop-again Inv-loop μ-loop
 loop-again c =
-    let v = c .before .before .before .before .before .before .before .before .before .before .before .args .v in
-    let at = c .before .before .before .before .before .loop in
-    let found = c .before .before .before .recurs-at in (
+    let at-add3 = c .before in
+    let at-if1 = at-add3 .before in
+    let at-recurs-at = at-if1 .before in
+    let at-loop = at-recurs-at .before .before in
+    let at-add2 = at-loop .before .before in
+    let at-add = at-add2 .before in
+    let at-start = at-add .before .before .before in
+    let v = at-start .args .v in
+    let at = at-loop .loop in
+    let found = at-recurs-at .recurs-at in (
       omega arith,
-      below-more _ _ (at .inv .1) (λ l. found .ensures .0 (not-false (found .result) (c .before .before .if1 .left))),
-      two-more (v .a) (c .before .before .before .before .before .before .before .before .add .result) (2 * at .k - 3) (2 * (at .k + 1) - 3) (at .y)
-          (c .before .add3 .result) (omega arith) (c .before .before .before .before .before .before .before .before .add .ensures) (at .inv .2)
-          (c .before .add3 .ensures),
-      two-more (v .b) (c .before .before .before .before .before .before .before .add2 .result) (2 * at .k - 6) (2 * (at .k + 1) - 6) (at .z) (c .add4 .result)
-          (omega arith) (c .before .before .before .before .before .before .before .add2 .ensures) (at .inv .3) (c .add4 .ensures),
+      below-more _ _ (at .inv .1) (λ l. found .ensures .0 (not-false (found .result) (at-if1 .if1 .left))),
+      two-more (v .a) (at-add .add .result) (2 * at .k - 3) (2 * (at .k + 1) - 3) (at .y)
+          (at-add3 .add3 .result) (omega arith) (at-add .add .ensures) (at .inv .2)
+          (at-add3 .add3 .ensures),
+      two-more (v .b) (at-add2 .add2 .result) (2 * at .k - 6) (2 * (at .k + 1) - 6) (at .z) (c .add4 .result)
+          (omega arith) (at-add2 .add2 .ensures) (at .inv .3) (c .add4 .ensures),
     )
 
 returns-2 : tie.Need-returns-2 Inv-loop μ-loop

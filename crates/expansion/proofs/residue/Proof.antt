@@ -53,8 +53,12 @@ reduce-requires : tie.Need-reduce-requires
 reduce-requires c κs = search needs
 
 returns : tie.Need-returns
-returns c = subst (λ n. Residue (c .before .before .before .before .before .args .p) (mk (c .before .before .before .before .before .args .p) n) (c .reduce
-    .result)) (c .before .sum-more .ensures ∙ total (c .before .before)) (c .reduce .ensures)
+returns c =
+    let at-sum-more = c .before in
+    let at-wide3 = at-sum-more .before in
+    let at-start = at-wide3 .before .before .before in
+    subst (λ n. Residue (at-start .args .p) (mk (at-start .args .p) n) (c .reduce .result)) (at-sum-more .sum-more .ensures ∙ total (at-wide3)) (c .reduce
+    .ensures)
 
 pub residue-spec : {M : Type 1} → statement M
 residue-spec = tie.close (tie.spec wide-requires wide-requires-2 wide-requires-3 sum-more-requires reduce-requires returns)

@@ -37,10 +37,11 @@ shared-slice-read-residue c = search needs
 
 residue-requires : tie.Need-residue-requires
 residue-requires c κs =
-    let start = c .before .before .before .before .before .before .before in
+    let at-reduce = c .before .before in
+    let start = at-reduce .before .before .before .before .before in
     let a = start .args in
     let small = start .pre .1 .0 .2 in
-    let w = c .before .before .reduce .ensures .below in (
+    let w = at-reduce .reduce .ensures .below in (
       start .pre .1 .0 .0,
       omega (arith, small 0),
       search needs,
@@ -48,7 +49,7 @@ residue-requires c κs =
       omega (
         arith,
         start .pre .1 .1 (1 + a .i),
-        product-le {x = c .before .before .reduce .result} {y = getD (a .e .now) 0 0} (omega arith) (omega (
+        product-le {x = at-reduce .reduce .result} {y = getD (a .e .now) 0 0} (omega arith) (omega (
           arith,
           small 0,
         )),
@@ -72,11 +73,13 @@ shared-slice-read-residue-3 c = search needs
 
 residue-requires-2 : tie.Need-residue-requires-2
 residue-requires-2 c κs =
-    let start = c .before .before .before .before .before .before .before .before .before .before .before in
+    let at-residue = c .before .before .before in
+    let at-reduce = at-residue .before .before .before in
+    let start = at-reduce .before .before .before .before .before in
     let a = start .args in
     let small = start .pre .1 .0 .2 in
-    let w = c .before .before .before .before .before .before .reduce .ensures .below in
-    let x = c .before .before .before .residue .ensures .below in (
+    let w = at-reduce .reduce .ensures .below in
+    let x = at-residue .residue .ensures .below in (
       start .pre .1 .0 .0,
       omega (arith, small 1),
       omega (arith, small 0),
@@ -84,8 +87,8 @@ residue-requires-2 c κs =
       omega (
         arith,
         start .pre .1 .1 (2 + a .i),
-        product-le {x = c .before .before .before .before .before .before .reduce .result} {y = getD (a .e .now) 1 0} (omega arith) (omega (arith, small 1)),
-        product-le {x = c .before .before .before .residue .result} {y = getD (a .e .now) 0 0} (omega arith) (omega (arith, small 0)),
+        product-le {x = at-reduce .reduce .result} {y = getD (a .e .now) 1 0} (omega arith) (omega (arith, small 1)),
+        product-le {x = at-residue .residue .result} {y = getD (a .e .now) 0 0} (omega arith) (omega (arith, small 0)),
       ),
     )
 
@@ -109,12 +112,15 @@ shared-slice-read-residue-6 c = search needs
 
 residue-requires-3 : tie.Need-residue-requires-3
 residue-requires-3 c κs =
-    let start = c .before .before .before .before .before .before .before .before .before .before .before .before .before .before .before .before in
+    let at-residue2 = c .before .before .before .before in
+    let at-residue = at-residue2 .before .before .before .before in
+    let at-reduce = at-residue .before .before .before in
+    let start = at-reduce .before .before .before .before .before in
     let a = start .args in
     let small = start .pre .1 .0 .2 in
-    let w = c .before .before .before .before .before .before .before .before .before .before .before .reduce .ensures .below in
-    let x = c .before .before .before .before .before .before .before .before .residue .ensures .below in
-    let y = c .before .before .before .before .residue2 .ensures .below in (
+    let w = at-reduce .reduce .ensures .below in
+    let x = at-residue .residue .ensures .below in
+    let y = at-residue2 .residue2 .ensures .below in (
       start .pre .1 .0 .0,
       omega (arith, small 2),
       omega (arith, small 1),
@@ -122,11 +128,11 @@ residue-requires-3 c κs =
       omega (
         arith,
         start .pre .1 .1 (3 + a .i),
-        product-le {x = c .before .before .before .before .before .before .before .before .before .before .before .reduce .result} {y = getD (a .e .now) 2 0}
+        product-le {x = at-reduce .reduce .result} {y = getD (a .e .now) 2 0}
             (omega arith) (omega (arith, small 2)),
-        product-le {x = c .before .before .before .before .before .before .before .before .residue .result} {y = getD (a .e .now) 1 0} (omega arith) (omega
+        product-le {x = at-residue .residue .result} {y = getD (a .e .now) 1 0} (omega arith) (omega
             (arith, small 1)),
-        product-le {x = c .before .before .before .before .residue2 .result} {y = getD (a .e .now) 0 0} (omega arith) (omega (arith, small 0)),
+        product-le {x = at-residue2 .residue2 .result} {y = getD (a .e .now) 0 0} (omega arith) (omega (arith, small 0)),
       ),
     )
 
@@ -143,49 +149,57 @@ least-requires : tie.Need-least-requires
 least-requires c κs = search needs
 
 add-add-rows : tie.Need-add-add-rows
-add-add-rows c = record {
-  fits = omega (
-    arith,
-    c .before .before .before .before .before .before .before .before .before .before .before .before .before
-        .before .before .before .before .before .before .before .before .before .before .pre .0,
-  );
-}
+add-add-rows c =
+    let at-start = c .before .before .before .before .before .before .before .before .before .before .before .before .before .before .before .before .before
+    .before .before .before .before .before .before in
+    record {
+      fits = omega (
+        arith,
+        at-start .pre .0,
+      );
+    }
 
 word-requires : tie.Need-word-requires
 word-requires c κs = search needs
 
 add-word : tie.Need-add-word
-add-word c = record {
-  fits = omega (
-    arith,
-    c .before .before .before .before .before .before .before .before .before .before .before .before .before .before
-        .before .before .before .before .before .before .before .before .before .before .before .before .pre .0,
-  );
-}
+add-word c =
+    let at-start = c .before .before .before .before .before .before .before .before .before .before .before .before .before .before .before .before .before
+    .before .before .before .before .before .before .before .before .before in
+    record {
+      fits = omega (
+        arith,
+        at-start .pre .0,
+      );
+    }
 
 word-requires-2 : tie.Need-word-requires-2
 word-requires-2 c κs = search needs
 
 add-word-2 : tie.Need-add-word-2
-add-word-2 c = record {
-  fits = omega (
-    arith,
-    c .before .before .before .before .before .before .before .before .before .before .before .before .before
-        .before .before .before .before .before .before .before .before .before .before .before .before .before .before .before .pre .0,
-  );
-}
+add-word-2 c =
+    let at-start = c .before .before .before .before .before .before .before .before .before .before .before .before .before .before .before .before .before
+    .before .before .before .before .before .before .before .before .before .before .before in
+    record {
+      fits = omega (
+        arith,
+        at-start .pre .0,
+      );
+    }
 
 word-requires-3 : tie.Need-word-requires-3
 word-requires-3 c κs = search needs
 
 add-word-3 : tie.Need-add-word-3
-add-word-3 c = record {
-  fits = omega (
-    arith,
-    c .before .before .before .before .before .before .before .before .before .before .before .before .before
-        .before .before .before .before .before .before .before .before .before .before .before .before .before .before .before .before .before .pre .0,
-  );
-}
+add-word-3 c =
+    let at-start = c .before .before .before .before .before .before .before .before .before .before .before .before .before .before .before .before .before
+    .before .before .before .before .before .before .before .before .before .before .before .before .before in
+    record {
+      fits = omega (
+        arith,
+        at-start .pre .0,
+      );
+    }
 
 word-requires-4 : tie.Need-word-requires-4
 word-requires-4 c κs = search needs
@@ -217,26 +231,30 @@ module _ (c : tie.After-word4) where
 
 add-rows-requires : tie.Need-add-rows-requires
 add-rows-requires c κs =
-    let start = c .before .before .before .before .before .before .before .before .before .before .before .before .before .before .before .before .before
-    .before .before .before .before .before .before .before .before .before .before .before .before .before .before in
+    let at-word3 = c .before .before in
+    let at-word2 = at-word3 .before .before in
+    let at-word = at-word2 .before .before in
+    let at-least = at-word .before .before .before in
+    let at-residue3 = at-least .before .before .before .before .before in
+    let at-residue2 = at-residue3 .before .before .before .before .before in
+    let at-residue = at-residue2 .before .before .before .before in
+    let at-reduce = at-residue .before .before .before in
+    let start = at-reduce .before .before .before .before .before in
     let a = start .args in
     let small = start .pre .1 .0 .2 in
-    let w = c .before .before .before .before .before .before .before .before .before .before .before .before .before .before .before .before .before .before
-    .before .before .before .before .before .before .before .before .reduce .ensures .below in
-    let x = c .before .before .before .before .before .before .before .before .before .before .before .before .before .before .before .before .before .before
-    .before .before .before .before .before .residue .ensures .below in
-    let y = c .before .before .before .before .before .before .before .before .before .before .before .before .before .before .before .before .before .before
-    .before .residue2 .ensures .below in
-    let z = c .before .before .before .before .before .before .before .before .before .before .before .before .before .before .residue3 .ensures .below in
-    let size = c .before .before .before .before .before .before .before .before .before .least .ensures in (
+    let w = at-reduce .reduce .ensures .below in
+    let x = at-residue .residue .ensures .below in
+    let y = at-residue2 .residue2 .ensures .below in
+    let z = at-residue3 .residue3 .ensures .below in
+    let size = at-least .least .ensures in (
       (omega (arith, size), omega (arith, size), λ j. omega (arith, small j)),
       (
         (omega (arith, first c), omega (arith, second c), omega (arith, third c), omega (arith, fourth c)),
         λ j l. omega (
           arith,
           start .pre .1 .1 (a .i + 4 + j),
-          row-le 268435455 268435455 (getD (a .acc .now) (a .i + 4 + j) 0) (a .e .now) j (c .before .before .before .before .before .before .word .result)
-              (c .before .before .before .before .word2 .result) (c .before .before .word3 .result) (c .word4 .result) (omega (arith, first c)) (omega
+          row-le 268435455 268435455 (getD (a .acc .now) (a .i + 4 + j) 0) (a .e .now) j (at-word .word .result)
+              (at-word2 .word2 .result) (at-word3 .word3 .result) (c .word4 .result) (omega (arith, first c)) (omega
               (arith, second c)) (omega (arith, third c))
               (omega (arith, fourth c)) (λ u. omega (arith, small u)),
         ),
@@ -251,34 +269,38 @@ same-length-2 c = search needs
 
 returns : tie.Need-returns
 returns c =
-    let start = c .before .before .before .before .before .before .before .before .before .before .before .before .before .before .before .before .before
-    .before .before .before .before .before .before .before .before .before .before .before .before .before .before .before .before .before in
+    let at-add-rows = c .before .before in
+    let words = at-add-rows .before in
+    let at-word3 = words .before .before in
+    let at-word2 = at-word3 .before .before in
+    let at-word = at-word2 .before .before in
+    let at-least = at-word .before .before .before in
+    let at-put = at-least .before .before .before in
+    let at-residue3 = at-put .before .before in
+    let at-residue2 = at-residue3 .before .before .before .before .before in
+    let at-residue = at-residue2 .before .before .before .before in
+    let at-reduce = at-residue .before .before .before in
+    let start = at-reduce .before .before .before .before .before in
     let a = start .args in
     let small = start .pre .1 .0 .2 in
-    let added = c .before .before .add-rows in
-    let words = c .before .before .before in
-    let w = c .before .before .before .before .before .before .before .before .before .before .before .before .before .before .before .before .before .before
-    .before .before .before .before .before .before .before .before .before .before .before .reduce in
-    let x = c .before .before .before .before .before .before .before .before .before .before .before .before .before .before .before .before .before .before
-    .before .before .before .before .before .before .before .before .residue in
-    let y = c .before .before .before .before .before .before .before .before .before .before .before .before .before .before .before .before .before .before
-    .before .before .before .before .residue2 in
-    let z = c .before .before .before .before .before .before .before .before .before .before .before .before .before .before .before .before .before
-    .residue3 in
-    let put = c .before .before .before .before .before .before .before .before .before .before .before .before .before .before .before .put in
-    let least = c .before .before .before .before .before .before .before .before .before .before .before .before .least in
+    let large = start .pre .1 .0 .1 in
+    let added = at-add-rows .add-rows in
+    let w = at-reduce .reduce in
+    let x = at-residue .residue in
+    let y = at-residue2 .residue2 in
+    let z = at-residue3 .residue3 in
+    let put = at-put .put in
+    let least = at-least .least in
     let rows = same-rows (a .acc .now) (a .e .now) (added .last .0) (a .i + 4) (least .result) (w .result) (x .result) (y .result) (z .result)
-    (c .before .before .before .before .before .before .before .before .before .word .result) (c .before .before .before .before .before .before .before
-    .word2 .result) (c .before .before .before .before .before .word3 .result) (words .word4 .result) (first words) (second words) (third words) (fourth
-    words)
+    (at-word .word .result) (at-word2 .word2 .result) (at-word3 .word3 .result) (words .word4 .result) (first words) (second words) (third words) (fourth words)
     (added .ensures)
     in (
       λ k. omega (
         arith,
         start .pre .1 .1 k,
         added-le 268435455 268435455 (a .acc .now) (a .e .now) (a .i + 4) (least .result) (w .result) (x .result) (y .result)
-            (z .result) (added .last .0) rows (omega (arith, w .ensures .below)) (omega (arith, x .ensures .below)) (omega (arith, y .ensures .below))
-            (omega (arith, z .ensures .below)) (λ u. omega (arith, small u)) k,
+            (z .result) (added .last .0) rows (omega (arith, w .ensures .below, large)) (omega (arith, x .ensures .below, large)) (omega (arith, y .ensures .below, large))
+            (omega (arith, z .ensures .below, large)) (λ u. omega (arith, small u, large)) k,
       ),
       λ g n h. record {
         solved = solved-four (a .p) (Newton (Zmod (a .p)) (a .d) g) (newton-causal (a .p) (a .d) g) (a .s .now) (put .last .0) (a .i) (w .result) (x .result)

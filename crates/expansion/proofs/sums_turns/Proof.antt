@@ -23,8 +23,9 @@ loop-holds c = (refl, refl, search needs, refl, search needs, c .before .before 
 
 sums-turn-requires : tie.Need-sums-turn-requires Inv-loop μ-loop
 sums-turn-requires c κs =
-    let start = c .before .before .before .before .before .before .before in
-    let loop = c .before .before .before .loop in (
+    let at-loop = c .before .before .before in
+    let start = at-loop .before .before .before .before in
+    let loop = at-loop .loop in (
       (search needs, omega (arith, start .pre .0, loop .inv .3), omega (arith, start .pre .0), omega (arith, start .pre .0), search needs),
       (
         start .pre .1 .0,
@@ -40,9 +41,11 @@ loop-less c = search needs
 
 loop-again : tie.Need-loop-again Inv-loop μ-loop
 loop-again c =
-    let start = c .before .before .before .before .before .before .before .before .before .before .before .before in
-    let loop = c .before .before .before .before .before .before .before .before .loop in
-    let turn = c .before .before .before .before .sums-turn in (
+    let at-sums-turn = c .before .before .before .before in
+    let at-loop = at-sums-turn .before .before .before .before in
+    let start = at-loop .before .before .before .before in
+    let loop = at-loop .loop in
+    let turn = at-sums-turn .sums-turn in (
       search needs,
       search needs,
       search needs,
@@ -60,10 +63,11 @@ same-length-2 c = search needs
 
 returns : tie.Need-returns Inv-loop μ-loop
 returns c =
-    let start = c .before .before .before .before .before in
+    let at-loop = c .before in
+    let start = at-loop .before .before .before .before in
     let a = start .args in
-    let loop = c .before .loop in
-    let end : loop .i ≡ length (a .s .now) = omega (arith, loop .inv .4) in
+    let loop = at-loop .loop in
+    let end : loop .i ≡ length (a .s .now) = omega (arith, loop .inv .4, start .pre .0) in
     λ g n h. subst (Known (a .p) (a .d) g (loop .acc) (loop .s)) end (loop .inv .6 g n h)
 
 pub sums-turns-spec : {M : Type 1} → statement M

@@ -57,8 +57,10 @@ shared-slice-read-product c = search needs
 
 product-requires : tie.Need-product-requires Inv-loop μ-loop
 product-requires c κs =
-    let pre = c .before .before .before .before .before .before .before .before .before .before .pre in
-    let loop = c .before .before .loop in
+    let at-loop = c .before .before in
+    let at-start = at-loop .before .before .before .before .before .before .before .before in
+    let pre = at-start .pre in
+    let loop = at-loop .loop in
     (omega (arith, pre .1 .0), omega (arith, pre .1 .2 (loop .k - 1)))
 
 mul-acc : tie.Need-mul-acc Inv-loop μ-loop
@@ -83,11 +85,13 @@ same-length c = search needs
 
 returns : tie.Need-returns Inv-loop μ-loop
 returns c =
-    let loop = c .before .loop in
-    let start = c .before .before .before .before .before .before .before .before .before in
+    let at-loop = c .before in
+    let at-clear = at-loop .before .before .before .before in
+    let start = at-clear .before .before .before .before in
+    let loop = at-loop .loop in
     let a = start .args in
-    weights-all (a .e .now) (c .before .before .before .before .before .clear .last .0) (loop .acc) (a .d) (length (a .acc .now)) (loop .k) (omega arith)
-    (loop .inv .2) (c .before .before .before .before .before .clear .ensures) (start .pre .1 .3)
+    weights-all (a .e .now) (at-clear .clear .last .0) (loop .acc) (a .d) (length (a .acc .now)) (loop .k) (omega arith)
+    (loop .inv .2) (at-clear .clear .ensures) (start .pre .1 .3)
 
 pub weights-spec : {M : Type 1} → statement M
 weights-spec = tie.close (tie.spec Inv-loop μ-loop clear-requires add-least least-requires loop-holds mul-product sub-product mul-product-2

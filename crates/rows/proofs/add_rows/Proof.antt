@@ -81,9 +81,10 @@ same-length c = search needs
 
 returns : tie.Need-returns
 returns c =
-    let start = c .before .before .before .before .before .before .before .before .before in
+    let at-four = c .before .before in
+    let start = at-four .before .before .before .before .before .before .before in
     let a = start .args in
-    let four = c .before .before .four in
+    let four = at-four .four in
     rows-added (a .acc .now) (a .e .now) (a .at) (a .len) (a .at + a .len - a .at) (a .w) (a .x) (a .y) (a .z) (omega arith) (omega arith) (four .last .0)
     (omega arith) (omega (arith, length-take (a .at + a .len - a .at) (drop (a .at) (a .acc .now)), length-drop (a .at) (a .acc .now))) (λ j l. four .ensures
     j (omega (arith, length-take (a .at + a .len - a .at) (drop (a .at) (a .acc .now)), length-drop (a .at) (a .acc .now))))

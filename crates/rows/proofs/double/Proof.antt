@@ -22,8 +22,9 @@ word-requires c κs = search needs
 
 mul-out : tie.Need-mul-out Inv-loop μ-loop
 mul-out c =
-    let start = c .before .before .before .before .before in
-    record { fits = omega (arith, c .word .ensures, start .pre .1 (c .before .before .loop .k)) }
+    let at-loop = c .before .before in
+    let start = at-loop .before .before .before in
+    record { fits = omega (arith, c .word .ensures, start .pre .1 (at-loop .loop .k)) }
 
 mul-out-2 : tie.Need-mul-out-2 Inv-loop μ-loop
 mul-out-2 c = search needs
@@ -39,12 +40,13 @@ loop-less c = search needs
 
 loop-again : tie.Need-loop-again Inv-loop μ-loop
 loop-again c =
-    let loop = c .before .before .loop in
-    let a = c .before .before .before .before .before .args in (
+    let at-loop = c .before .before in
+    let at-start = at-loop .before .before .before in
+    let loop = at-loop .loop in
+    let a = at-start .args in (
       simp length-set (loop .inv .0),
       search needs,
-      twice-more (a .a .now) (a .out .now) (loop .out) (loop .k) _ (search needs) (ap (λ n. 2 * n) (c .word
-          .ensures)) (loop .inv .2),
+      twice-more (a .a .now) (a .out .now) (loop .out) (loop .k) _ (search needs) (ap (λ n. 2 * n) (c .word .ensures)) (loop .inv .2),
     )
 
 same-length : tie.Need-same-length Inv-loop μ-loop

@@ -50,8 +50,9 @@ shared-slice-read-sum-more-4 c = search needs
 
 sum-more-requires : tie.Need-sum-more-requires Inv-loop μ-loop
 sum-more-requires c κs =
-    let start = c .before .before .before .before .before .before .before .before .before .before .before .before in
-    let loop = c .before .before .before .before .before .before .loop in
+    let at-loop = c .before .before .before .before .before .before in
+    let start = at-loop .before .before .before .before .before .before in
+    let loop = at-loop .loop in
     let j = loop .j in
     let small = start .pre .1 .0 in
     let factors = start .pre .1 .1 .0 in (
@@ -73,8 +74,10 @@ loop-less c = search needs
 
 loop-again : tie.Need-loop-again Inv-loop μ-loop
 loop-again c =
-    let loop = c .before .before .before .before .before .before .before .loop in
-    let a = c .before .before .before .before .before .before .before .before .before .before .before .before .before .args in
+    let at-loop = c .before .before .before .before .before .before .before in
+    let at-start = at-loop .before .before .before .before .before .before in
+    let loop = at-loop .loop in
+    let a = at-start .args in
     stored-more _ (a .out .now) (loop .out) (loop .j) (c .sum-more .result) (search needs) (loop .inv) (omega (
       arith,
       c .sum-more .ensures,

@@ -26,9 +26,12 @@ same-length c = search needs
 
 returns : tie.Need-returns
 returns c =
-    let double = c .before .before .double in
-    let clear = c .before .before .before .before .before .before .clear in
-    let a = c .before .before .before .before .before .before .before .before .before .before .args in
+    let at-double = c .before .before in
+    let at-clear = at-double .before .before .before .before in
+    let at-start = at-clear .before .before .before .before in
+    let double = at-double .double in
+    let clear = at-clear .clear in
+    let a = at-start .args in
     above-none (a .a .now) (clear .last .0) (double .last .1 .0) (length (a .e .now)) (length (clear .last .0) - 3) (clear .ensures) (search needs) (search
     needs) (search needs)
     (double .ensures)

@@ -18,15 +18,17 @@ clear-requires c κs = search needs
 
 square-turns-requires : tie.Need-square-turns-requires
 square-turns-requires c κs =
-    let start = c .before .before .before .before .before .before .before .before .before .before .before .before .before in
+    let at-clear = c .before .before .before .before in
+    let at-prepare = at-clear .before .before .before .before in
+    let start = at-prepare .before .before .before .before .before in
     let pre = start .pre in
     let a = start .args in
-    let clear = c .before .before .before .before .clear in
+    let clear = at-clear .clear in
     let same : length (a .acc .now) ≡ length (clear .last .0) = omega arith in (
       (omega arith, search needs),
       (
         (pre .1 .0, pre .1 .1, pre .1 .2, subst (λ n. 8 * turns (length (a .a .now)) n * a .p ≤ 2 ^ 36) same (pre .1 .3)),
-        (c .before .before .before .before .before .before .before .before .prepare .ensures, clear .ensures ∙ ap (λ n. replicate n 0) same),
+        (at-prepare .prepare .ensures, clear .ensures ∙ ap (λ n. replicate n 0) same),
       ),
     )
 

@@ -46,9 +46,14 @@ words : (c : tie.After-put) (P : ℕ → ℕ → ℕ → ℕ → Type 0) → P (
     .before .args .a .now) (2 + c .before .before .before .before .before .before .before .before .before .args .i) 0)
     (getD (c .before .before .before .before .before .before .before .before .before .args .a .now) (3 + c .before .before .before .before .before .before
     .before .before .before .args .i) 0)
-words c P = of-words (c .before .before .before .before .before .before .before .before .before .args .a .now) (c .before .before .before .before .before
-    .before .before .before .before .args .i) _ _ _ _ (c .before .before .before .before .before .word .ensures) (c .before .before .before .before .word2
-    .ensures) (c .before .before .before .word3 .ensures) (c .before .before .word4 .ensures) P
+words c P =
+    let at-word4 = c .before .before in
+    let at-word3 = at-word4 .before in
+    let at-word2 = at-word3 .before in
+    let at-word = at-word2 .before in
+    let at-start = at-word .before .before .before .before in
+    of-words (at-start .args .a .now) (at-start .args .i) _ _ _ _ (at-word .word .ensures) (at-word2 .word2 .ensures) (at-word3 .word3 .ensures) (at-word4
+    .word4 .ensures) P
 
 -- the room while the rows are added
 room : (c : tie.After-put) → Held (c .before .before .before .before .before .before .before .before .before .args .a .now) (c .before .before .before
@@ -91,11 +96,16 @@ part-add-rows-end c = search needs
 
 add-rows-requires : tie.Need-add-rows-requires
 add-rows-requires c κs =
-    let start = c .before .before .before .before .before .before .before .before .before .before .before .before .before .before .before in
+    let at-least = c .before .before .before in
+    let put = at-least .before .before .before in
+    let at-word4 = put .before .before in
+    let at-word3 = at-word4 .before in
+    let at-word2 = at-word3 .before in
+    let at-word = at-word2 .before in
+    let start = at-word .before .before .before .before in
     let a = start .args in
-    let put = c .before .before .before .before .before .before in
     let i = a .i in
-    let size = c .before .before .before .least .ensures in
+    let size = at-least .least .ensures in
     let low = start .pre .1 .0 .2 in (
       (
         omega (arith, size),
@@ -105,19 +115,17 @@ add-rows-requires c κs =
       ),
       (
         (
-          omega (arith, c .before .before .before .before .before .before .before .before .before .before .before .word .ensures, low i),
-          omega (arith, c .before .before .before .before .before .before .before .before .before .before .word2 .ensures, low (1 + i)),
-          omega (arith, c .before .before .before .before .before .before .before .before .before .word3 .ensures, low (2 + i)),
-          omega (arith, c .before .before .before .before .before .before .before .before .word4 .ensures, low (3 + i)),
+          omega (arith, at-word .word .ensures, low i),
+          omega (arith, at-word2 .word2 .ensures, low (1 + i)),
+          omega (arith, at-word3 .word3 .ensures, low (2 + i)),
+          omega (arith, at-word4 .word4 .ensures, low (3 + i)),
         ),
         λ j l.
-            to-words (a .a .now) i _ _ _ _ (c .before .before .before .before .before .before .before .before .before .before .before .word .ensures) (c
-            .before .before .before .before .before .before .before .before .before .before .word2 .ensures) (c .before .before .before .before .before
-            .before .before .before .before .word3 .ensures) (c .before .before .before .before .before .before .before .before .word4 .ensures)
+            to-words (a .a .now) i _ _ _ _ (at-word .word .ensures) (at-word2 .word2 .ensures) (at-word3 .word3 .ensures) (at-word4 .word4 .ensures)
             (λ w x y z. row-more (getD (a .acc .now) (i + i + j) 0) (take (length (put .put .last .0) - i) (drop i (put .put .last .0))) j w x y z < 2 ^ 64)
             (omega (
               arith,
-              turn-fits (a .p) (a .a .now) (put .put .last .0) (a .acc .now) i (c .before .before .before .least .result) (start .pre .0 .0) (room put) low
+              turn-fits (a .p) (a .a .now) (put .put .last .0) (a .acc .now) i (at-least .least .result) (start .pre .0 .0) (room put) low
                   (getD (a .acc .now) (i + i + j) 0) j,
               start .pre .1 .1 .1 (i + i + j),
             )),
@@ -138,19 +146,21 @@ same-length-2 c = search needs
 
 returns : tie.Need-returns
 returns c =
-    let start = c .before .before .before .before .before .before .before .before .before .before .before .before .before .before .before .before .before
-    .before .before .before .before .before in
+    let at-put2 = c .before .before in
+    let at-add-rows = at-put2 .before .before .before .before in
+    let at-least = at-add-rows .before .before .before .before in
+    let put = at-least .before .before .before in
+    let start = put .before .before .before .before .before .before .before .before .before in
     let a = start .args in
-    let put = c .before .before .before .before .before .before .before .before .before .before .before .before .before in
     let low = start .pre .1 .0 .2 in
-    let size = c .before .before .before .before .before .before .before .before .before .before .least .ensures in (
-      above-more (a .a .now) (put .put .last .0) (c .before .before .put2 .last .0) (a .i) (room put) (c .before .before .put2 .ensures),
-      turned (a .p) (a .a .now) (put .put .last .0) (a .acc .now) (a .i) (c .before .before .before .before .before .before .before .before .before .before
-          .least .result) (start .pre .0 .0) (room put) low (c .before .before .before .before .before .before .add-rows .last .0)
+    let size = at-least .least .ensures in (
+      above-more (a .a .now) (put .put .last .0) (at-put2 .put2 .last .0) (a .i) (room put) (at-put2 .put2 .ensures),
+      turned (a .p) (a .a .now) (put .put .last .0) (a .acc .now) (a .i) (at-least .least .result) (start .pre .0 .0) (room put) low (at-add-rows .add-rows
+          .last .0)
           (omega (arith, size)) size
-          (words put (λ w x y z. RowsAdded (a .acc .now) (take (length (put .put .last .0) - a .i) (drop (a .i) (put .put .last .0))) (a .i + a .i) (c
-          .before .before .before .before .before .before .before .before .before .before .least .result) w x y z
-          (c .before .before .before .before .before .before .add-rows .last .0)) (c .before .before .before .before .before .before .add-rows .ensures)),
+          (words put (λ w x y z. RowsAdded (a .acc .now) (take (length (put .put .last .0) - a .i) (drop (a .i) (put .put .last .0))) (a .i + a .i) (at-least
+          .least .result) w x y z
+          (at-add-rows .add-rows .last .0)) (at-add-rows .add-rows .ensures)),
     )
 
 pub square-turn-spec : {M : Type 1} → statement M

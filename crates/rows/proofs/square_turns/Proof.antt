@@ -32,18 +32,20 @@ same-length-2 c = search needs
 
 returns : tie.Need-returns Inv-loop μ-loop
 returns c =
-    let start = c .before .before .before .before .before .before in
+    let at-loop = c .before .before in
+    let start = at-loop .before .before .before .before in
     let a = start .args in
-    let loop = c .before .before .loop in
+    let loop = at-loop .loop in
     added-end (a .p) (a .a .now) (loop .i) (loop .acc) (search needs) (loop .inv .3) (omega arith) (loop .inv .5)
 
 square-turn-requires : tie.Need-square-turn-requires Inv-loop μ-loop
 square-turn-requires c κs =
-    let start = c .before .before .before .before .before .before .before .before in
+    let at-loop = c .before .before .before .before in
+    let start = at-loop .before .before .before .before in
     let a = start .args in
-    let loop = c .before .before .before .before .loop in
+    let loop = at-loop .loop in
     let four = loop .inv .2 in
-    let fits = turn-room (a .p) (a .a .now) (loop .i) (length (a .a .now)) (length (a .acc .now)) four (search needs) (omega arith) (start .pre .1 .0 .3) in (
+    let fits = turn-room (a .p) (a .a .now) (loop .i) (length (a .a .now)) (length (a .acc .now)) four (omega arith) (omega arith) (start .pre .1 .0 .3) in (
       (search needs, omega arith, omega arith),
       (
         (start .pre .1 .0 .0, start .pre .1 .0 .1, start .pre .1 .0 .2),
@@ -62,12 +64,14 @@ loop-less c = search needs
 
 loop-again : tie.Need-loop-again Inv-loop μ-loop
 loop-again c =
-    let start = c .before .before .before .before .before .before .before .before .before .before .before .before .before in
+    let at-square-turn = c .before .before .before .before in
+    let at-loop = at-square-turn .before .before .before .before .before in
+    let start = at-loop .before .before .before .before in
     let a = start .args in
-    let loop = c .before .before .before .before .before .before .before .before .before .loop in
-    let turn = c .before .before .before .before .square-turn in
+    let loop = at-loop .loop in
+    let turn = at-square-turn .square-turn in
     let four = loop .inv .2 in
-    let fits = turn-room (a .p) (a .a .now) (loop .i) (length (a .a .now)) (length (a .acc .now)) four (search needs) (omega arith) (start .pre .1 .0 .3) in (
+    let fits = turn-room (a .p) (a .a .now) (loop .i) (length (a .a .now)) (length (a .acc .now)) four (omega arith) (omega arith) (start .pre .1 .0 .3) in (
       search needs,
       search needs,
       omega arith,
@@ -85,9 +89,10 @@ same-length-4 c = search needs
 
 returns-2 : tie.Need-returns-2 Inv-loop μ-loop
 returns-2 c =
-    let start = c .before .before .before .before .before in
+    let at-loop = c .before in
+    let start = at-loop .before .before .before .before in
     let a = start .args in
-    let loop = c .before .loop in
+    let loop = at-loop .loop in
     added-all (a .p) (a .a .now) (loop .i) (loop .acc) (search needs) (loop .inv .3) (omega arith) (loop .inv .5)
 
 pub square-turns-spec : {M : Type 1} → statement M
