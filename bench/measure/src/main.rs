@@ -128,20 +128,23 @@ fn columns<'a>(input: &'a Input, pari: &'a mut Pari) -> Vec<Column<'a>> {
         degree,
         sigma,
     };
-    let last = same::last(degree as usize);
-    let mut s = vec![0u32; last + 2];
-    let mut h = vec![0u32; last + 1];
-    same::rules::power_sums(v, g, &mut s);
+    let m = same::rows::modulus(p);
+    let n = same::last(degree as usize) + 1;
+    let count = same::rules::whole(n + 1);
+    let (mut e, mut acc) = (vec![0u64; n + 5], vec![0u64; count]);
+    let (mut s, mut h) = (vec![0u32; count], vec![0u32; n]);
+    same::rules::power_sums(v, g, &mut e, &mut acc, &mut s);
     same::rules::expansion(v, &s, &mut h);
     let (sums, expanded) = (s.clone(), h.clone());
-    let mut numerator = n.clone();
+    let (mut room, mut due, mut squares) = (e.clone(), vec![0u64; n - 3], vec![0u32; n - 3]);
+    let mut numerator = input.n.clone();
     column!(
         "same N",
-        same::rules::numerator(v, black_box(g), black_box(&mut numerator))
+        same::rules::numerator(v, m, black_box(g), black_box(&mut numerator))
     );
     column!(
         "same sums",
-        same::rules::power_sums(v, black_box(g), black_box(&mut s))
+        same::rules::power_sums(v, black_box(g), &mut e, &mut acc, black_box(&mut s))
     );
     column!(
         "same expansion",
@@ -149,7 +152,14 @@ fn columns<'a>(input: &'a Input, pari: &'a mut Pari) -> Vec<Column<'a>> {
     );
     column!(
         "same recurrence",
-        same::rules::recurs(v, black_box(&expanded))
+        same::rules::recurs(
+            v,
+            m,
+            black_box(&expanded),
+            &mut room,
+            &mut due,
+            &mut squares
+        )
     );
     let residue = |i: u32| i.wrapping_mul(2_654_435_761) % p;
     let left: Vec<u32> = (0..DOT as u32).map(residue).collect();

@@ -4,6 +4,7 @@
 //! answers before it takes any time. R3 is decided by the recurrence, so 3l - 3 < p is assumed.
 
 mod primes;
+pub mod rows;
 pub mod rules;
 mod services;
 

@@ -1,16 +1,19 @@
 //! N by R2, the power sums, the expansion, the recurrence that decides R3, and the polynomial that solving computes.
 //! Residues are below p < 2^28; no index is tested.
 
+use std::hint::black_box;
+
+use crate::rows::{self, Modulus};
 use crate::{last, Values};
 
 #[inline(always)]
-pub fn at(a: &[u32], i: usize) -> u32 {
+pub fn at<T: Copy>(a: &[T], i: usize) -> T {
     // SAFETY: the callers keep to the lengths of their slices.
     unsafe { *a.get_unchecked(i) }
 }
 
 #[inline(always)]
-pub fn put(a: &mut [u32], i: usize, x: u32) {
+pub fn put<T>(a: &mut [T], i: usize, x: T) {
     // SAFETY: as for at.
     unsafe { *a.get_unchecked_mut(i) = x }
 }
@@ -116,7 +119,7 @@ fn square_coefficient(a: &[u32], k: usize, p: u32) -> u32 {
 
 /// The word at i, 0 past the end.
 #[inline(always)]
-fn word(a: &[u32], i: usize) -> u32 {
+pub fn word(a: &[u32], i: usize) -> u32 {
     if i < a.len() {
         at(a, i)
     } else {
@@ -131,13 +134,6 @@ fn back(a: &[u32], j: usize, k: usize) -> u32 {
         0
     } else {
         word(a, k - j)
-    }
-}
-
-#[inline(always)]
-fn square(a: &[u32], out: &mut [u32], p: u32) {
-    for k in 0..out.len() {
-        put(out, k, square_coefficient(a, k, p));
     }
 }
 
@@ -169,52 +165,70 @@ fn second_logarithmic_part(v: Values, bend: &[u32], k: usize) -> u64 {
     u64::from(back(bend, 3, k)) + mul(v.a, back(bend, 1, k)) + mul(v.b, word(bend, k))
 }
 
-/// N as the sum of its parts, with one remainder for each coefficient.
-pub fn numerator(v: Values, g: &[u32], out: &mut [u32]) {
+/// N as the sum of its parts, with one remainder for each coefficient, in room for l up to 21, up to 79, or for all.
+pub fn numerator(v: Values, m: Modulus, g: &[u32], out: &mut [u32]) {
+    match g.len() {
+        ..=11 => numerator_in::<24>(v, m, g, out),
+        12..=40 => numerator_in::<80>(v, m, g, out),
+        _ => numerator_in::<256>(v, m, g, out),
+    }
+}
+
+fn numerator_in<const ROOM: usize>(v: Values, m: Modulus, g: &[u32], out: &mut [u32]) {
     let p = v.p;
     let d = g.len() - 1;
-    let (mut s, mut t, mut e) = ([0u32; 255], [0u32; 255], [0u32; 255]);
-    let (mut h, mut q) = ([0u32; 255], [0u32; 255]);
-    let (square_of_g, slope, bend) = (&mut s[..2 * d + 1], &mut t[..2 * d], &mut e[..2 * d - 1]);
-    let (h, q) = (&mut h[..d], &mut q[..2 * d - 1]);
-    square(g, square_of_g, p);
+    let (mut e, mut acc) = ([0u64; ROOM], [0u64; ROOM]);
+    let (e, acc) = (&mut e[..d + 7], &mut acc[..2 * d + 1]);
+    let (mut h, mut q) = ([0u32; ROOM], [0u32; ROOM]);
+    let (h, q) = (&mut h[..d], &mut q[..2 * d + 1]);
+    let (mut s, mut t, mut u) = ([0u32; ROOM], [0u32; ROOM], [0u32; ROOM]);
+    let (square, slope, bend) = (&mut s[..2 * d + 1], &mut t[..2 * d], &mut u[..2 * d - 1]);
+    rows::square(g, e, acc, square, m);
     for k in 0..slope.len() {
-        let less = neg(word(square_of_g, k + 1), p);
+        let less = neg(word(square, k + 1), p);
         put(slope, k, times(k as u32 + 1, less, p));
     }
     derivative(g, h, p);
-    square(h, q, p);
+    rows::square(h, e, acc, q, m);
     for k in 0..bend.len() {
         let sum = mul(2 * (k as u32 + 1), word(slope, k + 1)) + mul(8, word(q, k));
         put(bend, k, rem(sum, p));
     }
     for k in 0..out.len() {
-        let sum = linear_part(v, square_of_g, k)
+        let sum = linear_part(v, square, k)
             + (first_logarithmic_part(v, slope, k) + second_logarithmic_part(v, bend, k));
         put(out, k, rem(sum, p));
     }
 }
 
-/// s_k = -2k c_k - (the sum of s_i c_(k - i), i from 1 to k - 1), where c is g reversed.
-pub fn power_sums(v: Values, g: &[u32], s: &mut [u32]) {
+/// s_k = -2k c_k - (the sum of s_i c_(k - i), i from 1 to k - 1), where c is g reversed: four at a time, each of which waits for the one before, and then
+/// their rows, for those that follow. s and acc have 4n + 1 words, e has two more than g or any number.
+pub fn power_sums(v: Values, g: &[u32], e: &mut [u64], acc: &mut [u64], s: &mut [u32]) {
     let p = v.p;
-    let n = g.len();
-    let mut c = [0u32; 256];
-    let c = &mut c[..n];
-    for i in 0..n {
-        put(c, i, at(g, n - 1 - i));
+    let d = g.len() - 1;
+    e.fill(0);
+    for t in 0..d {
+        put(e, t, u64::from(neg(at(g, d - 1 - t), p)));
+    }
+    acc.fill(0);
+    for k in 1..acc.len().min(d + 1) {
+        put(acc, k, rows::product(2 * k as u64, at(e, k - 1)));
     }
     put(s, 0, (v.degree - 1) % p);
-    for k in 1..s.len() {
-        let w = if k < n {
-            times(2 * k as u32, at(c, k), p)
-        } else {
-            0
-        };
-        // SAFETY: 1 <= k < s.len()
-        let before = unsafe { s.get_unchecked(1..k) };
-        let x = neg(coefficient(w, before, c, k - 1, p), p);
-        put(s, k, x);
+    let mut i = 1;
+    while i < s.len() {
+        let due = |j: usize| at(acc, i + j);
+        let c = |x: u32, t: usize| rows::product(u64::from(x), at(e, t));
+        let w = rem(due(0), p);
+        let x = rem(due(1) + c(w, 0), p);
+        let y = rem(due(2) + c(w, 1) + c(x, 0), p);
+        let z = rem(due(3) + c(w, 2) + c(x, 1) + c(y, 0), p);
+        rows::put_four(s, i, [w, x, y, z]);
+        let len = d.min(acc.len() - (i + 4));
+        // Of remainders the compiler knows too much, and takes products of 64 bits.
+        let factors = [w, x, y, z].map(|x| u64::from(black_box(x)));
+        rows::add_rows(acc, i + 4, len, e, factors);
+        i += 4;
     }
 }
 
@@ -241,18 +255,27 @@ fn square_sum(h: &[u32], k: usize, p: u32) -> u32 {
     square_coefficient(unsafe { h.get_unchecked(1..k - 1) }, k - 3, p)
 }
 
-/// (k - 2)((2k + 3)h_k + (2k - 3)A h_(k-2) + 2(k - 3)B h_(k-3)) = 3(the sum of h_i h_(k-1-i)), for k from 3.
-pub fn recurs(v: Values, h: &[u32]) -> bool {
+/// (k - 2)((2k + 3)h_k + (2k - 3)A h_(k-2) + 2(k - 3)B h_(k-3)) = 3(the sum of h_i h_(k-1-i)), for k from 3. All sums are those of one square, for
+/// which acc and squares have three words less than h, and e five more.
+pub fn recurs(
+    v: Values,
+    m: Modulus,
+    h: &[u32],
+    e: &mut [u64],
+    acc: &mut [u64],
+    squares: &mut [u32],
+) -> bool {
     let p = v.p;
+    rows::square(&h[1..], e, acc, squares, m);
     let (twice_a, twice_b) = (add(v.a, v.a, p), add(v.b, v.b, p));
-    let (mut ka, mut kb) = (add(twice_a, v.a, p), 0);
+    let (mut ka, mut kb) = (times(3, v.a, p), 0);
     for k in 3..h.len() {
         let n = k as u32;
         let u = rem(
             mul(2 * n + 3, at(h, k)) + mul(ka, at(h, k - 2)) + mul(kb, at(h, k - 3)),
             p,
         );
-        let x = neg(square_sum(h, k, p), p);
+        let x = neg(at(squares, k - 3), p);
         if rem(mul(n - 2, u) + mul(3, x), p) != 0 {
             return false;
         }
@@ -262,13 +285,29 @@ pub fn recurs(v: Values, h: &[u32]) -> bool {
     true
 }
 
-/// R3, where 3l - 3 < p.
-pub fn rule_three(v: Values, g: &[u32]) -> bool {
+/// How many power sums are taken where n are wanted: whole turns.
+pub fn whole(n: usize) -> usize {
+    (n + 2) / 4 * 4 + 1
+}
+
+/// R3, where 3l - 3 < p, in room for l up to 21, up to 79, or for all.
+pub fn rule_three(v: Values, m: Modulus, g: &[u32]) -> bool {
+    match v.degree {
+        ..=21 => rule_three_in::<28>(v, m, g),
+        22..=79 => rule_three_in::<88>(v, m, g),
+        _ => rule_three_in::<264>(v, m, g),
+    }
+}
+
+fn rule_three_in<const ROOM: usize>(v: Values, m: Modulus, g: &[u32]) -> bool {
     let p = v.p;
     let n = last(v.degree as usize) + 1;
-    let (mut s, mut h) = ([0u32; 512], [0u32; 512]);
-    let (s, h) = (&mut s[..n + 1], &mut h[..n]);
-    power_sums(v, g, s);
+    let count = whole(n + 1);
+    let (mut e, mut acc) = ([0u64; ROOM], [0u64; ROOM]);
+    let (e, acc) = (&mut e[..n + 5], &mut acc[..count]);
+    let (mut s, mut h, mut squares) = ([0u32; ROOM], [0u32; ROOM], [0u32; ROOM]);
+    let (s, h, squares) = (&mut s[..count], &mut h[..n], &mut squares[..n - 3]);
+    power_sums(v, g, e, acc, s);
     expansion(v, s, h);
     if times(5, at(h, 1), p) != sub(v.a, v.atilde, p) {
         return false;
@@ -276,7 +315,7 @@ pub fn rule_three(v: Values, g: &[u32]) -> bool {
     if times(7, at(h, 2), p) != sub(v.b, v.btilde, p) {
         return false;
     }
-    recurs(v, h)
+    recurs(v, m, h, e, &mut acc[..n - 3], squares)
 }
 
 /// g from the codomain: the inverses, h by the recurrence, s from h, c by Newton's identities, and c reversed.

@@ -1,6 +1,7 @@
 //! Reading, the five questions of a sheet's form and content, and the services check, solve, kernel and push.
 
 use crate::primes::question_three;
+use crate::rows;
 use crate::rules::{self, add, at, mul, neg, put, rem, sub, times};
 use crate::{Values, INFINITY, REFUSED};
 
@@ -122,17 +123,18 @@ const KERNEL: [u32; 4] = [1, 2, 3, 6];
 
 fn judge(v: Values, g: &[u32], n: &[u32]) -> u32 {
     let p = v.p;
+    let m = rows::modulus(p);
     let d = g.len() - 1;
     if at(g, d) != 1 || neg(times(2, at(g, d - 1), p), p) != v.sigma {
         return 8;
     }
     let mut room = [0; 256];
     let room = &mut room[..2 * d + 2];
-    rules::numerator(v, g, room);
+    rules::numerator(v, m, g, room);
     if n != room {
         return 9;
     }
-    if rules::rule_three(v, g) {
+    if rules::rule_three(v, m, g) {
         0
     } else {
         10
@@ -147,12 +149,9 @@ fn passed(bytes: &[u8], g: &mut [u32; 128], n: &mut [u32; 256]) -> Result<Values
     let mut words = [0u32; ROOM + 1];
     let count = (bytes.len() / 4).min(words.len());
     for i in 0..count {
-        let byte = |j: usize| unsafe { *bytes.get_unchecked(4 * i + j) };
-        put(
-            &mut words,
-            i,
-            u32::from_le_bytes([byte(0), byte(1), byte(2), byte(3)]),
-        );
+        // SAFETY: there are four bytes for each word.
+        let word = unsafe { bytes.as_ptr().cast::<[u8; 4]>().add(i).read() };
+        put(&mut words, i, u32::from_le_bytes(word));
     }
     let ws = &words[..count];
     let v = read(ws, &CERTIFICATE, true, true)?;
@@ -263,6 +262,18 @@ pub fn push(bytes: &[u8], point: u64) -> u64 {
     u64::from(u) + (u64::from(w) << 28)
 }
 
+/// The certificate of a g with R1 if it has R3 too, else 11.
+fn certify(v: Values, g: &[u32], answer: &mut [u32]) -> u64 {
+    let m = rows::modulus(v.p);
+    let mut n = [0; 256];
+    let n = &mut n[..2 * g.len()];
+    rules::numerator(v, m, g, n);
+    if !rules::rule_three(v, m, g) {
+        return REFUSED + 11;
+    }
+    write(v, g, n, answer)
+}
+
 pub fn solve(ws: &[u32], answer: &mut [u32]) -> u64 {
     if answer.len() < ROOM {
         return REFUSED + 1;
@@ -272,14 +283,10 @@ pub fn solve(ws: &[u32], answer: &mut [u32]) -> u64 {
         Err(k) => return REFUSED + u64::from(k),
     };
     let d = (v.degree as usize - 1) / 2;
-    let (mut g, mut n) = ([0; 128], [0; 256]);
-    let (g, n) = (&mut g[..d + 1], &mut n[..2 * d + 2]);
+    let mut g = [0; 128];
+    let g = &mut g[..d + 1];
     rules::candidate(v, g);
-    rules::numerator(v, g, n);
-    if !rules::rule_three(v, g) {
-        return REFUSED + 11;
-    }
-    write(v, g, n, answer)
+    certify(v, g, answer)
 }
 
 pub fn kernel(ws: &[u32], answer: &mut [u32]) -> u64 {
@@ -292,22 +299,22 @@ pub fn kernel(ws: &[u32], answer: &mut [u32]) -> u64 {
     };
     let p = v.p;
     let d = (v.degree as usize - 1) / 2;
-    let (mut g, mut n) = ([0; 128], [0; 256]);
-    let (g, n) = (&mut g[..d + 1], &mut n[..2 * d + 2]);
+    let mut g = [0; 128];
+    let g = &mut g[..d + 1];
     coefficients(ws, 4, g);
     g.iter_mut().for_each(|c| *c = modulo(*c, p));
     if at(g, d) != 1 {
         return REFUSED + 8;
     }
-    let (mut s, mut h) = ([0; 4], [0; 3]);
-    rules::power_sums(v, g, &mut s);
+    let (mut e, mut acc) = ([0; 130], [0; 5]);
+    let (mut s, mut h) = ([0; 5], [0; 3]);
+    rules::power_sums(v, g, &mut e, &mut acc, &mut s);
     rules::expansion(v, &s, &mut h);
     v.sigma = neg(times(2, at(g, d - 1), p), p);
     v.atilde = sub(v.a, times(5, h[1], p), p);
     v.btilde = sub(v.b, times(7, h[2], p), p);
-    rules::numerator(v, g, n);
-    if !nonsingular(v.atilde, v.btilde, p) || !rules::rule_three(v, g) {
+    if !nonsingular(v.atilde, v.btilde, p) {
         return REFUSED + 11;
     }
-    write(v, g, n, answer)
+    certify(v, g, answer)
 }
