@@ -1,5 +1,5 @@
-//! Multiply-adds of the algorithms, counted by walking their loops: products of two residues that are added up. Products with small numbers, with A and
-//! with B, and remainders are left out, so what follows from the counts is a lower bound.
+//! Multiply-adds of the algorithms: products of two residues that are added up. Products with small numbers, with A and with B, those with the zeros at the
+//! ends of rows and remainders are left out, so what follows from the counts is a lower bound.
 
 /// The products of a square's coefficients, each pair counted once: n words, all 2n - 1 coefficients.
 fn square(n: usize) -> usize {
@@ -30,15 +30,15 @@ pub fn check(l: usize) -> usize {
     numerator(l) + rule_three(l)
 }
 
-/// Kernel adds four power sums, which is next to nothing.
+/// Kernel adds five power sums, which is next to nothing.
 pub fn kernel(l: usize) -> usize {
     check(l)
 }
 
-/// Solve computes h up to d - 1 and c up to d before.
+/// Solve computes h up to d - 1, each pair counted once, and c up to d before.
 pub fn solve(l: usize) -> usize {
     let d = (l - 1) / 2;
-    let h: usize = (3..d).map(|k| k - 2).sum();
+    let h: usize = (3..d).map(|k| (k - 1) / 2).sum();
     let c: usize = (1..=d).sum();
     h + c + check(l)
 }

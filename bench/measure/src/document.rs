@@ -8,7 +8,7 @@ use common::table::{short, spread, Table};
 
 use crate::counts;
 use crate::primes::Primes;
-use crate::{Row, DOT, ROUNDS};
+use crate::{Row, ROUNDS, WORDS};
 
 const SERVICES: [&str; 4] = ["check", "solve", "kernel", "push"];
 /// Degrees from here on count for the bars.
@@ -65,13 +65,14 @@ impl Row {
     }
 
     /// Nanoseconds a multiply-add.
-    fn dot(&self) -> Stat {
-        self.samples.each(|t| t("dot") * 1000.0 / DOT as f64)
+    fn multiply_add(&self) -> Stat {
+        self.samples
+            .each(|t| t("rows") * 1000.0 / (4 * WORDS) as f64)
     }
 
     /// Microseconds below which the multiply-adds of a service do not go.
     fn bound(&self, service: &str) -> f64 {
-        count(service, self.l) as f64 * self.dot().median / 1000.0
+        count(service, self.l) as f64 * self.multiply_add().median / 1000.0
     }
 }
 
@@ -84,7 +85,12 @@ fn over(rows: &[Row], p: u64) -> impl Iterator<Item = &Row> {
 fn exponent(rows: &[Row], p: u64, time: impl Fn(&Row) -> f64) -> f64 {
     let points: Vec<(f64, f64)> = over(rows, p)
         .filter(|row| FROM <= row.l)
-        .map(|row| ((row.l as f64).ln(), (time(row) / row.dot().median).ln()))
+        .map(|row| {
+            (
+                (row.l as f64).ln(),
+                (time(row) / row.multiply_add().median).ln(),
+            )
+        })
         .collect();
     let n = points.len() as f64;
     let mean = |f: fn(&(f64, f64)) -> f64| points.iter().map(f).sum::<f64>() / n;
@@ -340,7 +346,7 @@ fn growth(out: &mut String, rows: &[Row]) {
         let counted = format!(
             "{:.2}",
             exponent(rows, p, |row| counts::check(row.l) as f64
-                * row.dot().median)
+                * row.multiply_add().median)
         );
         let cells = [
             p.to_string(),
@@ -369,7 +375,7 @@ fn counted(out: &mut String, rows: &[Row], p: u64) {
 
 pub fn write(rows: &[Row], primes: &Primes, machine: &str, remarks: &str) -> String {
     let mut out = String::new();
-    let dot = rows[0].dot();
+    let multiply_add = rows[0].multiply_add();
     write!(
         out,
         "# Performance
@@ -386,14 +392,14 @@ inputs are certificates of isogenies that `tests/reference` makes from points of
 - PARI: `ellisogeny(E, g)` with the whole map, from the curve and the kernel polynomial as PARI's own objects. It does not ask whether g is one of an isogeny.
 - independent Rust: check of `tests/reference`, which knows its primes from a sieve.
 - the same: the library's algorithms in unchecked Rust (`bench/same`), with the same reading and the same trial division.
-- bound: the multiply-adds of the algorithm at {} nanoseconds each, the speed of a sum of {DOT} products in the same run.
+- bound: the multiply-adds of the algorithm at {} nanoseconds each, the speed of four rows of {WORDS} words in the same run.
 - question 3 apart: without the trial division that shows that p is prime, which is what refusing an even degree takes (question 4) less what refusing
   an even p takes (question 3).
 
 ## Bars
 
 ",
-        short(dot.median)
+        short(multiply_add.median)
     )
     .expect("a string takes any text");
     bars(&mut out, rows, primes);

@@ -20,7 +20,8 @@ use pari::Pari;
 pub const ROUNDS: usize = 41;
 /// Microseconds of a sample.
 const SAMPLE: f64 = 1_500.0;
-pub const DOT: usize = 256;
+/// The words of the rows that tell the speed of a multiply-add.
+pub const WORDS: usize = 256;
 
 /// The samples for one prime and one degree.
 pub struct Row {
@@ -161,12 +162,19 @@ fn columns<'a>(input: &'a Input, pari: &'a mut Pari) -> Vec<Column<'a>> {
             &mut squares
         )
     );
-    let residue = |i: u32| i.wrapping_mul(2_654_435_761) % p;
-    let left: Vec<u32> = (0..DOT as u32).map(residue).collect();
-    let right: Vec<u32> = (0..DOT as u32).map(|i| residue(i + 1000)).collect();
+    let residue = |i: usize| (i as u64 * 2_654_435_761) % u64::from(p);
+    let row: Vec<u64> = (0..WORDS + 3).map(residue).collect();
+    let factors = [1000, 1001, 1002, 1003].map(residue);
+    let mut added = vec![0u64; WORDS];
     column!(
-        "dot",
-        same::rules::dot(black_box(&left), black_box(&right), 0, DOT, DOT - 1)
+        "rows",
+        same::rows::add_rows(
+            black_box(&mut added),
+            0,
+            WORDS,
+            black_box(&row),
+            black_box(factors)
+        )
     );
     columns.push(("pari", Box::new(move |times| pari.again(times))));
     columns

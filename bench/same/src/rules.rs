@@ -63,7 +63,7 @@ pub fn neg(a: u32, p: u32) -> u32 {
 
 /// The sum of a[i] b[k - i], i from `from` up to `to`: at most 256 products.
 #[inline(always)]
-pub fn dot(a: &[u32], b: &[u32], from: usize, to: usize, k: usize) -> u64 {
+fn dot(a: &[u32], b: &[u32], from: usize, to: usize, k: usize) -> u64 {
     let mut s = 0u64;
     let mut i = from;
     while i < to {
