@@ -121,6 +121,12 @@ fn verdict(value: f64, bar: f64) -> String {
     }
 }
 
+/// The bar and the aim of check over FLINT for each prime. FLINT packs small coefficients closer, so that it is faster over the small one.
+const FLINT_BARS: [(u64, f64, f64); 2] = [
+    (inputs::PRIMES[0], 0.16, 0.12),
+    (inputs::PRIMES[1], 0.26, 0.2),
+];
+
 fn bars(out: &mut String, rows: &[Row], primes: &Primes) {
     let mut table = Table(out);
     table.head(&["bar", "at most", "worst measured", "where", "verdict"]);
@@ -134,7 +140,7 @@ fn bars(out: &mut String, rows: &[Row], primes: &Primes) {
         ];
         table.line(cells.into_iter());
     };
-    for p in inputs::PRIMES {
+    for (p, most, aim) in FLINT_BARS {
         let flint = worst(
             rows,
             |row| row.p == p && FROM <= row.l,
@@ -142,11 +148,13 @@ fn bars(out: &mut String, rows: &[Row], primes: &Primes) {
         );
         bar(
             "check, question 3 apart, over FLINT, l ≥ 31".into(),
-            0.5,
+            most,
             flint.clone(),
         );
-        bar("the same, aim".into(), 0.3, flint);
+        bar("the same, aim".into(), aim, flint);
     }
+    let every = worst(rows, |_| true, |row| row.against_flint().median);
+    bar("the same at every l".into(), 0.3, every);
     let pari = worst(
         rows,
         |row| FROM <= row.l,
@@ -187,7 +195,7 @@ fn bars(out: &mut String, rows: &[Row], primes: &Primes) {
         let whole = worst(rows, |_| true, |row| row.against_same(service).median);
         bar(
             format!("{service} over the same algorithm in unchecked Rust"),
-            1.15,
+            1.1,
             whole,
         );
         let apart = worst(
@@ -197,7 +205,7 @@ fn bars(out: &mut String, rows: &[Row], primes: &Primes) {
         );
         bar(
             format!("{service}, question 3 apart, over the same, l ≥ 31"),
-            1.15,
+            1.1,
             apart,
         );
     }
