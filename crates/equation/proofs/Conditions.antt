@@ -10,8 +10,7 @@ use lib.ListN.{length, getD}
 use Rattle.ring.specs.Ring.{CRing, cast}
 use Rattle.series.specs.Recursion.{Before}
 use Rattle.zmod.specs.Zmod.{Elt, Zmod, mk, plus, minus, times, cast-mk}
-use Rattle.zmod.specs.Prime.{Prime}
-use Rattle.zmod.specs.Residues.{Residue, Reduced, poly, poly-at, Residues, residue-same, residue-unique}
+use Rattle.zmod.specs.Residues.{Residue, poly, poly-at, Residues, residue-same, residue-unique}
 use Rattle.isogeny.specs.Rules.{Question, ℓ, N, R1, R3}
 use Rattle.isogeny.specs.Expansion.{Short, Recurs, expansion, power-sums}
 use Rattle.isogeny.specs.Proof.Terms.{expansion-same, short-same}

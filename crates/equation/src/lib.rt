@@ -8,13 +8,11 @@ use sheet::Values;
 ghost use mathlib.Core.Path.{_≡_};
 ghost use mathlib.Core.Logic.{_↔_};
 ghost use mathlib.Core.Bool.{true};
-ghost use Prim.Native.Nat.{_+_, _*_};
-ghost use lib.ListN.{length};
+ghost use Prim.Native.Nat.{_*_};
 ghost use Rattle.zmod.specs.Zmod.{Zmod};
-ghost use Rattle.zmod.specs.Prime.{Prime};
-ghost use Rattle.zmod.specs.Residues.{Reduced, poly};
+ghost use Rattle.zmod.specs.Residues.{poly};
 ghost use Rattle.isogeny.specs.Rules.{N, R1, R3};
-ghost use Rattle.sheet.specs.Values.{half, question};
+ghost use Rattle.sheet.specs.Values.{question};
 ghost use Rattle.rules.specs.Over.{Over};
 ghost use Rattle.sheet.specs.Ready.{Ready, HoldsG, HoldsN};
 

@@ -7,13 +7,12 @@ ghost use mathlib.Core.Bool.{true};
 ghost use Prim.Native.Nat.{_+_, _-_, _*_, _%_, _<_, _≤_};
 ghost use lib.ListN.{length};
 ghost use Rattle.zmod.specs.Zmod.{Zmod};
-ghost use Rattle.zmod.specs.Prime.{Prime};
 ghost use Rattle.zmod.specs.Residues.{Reduced, poly};
 ghost use Rattle.isogeny.specs.Rules.{N, R1, R3};
 ghost use Rattle.isogeny.specs.Expansion.{Short};
-ghost use Rattle.sheet.specs.Values.{half, question};
+ghost use Rattle.sheet.specs.Values.{question};
 ghost use Rattle.rules.specs.Over.{Over};
-ghost use Rattle.sheet.specs.Ready.{Ready, HoldsG, HoldsN};
+ghost use Rattle.sheet.specs.Ready.{Ready, HoldsG};
 
 // Are 5h₁ = A - Ã and 7h₂ = B - B̃, and does h obey the recurrence? e, acc and squares are room for that.
 fn conditions(

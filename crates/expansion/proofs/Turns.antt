@@ -4,26 +4,23 @@ use mathlib.Core.Path.{_≡_, refl, sym, _∙_, ap, ap₂}
 use mathlib.Core.List.{List}
 use mathlib.Core.Bool.{true}
 use mathlib.Core.Logic.{_↔_}
-use Prim.Native.Nat.{ℕ, _+_, _*_, _-_, _^_, _≤_, _<_}
+use Prim.Native.Nat.{ℕ, _+_, _*_, _-_, _≤_, _<_}
 use native.Mathlib.Nat as N
 use native.Mathlib.Omega.{arith}
 use lib.Dec.{eqb}
 use borrow.Author.Tests.{eqb-true, eq-eqb}
-use lib.ListN.{length, getD, set, take, drop}
+use lib.ListN.{getD, take, drop}
 use Rattle.ring.specs.Ring
 use Rattle.ring.specs.Ring.{cast}
 use Rattle.ring.specs.Identity.{solve2, solve4, solve5, solve8}
 use Rattle.ring.specs.Identity.Ex.{num, :0, _:+_, _:-_, _:*_, :-_}
-use Rattle.series.specs.Series.{Seq, conv}
-use Rattle.series.specs.Reversal.{rev}
-use Rattle.zmod.specs.Zmod.{Elt, Zmod, mk, plus, times, minus, mk-add, mk-mul, cast-mk}
-use Rattle.zmod.specs.Residues.{Residue, poly, poly-at, poly-past, residue-self, residue-same, residue-unique}
-use Rattle.isogeny.specs.Expansion.{sum-to, recurrence, Recurs, expansion, newton-step}
-use Rattle.expansion.specs.Equations.{SumAt, Solves}
+use Rattle.series.specs.Series.{conv}
+use Rattle.zmod.specs.Zmod.{Elt, Zmod, mk, plus, times, minus, mk-mul, cast-mk}
+use Rattle.zmod.specs.Residues.{Residue, poly, poly-at, residue-self, residue-same, residue-unique}
+use Rattle.isogeny.specs.Expansion.{sum-to, recurrence, Recurs, expansion}
 use Rattle.expansion.specs.Multiple.{Multiple}
-use Rattle.expansion.specs.Stores.{stored-before, stored-at}
-use Rattle.expansion.specs.Parts.{part-at, part-past, rev-twice}
-use Rattle.expansion.specs.Products.{newton-part, square-part, newton-step-at, newton-step-zero, expansion-above}
+use Rattle.expansion.specs.Parts.{part-at}
+use Rattle.expansion.specs.Products.{square-part, expansion-above}
 
 -- ── equality, and a bound
 
@@ -33,48 +30,6 @@ same-residue {p} l r hl hr =
 
 pub small : (m n : ℕ) → m ≤ 2048 → n ≤ 2051 → m * n ≤ 2048 * 2051
 small m n hm hn = N.mul-le-mul {n₁ = m} {m₁ = n} {n₂ = 2048} {m₂ = 2051} hm hn
-
--- ── the power sums of g
-
-module _ (p d : ℕ) (c s : List ℕ) (k : ℕ) (inside : k < length s) where
-  pub sum-first : (r : ℕ) → k ≡ 0 → Residue p (mk p (2 * d)) r → Solves p (SumAt (Zmod p) d (poly p c)) s k r
-  sum-first r e h = record {
-    below = h .below;
-    equation =
-        stored-at p s k r inside ∙ h .class ∙ sym (cast-mk p (2 * d))
-        ∙ sym (ap (λ m. newton-step (Zmod p) d (rev (Zmod p) d (poly p c)) m (poly p (set s k r))) e ∙ newton-step-zero (Zmod p) d _ _);
-  }
-
-  module _ (len : length c ≡ d + 1) (l : 1 ≤ k) (w t r : ℕ) (hw : Residue p (times p (mk p (2 * k)) (mk p (getD c k 0))) w)
-      (ht : Residue p (plus p (mk p w) (conv (Zmod p) (poly p (take (k - 1) (drop 1 s))) (poly p c) (k - 1))) t)
-      (hr : Residue p (minus p (mk p t)) r) where
-    G : Seq (Zmod p)
-    G = rev (Zmod p) d (rev (Zmod p) d (poly p c))
-
-    G-is : G ≡ poly p c
-    unfolding G
-    G-is = rev-twice (Zmod p) d (poly p c) (λ i m. poly-past p c i (omega arith))
-
-    weight : mk p w ≡ times p (cast (Zmod p) (2 * k)) (G k)
-    weight =
-        hw .class ∙ ap₂ (times p) (sym (cast-mk p (2 * k))) (sym (poly-at p c k) ∙ ap (λ f. f k) (sym G-is))
-
-    products : conv (Zmod p) (poly p (take (k - 1) (drop 1 s))) (poly p c) (k - 1) ≡ sum-to (Zmod p) (λ i. times p (poly p (set s k r) i) (G (k - i))) (k - 1)
-    products =
-        ap (λ f. conv (Zmod p) (poly p (take (k - 1) (drop 1 s))) f (k - 1)) (sym G-is)
-        ∙ newton-part (Zmod p) (poly p (set s k r)) G (poly p (take (k - 1) (drop 1 s))) k l
-        (λ i m. part-at p s 1 (k - 1) i m ∙ sym (stored-before p s k r (1 + i) (omega arith)))
-        (part-past p s 1 (k - 1) (k - 1) (omega arith))
-
-    pub sum-more : Solves p (SumAt (Zmod p) d (poly p c)) s k r
-    unfolding G
-    sum-more = record {
-      below = hr .below;
-      equation =
-          stored-at p s k r inside ∙ hr .class ∙ ap (minus p) (ht .class) ∙ Ring.neg-add (Zmod p) _ _
-          ∙ ap₂ (λ x y. plus p (minus p x) (minus p y)) weight products
-          ∙ sym (newton-step-at (Zmod p) d (rev (Zmod p) d (poly p c)) (poly p (set s k r)) k l);
-    }
 
 -- ── the expansion from the power sums
 

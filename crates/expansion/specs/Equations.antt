@@ -7,18 +7,13 @@ use Prim.Native.Nat.{ℕ, _<_}
 use lib.ListN.{set}
 use Rattle.ring.specs.Ring.{CRing}
 use Rattle.series.specs.Series.{Seq}
-use Rattle.series.specs.Reversal.{rev}
 use Rattle.zmod.specs.Zmod.{Zmod}
 use Rattle.zmod.specs.Residues.{poly}
 use Rattle.slices.specs.Filling.{Filled}
 use Rattle.isogeny.specs.Expansion.{newton-step}
 
 module _ (R : CRing) where
-  -- s obeys Newton's identities, solved for s_k, where c is g reversed
-  abbrev pub SumAt : ℕ → Seq R → Seq R → ℕ → Type 0
-  SumAt d c s k = s k ≡ newton-step R d (rev R d c) k s
-
-  -- the same for g itself
+  -- s obeys Newton's identities, solved for s_k
   abbrev pub Newton : ℕ → Seq R → Seq R → ℕ → Type 0
   Newton d g s k = s k ≡ newton-step R d g k s
 

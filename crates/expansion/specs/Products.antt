@@ -7,7 +7,7 @@ use mathlib.Core.List.{List}
 use lib.ListN.{length, getD, take, drop}
 use Rattle.ring.specs.Ring
 use Rattle.ring.specs.Ring.{CRing, cast}
-use Rattle.series.specs.Series.{Seq, conv, sum, conv-sum, sum-suc, sum-same}
+use Rattle.series.specs.Series.{Seq, conv, sum, conv-sum, sum-same}
 use Rattle.series.specs.Reversal.{rev}
 use Rattle.zmod.specs.Zmod.{Zmod, times}
 use Rattle.zmod.specs.Residues.{Residue, poly, Residues, residue-same, residues-at}
@@ -22,17 +22,6 @@ module _ (R : CRing) where
   -- a coefficient by its terms
   pub conv-terms : (a b f : Seq R) (n : ℕ) → ((i : ℕ) → i ≤ n → a i ⊗ b (n - i) ≡ f i) → conv R a b n ≡ sum R f (suc n)
   conv-terms a b f n h = conv-sum R a b n ∙ sum-same R (λ i. a i ⊗ b (n - i)) f (suc n) (λ i l. h i (omega arith))
-
-  -- the sum of s_i c_(k − i), i from 1 to k − 1: a is s₁ .. s_(k − 1)
-  pub newton-part : (s c a : Seq R) (k : ℕ) → 1 ≤ k → ((i : ℕ) → i < k - 1 → a i ≡ s (1 + i)) → a (k - 1) ≡ 𝟘
-      → conv R a c (k - 1) ≡ sum-to R (λ i. s i ⊗ c (k - i)) (k - 1)
-  newton-part s c a k l h z =
-      conv-sum R a c (k - 1) ∙ sum-suc R (λ i. a i ⊗ c (k - 1 - i)) (k - 1)
-      ∙ ap₂ _⊕_
-      (sum-same R (λ i. a i ⊗ c (k - 1 - i)) (λ i. s (suc i) ⊗ c (k - suc i)) (k - 1)
-      (λ i m. ap₂ _⊗_ (h i m ∙ ap s (omega arith)) (ap c (omega arith))))
-      (ap (λ x. x ⊗ c (k - 1 - (k - 1))) z ∙ Ring.zero-mul R _)
-      ∙ add-zero _
 
   -- the sum of h_i h_(k − 1 − i), i from 1 to k − 2: a is h₁ .. h_(k − 2)
   pub square-part : (h a : Seq R) (k : ℕ) → 3 ≤ k → ((i : ℕ) → i < k - 2 → a i ≡ h (1 + i))

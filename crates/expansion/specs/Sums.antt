@@ -19,7 +19,6 @@ use Rattle.isogeny.specs.Expansion.{sum-to, newton-step}
 use Rattle.slices.specs.Stored.{Stored}
 use Rattle.rows.specs.Room.{blank, zero-at}
 use Rattle.rows.specs.Rows.{row-more, RowsAdded, Four}
-use Rattle.rows.specs.Turn.{row-class}
 use Rattle.expansion.specs.Equations.{Newton, Solved}
 use Rattle.isogeny.specs.Proof.Sums.{newton-local}
 use Rattle.expansion.specs.Stores.{Causal, stored-at, solved-none, solved-more}

@@ -6,7 +6,7 @@ use Prim.Native.Nat.{ℕ, _≤_, _<_}
 use native.Mathlib.Decide.{decLt}
 use native.Mathlib.Omega.{arith}
 use lib.ListN.{length, getD}
-use Rattle.slices.specs.Stored.{Stored, word-kept}
+use Rattle.slices.specs.Stored.{Stored}
 use Rattle.series.specs.Series.{Seq}
 use Rattle.zmod.specs.Zmod.{Zmod, mk}
 use Rattle.zmod.specs.Residues.{Residue, Reduced, Residues, poly, poly-at, residues-filled}
@@ -14,9 +14,6 @@ use Rattle.zmod.specs.Residues.{Residue, Reduced, Residues, poly, poly-at, resi
 -- each word is the residue of a's coefficient
 abbrev pub Of : (p : ℕ) → Seq (Zmod p) → ℕ → ℕ → Type 0
 Of p a j v = Residue p (a j) v
-
-pub poly-kept : (p : ℕ) (P : ℕ → ℕ → Type 0) (xs₀ xs : List ℕ) (k : ℕ) → Stored P xs₀ xs k → mk p (getD xs k 0) ≡ poly p xs₀ k
-poly-kept p P xs₀ xs k h = ap (mk p) (word-kept P xs₀ xs k h) ∙ sym (poly-at p xs₀ k)
 
 pub stored-all : (p : ℕ) (a : Seq (Zmod p)) (xs₀ xs : List ℕ) (k : ℕ) → 0 < p → length xs ≤ k → Stored (Of p a) xs₀ xs k → Residues p a xs
 stored-all p a xs₀ xs k pos end h = residues-filled {a = a} pos (λ j l. h .filled j (omega arith))

@@ -143,9 +143,6 @@ module _ (R : CRing) where
       ∙ ap (λ f. f k) (solve2 (Series R) (λ b u. (b :+ u) :* (b :+ u)) (λ b u. b :* (b :+ u :+ u) :+ u :* u) tt (block i a) (upper (4 + i) a))
       ∙ ap (λ f. conv R (block i a) (sums R f (upper (4 + i) a)) k ⊕ conv R (upper (4 + i) a) (upper (4 + i) a) k) (sym (upper-block i a))
 
-  pub product-step : (i : ℕ) (a b : Seq R) (k : ℕ) → conv R (upper i a) b k ≡ conv R (block i a) b k ⊕ conv R (upper (4 + i) a) b k
-  product-step i a b k = ap (λ f. conv R f b k) (upper-block i a) ∙ conv-sums R (block i a) (upper (4 + i) a) b k
-
   -- nothing is above a's end, and the square of what is above i has no term before 2i
   pub upper-none : (i : ℕ) (a b : Seq R) → Below R i a → (k : ℕ) → conv R (upper i a) b k ≡ 𝟘
   upper-none i a b past k =

@@ -1,22 +1,20 @@
 -- One turn of a product by rows: what four rows of the other factor add, in ℤ/p and as a bound.
 -- Assumes nothing.
-use mathlib.Core.Path.{_≡_, sym, _∙_, ap, ap₂, fun-ext}
+use mathlib.Core.Path.{_≡_, sym, _∙_, ap, ap₂}
 use mathlib.Core.List.{List}
-use Prim.Native.Nat.{ℕ, _+_, _*_, _-_, _^_, _≤_, _<_}
-use native.Mathlib.Nat.{mul-le-mul}
+use Prim.Native.Nat.{ℕ, _+_, _*_, _-_, _≤_, _<_}
 use native.Mathlib.Decide.{decLt}
 use native.Mathlib.Omega.{arith}
 use lib.ListN.{length, getD, take, drop}
 use Rattle.ring.specs.Ring
 use Rattle.ring.specs.Identity.{solve5}
 use Rattle.ring.specs.Identity.Ex.{_:+_}
-use Rattle.series.specs.Series.{Seq, conv, sums}
+use Rattle.series.specs.Series.{Seq, conv}
 use Rattle.slices.specs.Stored.{part-at}
-use Rattle.zmod.specs.Zmod.{Elt, Zmod, mk, plus, times, mk-add, mk-mul, plus-zero, plus-assoc}
-use Rattle.zmod.specs.Residues.{poly, poly-at, poly-past, Reduced}
-use Rattle.rows.specs.Rows.{row-more, RowsAdded, Four}
-use Rattle.rows.specs.Room.{Above}
-use Rattle.rows.specs.Block.{upper, upper-low, upper-high, block, block-low, block-at, square-step, product-step}
+use Rattle.zmod.specs.Zmod.{Elt, Zmod, mk, plus, times, mk-add, mk-mul, plus-zero}
+use Rattle.zmod.specs.Residues.{poly, poly-at}
+use Rattle.rows.specs.Rows.{row-more, RowsAdded}
+use Rattle.rows.specs.Block.{block, block-low, block-at}
 
 -- the class of a sum with one word of each row added
 pub row-class : (p s w x y z t₃ t₂ t₁ t₀ : ℕ) → mk p (s + w * t₃ + x * t₂ + y * t₁ + z * t₀)

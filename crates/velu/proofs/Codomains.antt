@@ -4,7 +4,7 @@
 use mathlib.Core.Path.{_≡_, refl, sym, _∙_, ap, ap₂, subst}
 use mathlib.Core.Logic.{inl, inr}
 use mathlib.Core.List.{List}
-use Prim.Native.Nat.{ℕ, suc, _+_, _*_, _-_, _<_}
+use Prim.Native.Nat.{ℕ, suc, _-_, _<_}
 use native.Mathlib.Omega.{arith}
 use lib.ListN.{length, getD}
 use Rattle.ring.specs.Ring.{cast}
@@ -24,7 +24,7 @@ use Rattle.sheet.specs.Ready.{Ready, HoldsG, half-least}
 use Rattle.promises.specs.declared.Written.{Written}
 use Rattle.promises.specs.declared.Written.the-variants.{Count, Refused}
 use Rattle.promises.specs.Asked.{Leading, Passing}
-use Rattle.promises.specs.Answer.{with, KernelIn}
+use Rattle.promises.specs.Answer.{with}
 use Rattle.certifying.specs.Certified.{Certified}
 use Rattle.velu.specs.Completed.{Completed, Finished}
 
