@@ -299,7 +299,12 @@ returns c =
         arith,
         start .pre .1 .1 k,
         added-le 268435455 268435455 (a .acc .now) (a .e .now) (a .i + 4) (least .result) (w .result) (x .result) (y .result)
-            (z .result) (added .last .0) rows (omega (arith, w .ensures .below, large)) (omega (arith, x .ensures .below, large)) (omega (arith, y .ensures .below, large))
+            (z .result) (added .last .0) rows (omega (arith, w .ensures .below, large)) (omega (arith, x .ensures .below, large)) (omega (
+              arith,
+              y .ensures
+                  .below,
+              large,
+            ))
             (omega (arith, z .ensures .below, large)) (λ u. omega (arith, small u, large)) k,
       ),
       λ g n h. record {

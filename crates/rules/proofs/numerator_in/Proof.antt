@@ -8,10 +8,12 @@ products-requires c κs = search needs
 
 sum-of-parts-requires : tie.Need-sum-of-parts-requires
 sum-of-parts-requires c κs =
-    let hold = c .before .before .before .before .before .before .before .before .before .before .before .before .before .before .before .before .before
-    .before .products .ensures in (
-      c .before .before .before .before .before .before .before .before .before .before .before .before .before .before .before .before .before .before
-          .before .before .before .before .before .before .before .before .before .before .before .before .before .before .before .before .before .pre .0 .0,
+    let at-products = c .before .before .before .before .before .before .before .before .before .before .before .before .before .before .before .before
+    .before .before in
+    let at-start = at-products .before .before .before .before .before .before .before .before .before .before .before .before .before .before .before
+    .before .before in
+    let hold = at-products .products .ensures in (
+      at-start .pre .0 .0,
       hold .square-is .reduced,
       hold .slope-is .reduced,
       hold .bend-is .reduced,
@@ -42,8 +44,11 @@ same-length-8 : tie.Need-same-length-8
 same-length-8 c = search needs
 
 returns : tie.Need-returns
-returns c = c .before .before .sum-of-parts .ensures _ (c .before .before .before .before .before .before .before .before .before .before .before .before
-    .before .before .before .before .before .before .before .before .before .products .ensures)
+returns c =
+    let at-sum-of-parts = c .before .before in
+    let at-products = at-sum-of-parts .before .before .before .before .before .before .before .before .before .before .before .before .before .before .before
+    .before .before .before .before in
+    at-sum-of-parts .sum-of-parts .ensures _ (at-products .products .ensures)
 
 pub numerator-in-spec : {M : Type 1} → statement M
 numerator-in-spec = tie.close (tie.spec products-requires sum-of-parts-requires same-length same-length-2 same-length-3 same-length-4 same-length-5

@@ -14,19 +14,20 @@ power-sums-requires c κs =
 
 expansion-requires : tie.Need-expansion-requires
 expansion-requires c κs =
-    let start = c .before .before .before .before .before .before .before .before .before .before .before .before .before .before .before .before .before
-    .before in
+    let at-power-sums = c .before .before .before .before .before .before .before .before in
+    let start = at-power-sums .before .before .before .before .before .before .before .before .before .before in
     let sizes = start .pre .1 .1 in
-    let sums = c .before .before .before .before .before .before .before .before .power-sums in
+    let sums = at-power-sums .power-sums in
     (start .pre .0 .0, (omega (arith, sizes .1), omega (arith, sizes, sums .kept), omega (arith, sizes, sums .kept), sums .ensures .reduced))
 
 conditions-requires : tie.Need-conditions-requires
 conditions-requires c κs =
-    let start = c .before .before .before .before .before .before .before .before .before .before .before .before .before .before .before .before .before
-    .before .before .before .before .before .before .before .before in
+    let at-expansion = c .before .before .before .before .before .before in
+    let at-power-sums = at-expansion .before .before .before .before .before .before .before .before .before in
+    let start = at-power-sums .before .before .before .before .before .before .before .before .before .before in
     let sizes = start .pre .1 .1 in
-    let sums = c .before .before .before .before .before .before .before .before .before .before .before .before .before .before .before .power-sums in
-    let h = c .before .before .before .before .before .before .expansion in
+    let sums = at-power-sums .power-sums in
+    let h = at-expansion .expansion in
     ((start .pre .0 .0, start .pre .0 .1, omega (arith, sizes, h .kept), h .ensures .reduced), omega (arith, sizes, sums .kept, start .pre .0 .0 .degree))
 
 same-length : tie.Need-same-length
@@ -46,17 +47,17 @@ same-length-5 c = search needs
 
 returns : tie.Need-returns
 returns c =
-    let start = c .before .before .before .before .before .before .before .before .before .before .before .before .before .before .before .before .before
-    .before .before .before .before .before .before .before .before .before .before .before .before .before .before .before in
+    let at-conditions = c .before .before .before .before .before .before in
+    let at-expansion = at-conditions .before .before .before .before .before .before .before in
+    let at-power-sums = at-expansion .before .before .before .before .before .before .before .before .before in
+    let start = at-power-sums .before .before .before .before .before .before .before .before .before .before in
     let a = start .args in
     let sizes = start .pre .1 .1 in
-    let sums = c .before .before .before .before .before .before .before .before .before .before .before .before .before .before .before .before .before
-    .before .before .before .before .before .power-sums in
-    let h = c .before .before .before .before .before .before .before .before .before .before .before .before .before .expansion in
+    let sums = at-power-sums .power-sums in
+    let h = at-expansion .expansion in
     decided (a .v) (start .pre .0 .0) (start .pre .0 .2) (a .g .now) (sums .last .1 .1 .1 .1 .0) (h .last .1 .1 .0)
-    (start .pre .1 .0 .1) (omega (arith, sizes, sums .kept)) (omega (arith, sizes, h .kept)) (sums .ensures) (h .ensures) (c .before .before .before .before
-    .before .before .conditions .result)
-    (c .before .before .before .before .before .before .conditions .ensures)
+    (start .pre .1 .0 .1) (omega (arith, sizes, sums .kept)) (omega (arith, sizes, h .kept)) (sums .ensures) (h .ensures) (at-conditions .conditions .result)
+    (at-conditions .conditions .ensures)
 
 pub by-expansion-in-spec : {M : Type 1} → statement M
 by-expansion-in-spec = tie.close (tie.spec power-sums-requires expansion-requires conditions-requires same-length same-length-2 same-length-3 same-length-4

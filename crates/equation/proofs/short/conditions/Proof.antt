@@ -17,9 +17,12 @@ subtract-requires c κs = search needs
 
 returns : tie.Need-returns
 returns c =
-    let a = c .before .before .before .before .before .before .before .before .args in
-    first-no (a .v) (a .h .now) (c .before .before .multiply .result) (c .before .subtract .result) (c .before .before .multiply .ensures) (c .before
-    .subtract .ensures) (c .if1 .taken)
+    let at-subtract = c .before in
+    let at-multiply = at-subtract .before in
+    let at-start = at-multiply .before .before .before .before .before .before in
+    let a = at-start .args in
+    first-no (a .v) (a .h .now) (at-multiply .multiply .result) (at-subtract .subtract .result) (at-multiply .multiply .ensures) (at-subtract .subtract
+    .ensures) (c .if1 .taken)
 
 shared-slice-read-multiply-2 : tie.Need-shared-slice-read-multiply-2
 shared-slice-read-multiply-2 c = search needs
@@ -32,11 +35,15 @@ subtract-requires-2 c κs = search needs
 
 returns-2 : tie.Need-returns-2
 returns-2 c =
-    let a = c .before .before .before .before .before .before .before .before .before .before .before .before .args in
-    second-no (a .v) (a .h .now) (c .before .before .before .before .before .before .multiply .result) (c .before .before .before .before .before .subtract
-    .result) (c .before .before .before .before .before .before .multiply .ensures) (c .before .before .before .before .before .subtract .ensures)
-    (c .before .before .multiply2 .result) (c .before .subtract2 .result) (c .before .before .multiply2 .ensures) (c .before .subtract2 .ensures) (c .if2
-    .taken)
+    let at-subtract2 = c .before in
+    let at-multiply2 = at-subtract2 .before in
+    let at-subtract = at-multiply2 .before .before .before in
+    let at-multiply = at-subtract .before in
+    let at-start = at-multiply .before .before .before .before .before .before in
+    let a = at-start .args in
+    second-no (a .v) (a .h .now) (at-multiply .multiply .result) (at-subtract .subtract .result) (at-multiply .multiply .ensures) (at-subtract .subtract
+    .ensures)
+    (at-multiply2 .multiply2 .result) (at-subtract2 .subtract2 .result) (at-multiply2 .multiply2 .ensures) (at-subtract2 .subtract2 .ensures) (c .if2 .taken)
 
 slice-relend-prefix-recurs : tie.Need-slice-relend-prefix-recurs
 slice-relend-prefix-recurs c = search needs
@@ -67,21 +74,18 @@ same-length-3 c = search needs
 
 returns-3 : tie.Need-returns-3
 returns-3 c =
-    let start = c .before .before .before .before .before .before .before .before .before .before .before .before .before .before .before .before .before
-    .before .before .before .before .before in
+    let at-recurs = c .before .before .before .before .before .before in
+    let at-if2 = at-recurs .before .before .before .before in
+    let at-subtract2 = at-if2 .before in
+    let at-multiply2 = at-subtract2 .before in
+    let at-if1 = at-multiply2 .before .before in
+    let at-subtract = at-if1 .before in
+    let at-multiply = at-subtract .before in
+    let start = at-multiply .before .before .before .before .before .before in
     let a = start .args in
-    all-yes (a .v) (a .h .now) (c .before .before .before .before .before .before .before .before .before .before .before .before .before .before .before
-    .before .multiply .result) (c .before .before .before .before .before .before .before .before .before .before .before .before .before .before .before
-    .subtract .result) (c .before .before .before .before .before .before .before .before .before .before .before .before .before .before .before .before
-    .multiply .ensures) (c .before .before .before .before .before .before .before .before .before .before .before .before .before .before .before
-    .subtract .ensures)
-    (c .before .before .before .before .before .before .before .before .before .before .before .before .multiply2 .result) (c .before .before .before .before
-    .before .before .before .before .before .before .before .subtract2 .result) (c .before .before .before .before .before .before .before .before
-    .before .before .before .before .multiply2 .ensures) (c .before .before .before .before .before .before .before .before .before .before .before
-    .subtract2 .ensures)
-    (c .before .before .before .before .before .before .recurs .result) (start .pre .0 .0) (start .pre .0 .2) (c .before .before .before .before .before
-    .before .before .before .before .before .before .before .before .before .if1 .left) (c .before .before .before .before .before .before .before
-    .before .before .before .if2 .left) (c .before .before .before .before .before .before .recurs .ensures)
+    all-yes (a .v) (a .h .now) (at-multiply .multiply .result) (at-subtract .subtract .result) (at-multiply .multiply .ensures) (at-subtract .subtract .ensures)
+    (at-multiply2 .multiply2 .result) (at-subtract2 .subtract2 .result) (at-multiply2 .multiply2 .ensures) (at-subtract2 .subtract2 .ensures)
+    (at-recurs .recurs .result) (start .pre .0 .0) (start .pre .0 .2) (at-if1 .if1 .left) (at-if2 .if2 .left) (at-recurs .recurs .ensures)
 
 pub conditions-spec : {M : Type 1} → statement M
 conditions-spec =
