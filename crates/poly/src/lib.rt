@@ -14,12 +14,6 @@ ghost use Rattle.barrett.specs.Modulus.{Prepared};
 ghost use Rattle.rows.specs.Room.{turns};
 ghost use Rattle.poly.specs.Partial.{partial, Alone};
 
-fn least(x: usize, y: usize) -> usize
-    ensures { λ r. ⌜ r ≡ min x y ⌝ }
-{
-    if x < y { x } else { y }
-}
-
 fn most(x: usize, y: usize) -> usize
     ensures { λ r. ⌜ r ≡ max x y ⌝ }
 {
@@ -84,7 +78,7 @@ pub fn coefficient(start: u32, a: &[u32], b: &[u32], k: usize, p: u32) -> u32
     ensures { λ r. ⌜ Residue p (plus p (mk p start) (conv (Zmod p) (poly p (now (a .entry))) (poly p (now (b .entry))) k)) r ⌝ }
 {
     let from = over(k + 1, b.len());
-    let to = most(from, least(k + 1, a.len()));
+    let to = most(from, rows::least(k + 1, a.len()));
     field::reduce(span(start, a, b, from, to, k, 256, p), p)
 }
 
@@ -140,7 +134,7 @@ pub fn square_coefficient(a: &[u32], k: usize, p: u32) -> u32
     ensures { λ r. ⌜ Residue p (conv (Zmod p) (poly p (now (a .entry))) (poly p (now (a .entry))) k) r ⌝ }
 {
     let from = over(k + 1, a.len());
-    let to = most(from, least((k + 1) / 2, a.len()));
+    let to = most(from, rows::least((k + 1) / 2, a.len()));
     let half = span(0, a, a, from, to, k, 127, p);
     field::reduce(half + half + middle(a, k), p)
 }
@@ -168,7 +162,7 @@ pub fn add_scaled(out: &mut [u32], a: &[u32], c: u32, p: u32)
     requires { ⌜ (0 < p) × (Reduced p (now out)) ⌝ }
     ensures { λ _. ⌜ Residues p (sums (Zmod p) (poly p (now (out .entry))) (scaled (Zmod p) (mk p c) (poly p (now (a .entry))))) (now (out .exit)) ⌝ }
 {
-    let n = least(out.len(), a.len());
+    let n = rows::least(out.len(), a.len());
     let mut k = 0;
     while k < n {
         out[k] = plus_multiple(out[k], c, a[k], p);

@@ -4,7 +4,7 @@ ghost use mathlib.Core.Path.{_≡_};
 ghost use Prim.Native.Nat.{ℕ, _+_, _-_, _*_, _^_, _<_, _≤_, min};
 ghost use lib.ListN.{length, getD, replicate};
 ghost use Rattle.slices.specs.Filling.{Filled};
-ghost use Rattle.series.specs.Series.{conv, sums};
+ghost use Rattle.series.specs.Series.{conv};
 ghost use Rattle.zmod.specs.Zmod.{Zmod};
 ghost use Rattle.zmod.specs.Residues.{Reduced, poly};
 ghost use Rattle.rows.specs.Rows.{four-more, row-more, RowsAdded, Four, Twice};
@@ -27,8 +27,8 @@ pub fn sum_more(s: u64, w: u64, a: u64, x: u64, b: u64, y: u64, c: u64, z: u64, 
 
 // out = out + w a + x b + y c + z d, word by word.
 fn four(out: &mut [u64], a: &[u64], b: &[u64], c: &[u64], d: &[u64], w: u64, x: u64, y: u64, z: u64)
-    requires { ⌜ (length (now out) ≤ length (now a)) × (length (now out) ≤ length (now b)) × (length (now out) ≤ length (now c)) × (length (now out) ≤ length
-        (now d)) ⌝ }
+    requires { ⌜ (length (now out) ≤ length (now a)) × (length (now out) ≤ length (now b))
+        × (length (now out) ≤ length (now c)) × (length (now out) ≤ length (now d)) ⌝ }
     requires { ⌜ (Reduced (2 ^ 32) (now a)) × (Reduced (2 ^ 32) (now b)) × (Reduced (2 ^ 32) (now c)) × (Reduced (2 ^ 32) (now d)) ⌝ }
     requires { ⌜ (w < 2 ^ 32) × (x < 2 ^ 32) × (y < 2 ^ 32) × (z < 2 ^ 32) ⌝ }
     requires { ⌜ ((j : ℕ) → j < length (now out) → four-more (now out) (now a) (now b) (now c) (now d) w x y z j < 2 ^ 64) ⌝ }
