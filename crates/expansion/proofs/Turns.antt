@@ -46,15 +46,9 @@ expands p A B s i y z r l hy hz =
 
 -- ── multiples of A and B, added up
 
--- the first ones
-pub none : {p : ℕ} (a : Elt p) → 0 < p → Multiple p 0 a 0
-none {p} a pos = record { below = pos; class = sym (ap (λ x. times p x a) (Ring.cast-zero (Zmod p)) ∙ Ring.zero-mul (Zmod p) a) }
-
-pub once : {p : ℕ} (a : ℕ) → a < p → Multiple p 1 (mk p a) a
-once {p} a low = record { below = low; class = sym (ap (λ x. times p x (mk p a)) (Ring.cast-one (Zmod p)) ∙ Ring.one-mul (Zmod p) (mk p a)) }
-
-pub thrice : {p : ℕ} (a r : ℕ) → Residue p (times p (mk p 3) (mk p a)) r → Multiple p 3 (mk p a) r
-thrice {p} a r = residue-same (ap (λ x. times p x (mk p a)) (sym (cast-mk p 3)))
+-- the first one
+pub multiple : {p : ℕ} (m a r : ℕ) → Residue p (times p (mk p m) (mk p a)) r → Multiple p m (mk p a) r
+multiple {p} m a r = residue-same (ap (λ x. times p x (mk p a)) (sym (cast-mk p m)))
 
 -- two more
 pub two-more : {p : ℕ} (a t m n y r : ℕ) → n ≡ m + 2 → Residue p (plus p (mk p a) (mk p a)) t → Multiple p m (mk p a) y

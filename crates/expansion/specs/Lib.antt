@@ -4,3 +4,4 @@ pub mod Stores
 pub mod Parts
 pub mod Products
 pub mod Sums
+pub mod Begun

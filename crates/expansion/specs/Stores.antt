@@ -33,6 +33,17 @@ reduced-all {p} xs n pos le h i = go (decLt i n)
     go (yes l) = h i l
     go (no l) = let z : getD xs i 0 ≡ 0 = List·getD-eq-default xs 0 (omega arith) in omega arith
 
+-- four words more
+pub reduced-four : (p : ℕ) (xs ys : List ℕ) (i w x y z : ℕ) → Four xs i w x y z ys → w < p → x < p → y < p → z < p → ReducedTo p xs i → ReducedTo p ys (i + 4)
+reduced-four p xs ys i w x y z f lw lx ly lz h j l = go (decLt j i)
+  where
+    go : Dec (j < i) → getD ys j 0 < p
+    go (yes m) = subst (λ t. t < p) (sym (f .before j m)) (h j m)
+    go (no m) =
+        each i (λ j. getD ys j 0 < p) (subst (λ t. t < p) (sym (f .first)) lw) (subst (λ t. t < p) (sym (ap (λ n. getD ys n 0) (omega arith) ∙ f .second)) lx)
+        (subst (λ t. t < p) (sym (ap (λ n. getD ys n 0) (omega arith) ∙ f .third)) ly)
+        (subst (λ t. t < p) (sym (ap (λ n. getD ys n 0) (omega arith) ∙ f .fourth)) lz) j (omega arith) (omega arith)
+
 module _ (p : ℕ) (E : Seq (Zmod p) → ℕ → Type 0) where
   -- the equation at k reads the sequence up to k
   abbrev pub Causal : Type 0
@@ -51,21 +62,13 @@ module _ (p : ℕ) (E : Seq (Zmod p) → ℕ → Type 0) where
       go j l (yes m) = causal j (poly p xs) (poly p (set xs k r)) (λ i n. sym (stored-before p xs k r i (omega arith))) (h .equations j m)
       go j l (no m) = let e : k ≡ j = omega arith in subst (E (poly p (set xs k r))) e (here .equation)
 
-  -- four words more
   pub solved-four : Causal → (xs ys : List ℕ) (i w x y z : ℕ) → Four xs i w x y z ys → w < p → x < p → y < p → z < p
       → E (poly p ys) i → E (poly p ys) (1 + i) → E (poly p ys) (2 + i) → E (poly p ys) (3 + i) → Solved p E xs i → Solved p E ys (i + 4)
   solved-four causal xs ys i w x y z f lw lx ly lz a b c d h = record {
-    reduced = λ j l. low j l (decLt j i);
+    reduced = reduced-four p xs ys i w x y z f lw lx ly lz (h .reduced);
     equations = λ j l. go j l (decLt j i);
   }
     where
-      low : (j : ℕ) → j < i + 4 → Dec (j < i) → getD ys j 0 < p
-      low j l (yes m) = subst (λ t. t < p) (sym (f .before j m)) (h .reduced j m)
-      low j l (no m) =
-          each i (λ j. getD ys j 0 < p) (subst (λ t. t < p) (sym (f .first)) lw) (subst (λ t. t < p) (sym (ap (λ n. getD ys n 0) (omega arith) ∙ f .second)) lx)
-          (subst (λ t. t < p) (sym (ap (λ n. getD ys n 0) (omega arith) ∙ f .third)) ly)
-          (subst (λ t. t < p) (sym (ap (λ n. getD ys n 0) (omega arith) ∙ f .fourth)) lz) j (omega arith) (omega arith)
-
       before : (n : ℕ) → n < i → poly p xs n ≡ poly p ys n
       before n m = poly-at p xs n ∙ ap (mk p) (sym (f .before n m)) ∙ sym (poly-at p ys n)
 

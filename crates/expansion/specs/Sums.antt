@@ -15,12 +15,12 @@ use Rattle.series.specs.Series.{Seq, sum, sum-suc, sum-same}
 use Rattle.series.specs.Reversal.{rev, rev-sub, rev-past}
 use Rattle.zmod.specs.Zmod.{Elt, Zmod, mk, plus, times, minus, mk-add, mk-mul, cast-mk}
 use Rattle.zmod.specs.Residues.{Residue, poly, poly-at}
-use Rattle.isogeny.specs.Expansion.{sum-to, newton-step}
+use Rattle.isogeny.specs.Expansion.{sum-to, newton-step, power-sums}
 use Rattle.slices.specs.Stored.{Stored}
 use Rattle.rows.specs.Room.{blank, zero-at}
 use Rattle.rows.specs.Rows.{row-more, RowsAdded, Four}
 use Rattle.expansion.specs.Equations.{Newton, Solved}
-use Rattle.isogeny.specs.Proof.Sums.{newton-local}
+use Rattle.isogeny.specs.Proof.Sums.{newton-local, sums-obey}
 use Rattle.expansion.specs.Stores.{Causal, stored-at, solved-none, solved-more}
 use Rattle.expansion.specs.Products.{newton-step-at, newton-step-zero}
 
@@ -60,114 +60,128 @@ module _ (p d : ℕ) (g : Seq (Zmod p)) where
   abbrev pub Negated : List ℕ → Type 0
   Negated e = (t : ℕ) → mk p (getD e t 0) ≡ minus p (rev (Zmod p) d g (1 + t))
 
-  -- from i on acc holds what is due
-  abbrev pub Due : List ℕ → List ℕ → ℕ → Type 0
-  Due acc s i = (k : ℕ) → i ≤ k → k < length acc → mk p (getD acc k 0) ≡ due (Zmod p) d g (poly p s) k i
+  -- from `from` on acc holds what is due once the words before i are known
+  abbrev pub Due : List ℕ → List ℕ → ℕ → ℕ → Type 0
+  Due acc s from i = (k : ℕ) → from ≤ k → k < length acc → mk p (getD acc k 0) ≡ due (Zmod p) d g (poly p s) k i
 
-  module _ (e acc s s′ : List ℕ) (i w x y z : ℕ) (from : 1 ≤ i) (room : i + 4 ≤ length acc) (n : Negated e) (h : Due acc s i) (f : Four s i w x y z s′) where
+  -- four words of s from i on, and what is due at k before them
+  module _ (e s : List ℕ) (i w x y z : ℕ) (from : 1 ≤ i) (n : Negated e)
+      (first : poly p s i ≡ mk p w) (second : poly p s (1 + i) ≡ mk p x) (third : poly p s (2 + i) ≡ mk p y) (fourth : poly p s (3 + i) ≡ mk p z)
+      (k a : ℕ) (here : mk p a ≡ due (Zmod p) d g (poly p s) k i) where
     abbrev S : Seq (Zmod p)
-    S = poly p s′
+    S = poly p s
 
-    before : (j : ℕ) → j < i → poly p s j ≡ S j
+    -- one of them, times its −c
+    step : (j u t : ℕ) → 1 ≤ j → S j ≡ mk p u → 1 + t ≡ k - j → (b : ℕ) → mk p b ≡ due (Zmod p) d g S k j
+        → (m : ℕ) → 1 + j ≡ m → mk p (b + u * getD e t 0) ≡ due (Zmod p) d g S k m
+    step j u t l es et b eb m em =
+        mk-add p b (u * getD e t 0)
+        ∙ ap₂ (plus p) eb
+        (mk-mul p u (getD e t 0) ∙ ap₂ (times p) (sym es) (n t ∙ ap (λ m. minus p (rev (Zmod p) d g m)) et))
+        ∙ sym (due-next (Zmod p) d g S k j l) ∙ ap (due (Zmod p) d g S k) em
+
+    pub one : (t₀ : ℕ) → 1 + t₀ ≡ k - i → mk p (a + w * getD e t₀ 0) ≡ due (Zmod p) d g S k (1 + i)
+    one t₀ e₀ = step i w t₀ from first e₀ a here (1 + i) refl
+
+    pub two : (t₁ t₀ : ℕ) → 1 + t₁ ≡ k - i → 2 + t₀ ≡ k - i → mk p (a + w * getD e t₁ 0 + x * getD e t₀ 0) ≡ due (Zmod p) d g S k (2 + i)
+    two t₁ t₀ e₁ e₀ = step (1 + i) x t₀ (omega arith) second (omega arith) _ (one t₁ e₁) (2 + i) (omega arith)
+
+    pub three : (t₂ t₁ t₀ : ℕ) → 1 + t₂ ≡ k - i → 2 + t₁ ≡ k - i → 3 + t₀ ≡ k - i
+        → mk p (a + w * getD e t₂ 0 + x * getD e t₁ 0 + y * getD e t₀ 0) ≡ due (Zmod p) d g S k (3 + i)
+    three t₂ t₁ t₀ e₂ e₁ e₀ = step (2 + i) y t₀ (omega arith) third (omega arith) _ (two t₂ t₁ e₂ e₁) (3 + i) (omega arith)
+
+    pub four : (t : ℕ) → 4 + t ≡ k - i → mk p (row-more a e t w x y z) ≡ due (Zmod p) d g S k (i + 4)
+    four t e₀ = step (3 + i) z t (omega arith) fourth (omega arith) _ (three (3 + t) (2 + t) (1 + t) (omega arith) (omega arith) (omega arith)) (i + 4) (omega arith)
+
+  -- four words are computed
+  module _ (e acc s s′ : List ℕ) (i w x y z : ℕ) (from : 1 ≤ i) (room : i + 4 ≤ length acc) (n : Negated e) (h : Due acc s i i) (f : Four s i w x y z s′) where
+    abbrev T : Seq (Zmod p)
+    T = poly p s′
+
+    before : (j : ℕ) → j < i → poly p s j ≡ T j
     before j l = poly-at p s j ∙ ap (mk p) (sym (f .before j l)) ∙ sym (poly-at p s′ j)
 
     -- what is due, with the new words
-    now : (k : ℕ) → i ≤ k → k < length acc → mk p (getD acc k 0) ≡ due (Zmod p) d g S k i
-    now k l m = h k l m ∙ due-same (Zmod p) d g (poly p s) S k i before
+    pub due-now : Due acc s′ i i
+    due-now k l m = h k l m ∙ due-same (Zmod p) d g (poly p s) T k i before
 
-    first : S i ≡ mk p w
-    first = poly-at p s′ i ∙ ap (mk p) (f .first)
+    at₀ : T i ≡ mk p w
+    at₀ = poly-at p s′ i ∙ ap (mk p) (f .first)
 
-    second : S (1 + i) ≡ mk p x
-    second = poly-at p s′ (1 + i) ∙ ap (λ j. mk p (getD s′ j 0)) (omega arith) ∙ ap (mk p) (f .second)
+    at₁ : T (1 + i) ≡ mk p x
+    at₁ = poly-at p s′ (1 + i) ∙ ap (λ j. mk p (getD s′ j 0)) (omega arith) ∙ ap (mk p) (f .second)
 
-    third : S (2 + i) ≡ mk p y
-    third = poly-at p s′ (2 + i) ∙ ap (λ j. mk p (getD s′ j 0)) (omega arith) ∙ ap (mk p) (f .third)
+    at₂ : T (2 + i) ≡ mk p y
+    at₂ = poly-at p s′ (2 + i) ∙ ap (λ j. mk p (getD s′ j 0)) (omega arith) ∙ ap (mk p) (f .third)
 
-    fourth : S (3 + i) ≡ mk p z
-    fourth = poly-at p s′ (3 + i) ∙ ap (λ j. mk p (getD s′ j 0)) (omega arith) ∙ ap (mk p) (f .fourth)
+    at₃ : T (3 + i) ≡ mk p z
+    at₃ = poly-at p s′ (3 + i) ∙ ap (λ j. mk p (getD s′ j 0)) (omega arith) ∙ ap (mk p) (f .fourth)
 
-    -- one of them, times its −c
-    term : (k j u t : ℕ) → S j ≡ mk p u → 1 + t ≡ k - j → times p (mk p u) (mk p (getD e t 0)) ≡ times p (S j) (minus p (rev (Zmod p) d g (k - j)))
-    term k j u t es et = ap₂ (times p) (sym es) (n t ∙ ap (λ m. minus p (rev (Zmod p) d g m)) et)
+    -- from the sums that the four words are the residues of
+    pub newton₀ : mk p (getD acc i 0) ≡ mk p w → Newton (Zmod p) d g T i
+    newton₀ r = at₀ ∙ sym r ∙ due-now i (omega arith) (omega arith) ∙ due-all (Zmod p) d g T i from
 
-    step : (k j u t : ℕ) → 1 ≤ j → S j ≡ mk p u → 1 + t ≡ k - j → (a : Elt p) → a ≡ due (Zmod p) d g S k j
-        → (m : ℕ) → 1 + j ≡ m → plus p a (times p (mk p u) (mk p (getD e t 0))) ≡ due (Zmod p) d g S k m
-    step k j u t l es et a ea m em = ap₂ (plus p) ea (term k j u t es et) ∙ sym (due-next (Zmod p) d g S k j l) ∙ ap (due (Zmod p) d g S k) em
-
-    -- the sums that the four words are the residues of
-    abbrev pub sum₁ : ℕ
-    sum₁ = getD acc (1 + i) 0 + w * getD e 0 0
-
-    abbrev pub sum₂ : ℕ
-    sum₂ = getD acc (2 + i) 0 + w * getD e 1 0 + x * getD e 0 0
-
-    abbrev pub sum₃ : ℕ
-    sum₃ = getD acc (3 + i) 0 + w * getD e 2 0 + x * getD e 1 0 + y * getD e 0 0
-
-    pub newton₀ : mk p (getD acc i 0) ≡ mk p w → Newton (Zmod p) d g S i
-    newton₀ r = first ∙ sym r ∙ now i (omega arith) (omega arith) ∙ due-all (Zmod p) d g S i from
-
-    pub newton₁ : mk p sum₁ ≡ mk p x → Newton (Zmod p) d g S (1 + i)
+    pub newton₁ : mk p (getD acc (1 + i) 0 + w * getD e 0 0) ≡ mk p x → Newton (Zmod p) d g T (1 + i)
     newton₁ r =
-        second ∙ sym r ∙ mk-add p (getD acc (1 + i) 0) (w * getD e 0 0) ∙ ap (plus p (mk p (getD acc (1 + i) 0))) (mk-mul p w (getD e 0 0))
-        ∙ step (1 + i) i w 0 from first (omega arith) _ (now (1 + i) (omega arith) (omega arith)) (1 + i) refl ∙ due-all (Zmod p) d g S (1 + i) (omega arith)
+        at₁ ∙ sym r ∙ one e s′ i w x y z from n at₀ at₁ at₂ at₃ (1 + i) _ (due-now (1 + i) (omega arith) (omega arith)) 0 (omega arith)
+        ∙ due-all (Zmod p) d g T (1 + i) (omega arith)
 
-    two : (k t₁ t₀ : ℕ) → k < length acc → 1 + t₁ ≡ k - i → 2 + t₀ ≡ k - i
-        → mk p (getD acc k 0 + w * getD e t₁ 0 + x * getD e t₀ 0) ≡ due (Zmod p) d g S k (2 + i)
-    two k t₁ t₀ m e₁ e₀ =
-        mk-add p (getD acc k 0 + w * getD e t₁ 0) (x * getD e t₀ 0)
-        ∙ ap₂ (plus p) (mk-add p (getD acc k 0) (w * getD e t₁ 0) ∙ ap (plus p (mk p (getD acc k 0))) (mk-mul p w (getD e t₁ 0))) (mk-mul p x (getD e t₀ 0))
-        ∙ step k (1 + i) x t₀ (omega arith) second (omega arith) _ (step k i w t₁ from first e₁ _ (now k (omega arith) m) (1 + i) refl) (2 + i) (omega arith)
+    pub newton₂ : mk p (getD acc (2 + i) 0 + w * getD e 1 0 + x * getD e 0 0) ≡ mk p y → Newton (Zmod p) d g T (2 + i)
+    newton₂ r =
+        at₂ ∙ sym r ∙ two e s′ i w x y z from n at₀ at₁ at₂ at₃ (2 + i) _ (due-now (2 + i) (omega arith) (omega arith)) 1 0 (omega arith) (omega arith)
+        ∙ due-all (Zmod p) d g T (2 + i) (omega arith)
 
-    three : (k t₂ t₁ t₀ : ℕ) → k < length acc → 1 + t₂ ≡ k - i → 2 + t₁ ≡ k - i → 3 + t₀ ≡ k - i
-        → mk p (getD acc k 0 + w * getD e t₂ 0 + x * getD e t₁ 0 + y * getD e t₀ 0) ≡ due (Zmod p) d g S k (3 + i)
-    three k t₂ t₁ t₀ m e₂ e₁ e₀ =
-        mk-add p (getD acc k 0 + w * getD e t₂ 0 + x * getD e t₁ 0) (y * getD e t₀ 0)
-        ∙ ap (plus p (mk p (getD acc k 0 + w * getD e t₂ 0 + x * getD e t₁ 0))) (mk-mul p y (getD e t₀ 0))
-        ∙ step k (2 + i) y t₀ (omega arith) third (omega arith) _ (two k t₂ t₁ m e₂ e₁) (3 + i) (omega arith)
+    pub newton₃ : mk p (getD acc (3 + i) 0 + w * getD e 2 0 + x * getD e 1 0 + y * getD e 0 0) ≡ mk p z → Newton (Zmod p) d g T (3 + i)
+    newton₃ r =
+        at₃ ∙ sym r
+        ∙ three e s′ i w x y z from n at₀ at₁ at₂ at₃ (3 + i) _ (due-now (3 + i) (omega arith) (omega arith)) 2 1 0 (omega arith) (omega arith) (omega arith)
+        ∙ due-all (Zmod p) d g T (3 + i) (omega arith)
 
-    pub newton₂ : mk p sum₂ ≡ mk p y → Newton (Zmod p) d g S (2 + i)
-    newton₂ r = third ∙ sym r ∙ two (2 + i) 1 0 (omega arith) (omega arith) (omega arith) ∙ due-all (Zmod p) d g S (2 + i) (omega arith)
+  -- the rows of four words that are known take what is due four places on, for the sums from `from` on; e′ is e from where these rows begin
+  module _ (e e′ acc acc′ s : List ℕ) (i from len : ℕ) (first : 1 ≤ i) (above : i + 4 ≤ from) (n : Negated e)
+      (part : (t : ℕ) → getD e′ t 0 ≡ getD e (from - (i + 4) + t) 0)
+      (added : RowsAdded acc e′ from len (getD s i 0) (getD s (1 + i) 0) (getD s (2 + i) 0) (getD s (3 + i) 0) acc′)
+      (past : from + len < length acc → (t : ℕ) → len ≤ t → getD e′ t 0 ≡ 0) (size : length acc′ ≡ length acc) where
+    abbrev word : ℕ → ℕ
+    word j = getD s j 0
 
-    pub newton₃ : mk p sum₃ ≡ mk p z → Newton (Zmod p) d g S (3 + i)
-    newton₃ r = fourth ∙ sym r ∙ three (3 + i) 2 1 0 (omega arith) (omega arith) (omega arith) (omega arith) ∙ due-all (Zmod p) d g S (3 + i) (omega arith)
-
-    -- the rows take what is due to the next four places
-    pub due-rows : (len : ℕ) (acc′ : List ℕ) → length acc′ ≡ length acc → RowsAdded acc e (i + 4) len w x y z acc′
-        → ((k : ℕ) → i + 4 + len ≤ k → k < length acc → (u : ℕ) → k - (i + 4) ≤ u → getD e u 0 ≡ 0) → Due acc′ s′ (i + 4)
-    due-rows len acc′ size added past k l m = go (decLt k (i + 4 + len))
+    row : (k : ℕ) → from ≤ k → k < length acc → Dec (k < from + len)
+        → getD acc′ k 0 ≡ row-more (getD acc k 0) e′ (k - from) (word i) (word (1 + i)) (word (2 + i)) (word (3 + i))
+    row k l m (yes h) =
+        let at : from + (k - from) ≡ k = omega arith in
+        ap (λ t. getD acc′ t 0) (sym at) ∙ added .inside (k - from) (omega arith)
+        ∙ ap (λ t. row-more (getD acc t 0) e′ (k - from) (word i) (word (1 + i)) (word (2 + i)) (word (3 + i))) at
+    row k l m (no h) =
+        added .after k (omega arith)
+        ∙ sym (ap₂ (λ a b. getD acc k 0 + word i * a + word (1 + i) * b + word (2 + i) * getD e′ (1 + (k - from)) 0 + word (3 + i) * getD e′ (k - from) 0)
+        (none (3 + (k - from)) (omega arith)) (none (2 + (k - from)) (omega arith))
+        ∙ ap₂ (λ a b. getD acc k 0 + word i * 0 + word (1 + i) * 0 + word (2 + i) * a + word (3 + i) * b) (none (1 + (k - from)) (omega arith))
+        (none (k - from) (omega arith))
+        ∙ omega (arith, N.mul-zero (word i), N.mul-zero (word (1 + i)), N.mul-zero (word (2 + i)), N.mul-zero (word (3 + i))))
       where
-        four : mk p (row-more (getD acc k 0) e (k - (i + 4)) w x y z) ≡ due (Zmod p) d g S k (i + 4)
-        four =
-            mk-add p (getD acc k 0 + w * getD e (3 + (k - (i + 4))) 0 + x * getD e (2 + (k - (i + 4))) 0 + y * getD e (1 + (k - (i + 4))) 0) (z * getD e (k -
-            (i + 4)) 0)
-            ∙ ap (plus p (mk p (getD acc k 0 + w * getD e (3 + (k - (i + 4))) 0 + x * getD e (2 + (k - (i + 4))) 0 + y * getD e (1 + (k - (i + 4))) 0)))
-            (mk-mul p z (getD e (k - (i + 4)) 0))
-            ∙ step k (3 + i) z (k - (i + 4)) (omega arith) fourth (omega arith) _ (three k (3 + (k - (i + 4))) (2 + (k - (i + 4))) (1 + (k - (i + 4))) (omega
-            arith) (omega arith) (omega arith) (omega arith))
-            (i + 4) (omega arith)
+        none : (t : ℕ) → k - from ≤ t → getD e′ t 0 ≡ 0
+        none t le = past (omega arith) t (omega arith)
 
-        none : (u : ℕ) → k - (i + 4) ≤ u → ¬ (k < i + 4 + len) → getD e u 0 ≡ 0
-        none u le out = past k (omega arith) (omega arith) u le
+    pub due-rows : Due acc s from i → Due acc′ s from (i + 4)
+    due-rows h k l m =
+        ap (mk p) (row k l (omega arith) (decLt k (from + len)) ∙ shifted)
+        ∙ four e s i (word i) (word (1 + i)) (word (2 + i)) (word (3 + i)) first n (poly-at p s i) (poly-at p s (1 + i)) (poly-at p s (2 + i))
+        (poly-at p s (3 + i)) k _ (h k l (omega arith)) (k - (i + 4)) (omega arith)
+      where
+        at : (u : ℕ) → getD e′ (u + (k - from)) 0 ≡ getD e (u + (k - (i + 4))) 0
+        at u = part (u + (k - from)) ∙ ap (λ t. getD e t 0) (omega arith)
 
-        go : Dec (k < i + 4 + len) → mk p (getD acc′ k 0) ≡ due (Zmod p) d g S k (i + 4)
-        go (yes h) =
-            let at : i + 4 + (k - (i + 4)) ≡ k = omega arith in
-            ap (λ t. mk p (getD acc′ t 0)) (sym at) ∙ ap (mk p) (added .inside (k - (i + 4)) (omega arith))
-            ∙ ap (λ t. mk p (row-more (getD acc t 0) e (k - (i + 4)) w x y z)) at ∙ four
-        go (no h) =
-            ap (mk p) (added .after k (omega arith)
-            ∙ sym (ap₂ (λ a b. getD acc k 0 + w * a + x * b + y * getD e (1 + (k - (i + 4))) 0 + z * getD e (k - (i + 4)) 0) (none (3 + (k - (i + 4))) (omega
-            arith) h) (none (2 + (k - (i + 4))) (omega arith) h)
-            ∙ ap₂ (λ a b. getD acc k 0 + w * 0 + x * 0 + y * a + z * b) (none (1 + (k - (i + 4))) (omega arith) h) (none (k - (i + 4)) (omega arith) h)
-            ∙ omega (arith, N.mul-zero w, N.mul-zero x, N.mul-zero y, N.mul-zero z)))
-            ∙ four
+        shifted : row-more (getD acc k 0) e′ (k - from) (word i) (word (1 + i)) (word (2 + i)) (word (3 + i))
+            ≡ row-more (getD acc k 0) e (k - (i + 4)) (word i) (word (1 + i)) (word (2 + i)) (word (3 + i))
+        shifted =
+            ap₂ (λ a b. getD acc k 0 + word i * a + word (1 + i) * b + word (2 + i) * getD e′ (1 + (k - from)) 0 + word (3 + i) * getD e′ (k - from) 0) (at 3) (at 2)
+            ∙ ap₂ (λ a b. getD acc k 0 + word i * getD e (3 + (k - (i + 4))) 0 + word (1 + i) * getD e (2 + (k - (i + 4))) 0 + word (2 + i) * a + word (3 + i) * b)
+            (at 1) (part (k - from) ∙ ap (λ t. getD e t 0) (omega arith))
 
   -- the words before i obey Newton's identities, and acc has what is due from i on
   pub record Known (acc s : List ℕ) (i : ℕ) : Type 0 where
     pub solved : Solved p (Newton (Zmod p) d g) s i
-    pub due-from : Due acc s i
+    pub due-from : Due acc s i i
 
 -- rows whose factors are known by their words
 pub same-rows : (acc e acc′ : List ℕ) (at len w x y z w′ x′ y′ z′ : ℕ) → w′ ≡ w → x′ ≡ x → y′ ≡ y → z′ ≡ z → RowsAdded acc e at len w′ x′ y′ z′ acc′
@@ -202,6 +216,16 @@ weights-all e acc₀ acc d n k end h cleared past j inside = go (decLt j k)
 -- Newton's identity at k reads the sequence up to k
 pub newton-causal : (p d : ℕ) (g : Seq (Zmod p)) → Causal p (Newton (Zmod p) d g)
 newton-causal p d g k a b e x = sym (e k (omega arith)) ∙ x ∙ newton-local (Zmod p) d g k a b (λ i l. e i (omega arith))
+
+-- words that are known already obey them
+pub front-solved : (p d : ℕ) (g : Seq (Zmod p)) (s : List ℕ) (n : ℕ) → ((k : ℕ) → k < n → Residue p (power-sums (Zmod p) d g k) (getD s k 0))
+    → Solved p (Newton (Zmod p) d g) s n
+front-solved p d g s n h = record {
+  reduced = λ k l. h k l .below;
+  equations = λ k l.
+      poly-at p s k ∙ h k l .class ∙ sums-obey (Zmod p) d g k
+      ∙ newton-local (Zmod p) d g k (power-sums (Zmod p) d g) (poly p s) (λ i m. sym (poly-at p s i ∙ h i (omega arith) .class));
+}
 
 -- no sum is larger than 254 residues
 pub weights-low : (e acc : List ℕ) (d : ℕ) → d ≤ 127 → Weights e acc → ((t : ℕ) → getD e t 0 < 2 ^ 28) → ((t : ℕ) → d ≤ t → getD e t 0 ≡ 0) → (k : ℕ)

@@ -18,7 +18,8 @@ ghost use Rattle.expansion.specs.Multiple.{Multiple};
 ghost use Rattle.barrett.specs.Modulus.{Prepared};
 ghost use Rattle.rows.specs.Rows.{Four};
 ghost use Rattle.expansion.specs.Equations.{ReducedTo};
-ghost use Rattle.expansion.specs.Sums.{Negated, Backwards, Weights, most-due, Known};
+ghost use Rattle.expansion.specs.Sums.{Negated, Backwards, Weights, most-due, Due, Known};
+ghost use Rattle.expansion.specs.Begun.{KnownSums};
 
 // l x + m y + n z
 pub fn weighted(l: u32, x: u32, m: u32, y: u32, n: u32, z: u32, p: u32) -> u32
@@ -102,13 +103,36 @@ fn put(out: &mut [u32], at: usize, w: u32, x: u32, y: u32, z: u32)
     out[at + 3] = z;
 }
 
+// The rows of the four power sums from i on, for those from `from` on.
+fn sums_rows(e: &[u64], d: usize, acc: &mut [u64], s: &[u32], i: usize, from: usize, p: u32)
+    requires { ⌜ (1 ≤ i) × (i + 4 ≤ from) × (from ≤ length (now acc)) × (length (now acc) ≤ 257) × (from ≤ i + 4 + d) × (d + 3 ≤ length (now e)) ⌝ }
+    requires { ⌜ (0 < p) × (p ≤ 2 ^ 28) × Reduced p (now e) × ((t : ℕ) → d ≤ t → getD (now e) t 0 ≡ 0) × ReducedTo p (now s) (i + 4) ⌝ }
+    requires { ⌜ ((k : ℕ) → getD (now acc) k 0 ≤ most-due i) ⌝ }
+    ensures { λ _. ⌜ ((k : ℕ) → getD (now (acc .exit)) k 0 ≤ most-due (i + 4)) ⌝ }
+    ensures { λ _. ⌜ ((g : Seq (Zmod p)) → Negated p d g (now (e .entry)) → Due p d g (now (acc .entry)) (now (s .entry)) from i
+        → Due p d g (now (acc .exit)) (now (s .entry)) from (i + 4)) ⌝ }
+{
+    let skip = from - (i + 4);
+    let len = rows::least(d - skip, acc.len() - from);
+    rows::add_rows(
+        acc,
+        from,
+        len,
+        &e[skip..],
+        rows::word(s, i),
+        rows::word(s, 1 + i),
+        rows::word(s, 2 + i),
+        rows::word(s, 3 + i),
+    );
+}
+
 // Four power sums from i on, each of which waits for the one before, and then their rows, for those that follow. (The factors are read back from s: of
 // remainders the compiler knows too much, and takes a product of 64 bits where the vectors have one of 32.)
 fn sums_turn(e: &[u64], d: usize, acc: &mut [u64], s: &mut [u32], i: usize, p: u32)
     requires { ⌜ (1 ≤ i) × (i + 4 ≤ length (now s)) × (length (now s) ≤ 257) × (length (now acc) ≡ length (now s)) × (d + 3 ≤ length (now e)) ⌝ }
-    requires { ⌜ (0 < p) × (p ≤ 2 ^ 28) × Reduced p (now e) × ((t : ℕ) → d ≤ t → getD (now e) t 0 ≡ 0) ⌝ }
+    requires { ⌜ (0 < p) × (p ≤ 2 ^ 28) × Reduced p (now e) × ((t : ℕ) → d ≤ t → getD (now e) t 0 ≡ 0) × ReducedTo p (now s) i ⌝ }
     requires { ⌜ ((k : ℕ) → getD (now acc) k 0 ≤ most-due i) ⌝ }
-    ensures { λ _. ⌜ ((k : ℕ) → getD (now (acc .exit)) k 0 ≤ most-due (i + 4)) ⌝ }
+    ensures { λ _. ⌜ ((k : ℕ) → getD (now (acc .exit)) k 0 ≤ most-due (i + 4)) × ReducedTo p (now (s .exit)) (i + 4) ⌝ }
     ensures { λ _. ⌜ ((g : Seq (Zmod p)) → Negated p d g (now (e .entry)) → Known p d g (now (acc .entry)) (now (s .entry)) i
         → Known p d g (now (acc .exit)) (now (s .exit)) (i + 4)) ⌝ }
 {
@@ -117,38 +141,45 @@ fn sums_turn(e: &[u64], d: usize, acc: &mut [u64], s: &mut [u32], i: usize, p: u
     let y = residue(acc[2 + i], w, e[1], x, e[0], 0, 0, p);
     let z = residue(acc[3 + i], w, e[2], x, e[1], y, e[0], p);
     put(s, i, w, x, y, z);
-    let len = rows::least(d, acc.len() - (i + 4));
-    rows::add_rows(
-        acc,
-        i + 4,
-        len,
-        e,
-        rows::word(s, i),
-        rows::word(s, 1 + i),
-        rows::word(s, 2 + i),
-        rows::word(s, 3 + i),
-    );
+    sums_rows(e, d, acc, s, i, i + 4, p);
 }
 
-// The turns, from the first word on. (The loop goes by acc, so that of a word that is read back not even its place is known.)
-fn sums_turns(e: &[u64], d: usize, acc: &mut [u64], s: &mut [u32], p: u32)
-    requires { ⌜ (1 ≤ length (now s)) × (length (now s) ≤ 257) × (length (now s) % 4 ≡ 1) × (length (now acc) ≡ length (now s)) × (d + 3 ≤ length (now e)) ⌝ }
-    requires { ⌜ (0 < p) × (p ≤ 2 ^ 28) × Reduced p (now e) × ((t : ℕ) → d ≤ t → getD (now e) t 0 ≡ 0) ⌝ }
+// The rows of the power sums before `from`, which are known.
+fn known_rows(e: &[u64], d: usize, acc: &mut [u64], s: &[u32], from: usize, p: u32)
+    requires { ⌜ (from % 4 ≡ 1) × (from ≤ d + 1) × (from ≤ length (now acc)) × (length (now acc) ≤ 257) × (d + 3 ≤ length (now e)) ⌝ }
+    requires { ⌜ (0 < p) × (p ≤ 2 ^ 28) × Reduced p (now e) × ((t : ℕ) → d ≤ t → getD (now e) t 0 ≡ 0) × ReducedTo p (now s) from ⌝ }
     requires { ⌜ ((k : ℕ) → getD (now acc) k 0 ≤ most-due 1) ⌝ }
-    ensures { λ _. ⌜ ((g : Seq (Zmod p)) → Negated p d g (now (e .entry)) → Known p d g (now (acc .entry)) (now (s .entry)) 1
-        → Known p d g (now (acc .exit)) (now (s .exit)) (length (now (s .entry)))) ⌝ }
+    ensures { λ _. ⌜ ((k : ℕ) → getD (now (acc .exit)) k 0 ≤ most-due from) ⌝ }
+    ensures { λ _. ⌜ ((g : Seq (Zmod p)) → Negated p d g (now (e .entry)) → Due p d g (now (acc .entry)) (now (s .entry)) from 1
+        → Due p d g (now (acc .exit)) (now (s .entry)) from from) ⌝ }
 {
     let mut i = 1;
+    while i < from {
+        sums_rows(e, d, acc, s, i, from, p);
+        i += 4;
+    }
+}
+
+// The turns, from `from` on. (The loop goes by acc, so that of a word that is read back not even its place is known.)
+fn sums_turns(e: &[u64], d: usize, acc: &mut [u64], s: &mut [u32], from: usize, p: u32)
+    requires { ⌜ (from % 4 ≡ 1) × (from ≤ length (now s)) × (length (now s) ≤ 257) × (length (now s) % 4 ≡ 1) × (length (now acc) ≡ length (now s)) ⌝ }
+    requires { ⌜ (d + 3 ≤ length (now e)) × (0 < p) × (p ≤ 2 ^ 28) × Reduced p (now e) × ((t : ℕ) → d ≤ t → getD (now e) t 0 ≡ 0) ⌝ }
+    requires { ⌜ ((k : ℕ) → getD (now acc) k 0 ≤ most-due from) × ReducedTo p (now s) from ⌝ }
+    ensures { λ _. ⌜ ((g : Seq (Zmod p)) → Negated p d g (now (e .entry)) → Known p d g (now (acc .entry)) (now (s .entry)) from
+        → Known p d g (now (acc .exit)) (now (s .exit)) (length (now (s .entry)))) ⌝ }
+{
+    let mut i = from;
     while i < acc.len() {
         sums_turn(e, d, acc, s, i, p);
         i += 4;
     }
 }
 
-// s = the power sums of g's roots, each counted twice; e is room for g and acc for the sums.
-pub fn power_sums(v: Values, g: &[u32], e: &mut [u64], acc: &mut [u64], s: &mut [u32])
+// s = the power sums of g's roots, each counted twice, where those up to `known` stand there already; e is room for g and acc for the sums.
+pub fn power_sums(v: Values, g: &[u32], e: &mut [u64], acc: &mut [u64], s: &mut [u32], known: usize)
     requires { ⌜ (Ready v) × HoldsG v (now g) ⌝ }
     requires { ⌜ (length (now s) ≤ 257) × (length (now s) % 4 ≡ 1) × (length (now acc) ≡ length (now s)) × (half v + 3 ≤ length (now e)) ⌝ }
+    requires { ⌜ (known ≤ half v) × (known < length (now s)) × KnownSums v (now g) (now s) known ⌝ }
     ensures { λ r. ⌜ Residues (v .p) (power-sums (Zmod (v .p)) (half v) (poly (v .p) (now (g .entry)))) (now (s .exit)) ⌝ }
 {
     let d = g.len() - 1;
@@ -156,7 +187,9 @@ pub fn power_sums(v: Values, g: &[u32], e: &mut [u64], acc: &mut [u64], s: &mut 
     negated(g, e, p);
     weights(e, d, acc);
     s[0] = field::reduce(field::wide(v.degree - 1), p);
-    sums_turns(e, d, acc, s, p);
+    let from = known / 4 * 4 + 1;
+    known_rows(e, d, acc, s, from, p);
+    sums_turns(e, d, acc, s, from, p);
 }
 
 // ── the expansion from the power sums
@@ -180,19 +213,23 @@ fn expansion_at(v: Values, s: &[u32], i: usize, y: u32, z: u32) -> u32
     )
 }
 
-// h = the expansion of N/g², from the power sums s. The multiples of A and B are added up, so that each word takes one remainder.
-pub fn expansion(v: Values, s: &[u32], h: &mut [u32])
+// h = the expansion of N/g², from the power sums s, where the words before `known` stand there already. The multiples of A and B are added up, so that
+// each word takes one remainder.
+pub fn expansion(v: Values, s: &[u32], h: &mut [u32], known: usize)
     requires { ⌜ Ready v ⌝ }
-    requires { ⌜ (0 < length (now h)) × (length (now h) < length (now s)) × (length (now s) ≤ 1024) × Reduced (v .p) (now s) ⌝ }
+    requires { ⌜ (0 < length (now h)) × (length (now h) < length (now s)) × (length (now s) ≤ 1024) × Reduced (v .p) (now s) × (known ≤ length (now h)) ⌝ }
+    requires { ⌜ ((k : ℕ) → k < known
+        → Residue (v .p) (expansion-of (Zmod (v .p)) (question v .A) (question v .B) (poly (v .p) (now s)) k) (getD (now h) k 0)) ⌝ }
     ensures { λ r. ⌜ Residues (v .p) (expansion-of (Zmod (v .p)) (question v .A) (question v .B) (poly (v .p) (now (s .entry)))) (now (h .exit)) ⌝ }
 {
     let p = v.p;
     let a = field::add(v.a, v.a, p);
     let b = field::add(v.b, v.b, p);
     h[0] = 0;
-    let mut i = 1;
-    let mut y = v.a;
-    let mut z = 0;
+    let mut i = poly::most(1, known);
+    let n = i as u32;
+    let mut y = field::multiply(2 * n - 1, v.a, p);
+    let mut z = field::multiply(2 * n - 2, v.b, p);
     while i < h.len() {
         h[i] = expansion_at(v, s, i, y, z);
         y = field::add(y, a, p);
@@ -242,20 +279,21 @@ fn recurs_at(v: Values, h: &[u32], squares: &[u32], k: usize, y: u32, z: u32) ->
     weighted(n - 2, u, 3, x, 0, 0, p) == 0
 }
 
-// The same wherever it can be read off h's words.
-fn recurs_by(v: Values, h: &[u32], squares: &[u32]) -> bool
+// The same from `from` on, wherever it can be read off h's words.
+fn recurs_by(v: Values, h: &[u32], squares: &[u32], from: usize) -> bool
     requires { ⌜ Ready v ⌝ }
-    requires { ⌜ (length (now h) ≤ 1024) × Reduced (v .p) (now h) ⌝ }
+    requires { ⌜ (length (now h) ≤ 1024) × Reduced (v .p) (now h) × (3 ≤ from) × (from ≤ length (now h)) ⌝ }
     requires { ⌜ (length (now h) ≤ length (now squares) + 3) × Squares (v .p) (now h) (now squares) ⌝ }
-    ensures { λ r. ⌜ (r ≡ true) ↔ ((k : ℕ) → 3 ≤ k → k < length (now (h .entry)) →
+    ensures { λ r. ⌜ (r ≡ true) ↔ ((k : ℕ) → from ≤ k → k < length (now (h .entry)) →
         Recurs (Zmod (v .p)) (question v .A) (question v .B) (poly (v .p) (now (h .entry))) k) ⌝ }
 {
     let p = v.p;
     let a = field::add(v.a, v.a, p);
     let b = field::add(v.b, v.b, p);
-    let mut k = 3;
-    let mut y = field::multiply(3, v.a, p);
-    let mut z = 0;
+    let mut k = from;
+    let n = k as u32;
+    let mut y = field::multiply(2 * n - 3, v.a, p);
+    let mut z = field::multiply(2 * n - 6, v.b, p);
     while k < h.len() {
         if !recurs_at(v, h, squares, k, y, z) {
             return false;
@@ -267,21 +305,22 @@ fn recurs_by(v: Values, h: &[u32], squares: &[u32]) -> bool
     true
 }
 
-// Does h obey the recurrence wherever it can be read off its words? All its sums are those of one square; e, acc and squares are its room.
+// Does h obey the recurrence from `from` on, wherever it can be read off its words? All its sums are those of one square; e, acc and squares are its room.
 pub fn recurs(
     v: Values,
     m: Modulus,
     h: &[u32],
+    from: usize,
     e: &mut [u64],
     acc: &mut [u64],
     squares: &mut [u32],
 ) -> bool
     requires { ⌜ (Ready v) × (Prepared m) × (m .p ≡ v .p) ⌝ }
-    requires { ⌜ (3 ≤ length (now h)) × (length (now h) ≤ 256) × Reduced (v .p) (now h) ⌝ }
+    requires { ⌜ (length (now h) ≤ 256) × Reduced (v .p) (now h) × (3 ≤ from) × (from ≤ length (now h)) ⌝ }
     requires { ⌜ (length (now squares) ≡ length (now h) - 3) × (length (now acc) ≡ length (now squares)) × (length (now h) + 5 ≤ length (now e)) ⌝ }
-    ensures { λ r. ⌜ (r ≡ true) ↔ ((k : ℕ) → 3 ≤ k → k < length (now (h .entry)) →
+    ensures { λ r. ⌜ (r ≡ true) ↔ ((k : ℕ) → from ≤ k → k < length (now (h .entry)) →
         Recurs (Zmod (v .p)) (question v .A) (question v .B) (poly (v .p) (now (h .entry))) k) ⌝ }
 {
     poly::square(&h[1..], e, acc, squares, m);
-    recurs_by(v, h, squares)
+    recurs_by(v, h, squares, from)
 }

@@ -14,7 +14,7 @@ ghost use Rattle.barrett.specs.Modulus.{Prepared};
 ghost use Rattle.rows.specs.Room.{turns};
 ghost use Rattle.poly.specs.Partial.{partial, Alone};
 
-fn most(x: usize, y: usize) -> usize
+pub fn most(x: usize, y: usize) -> usize
     ensures { λ r. ⌜ r ≡ max x y ⌝ }
 {
     if x < y { y } else { x }

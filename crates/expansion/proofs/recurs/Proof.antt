@@ -31,7 +31,7 @@ square-requires c κs =
       (
         over .1,
         subst (λ p. Reduced p (take (length (a .h .now) - 1) (drop 1 (a .h .now)))) (sym (over .2))
-            (part-below (a .h .now) 1 (length (a .h .now) - 1) (a .v .p) (search needs) (sizes .0 .2)),
+            (part-below (a .h .now) 1 (length (a .h .now) - 1) (a .v .p) (search needs) (sizes .0 .1)),
         turns-fit _ _ _ (omega (arith, over .2, over .0 .prime)) (omega (
           arith,
           sizes,
@@ -56,7 +56,7 @@ recurs-by-requires c κs =
     let square = at-square .square in (
       start .pre .0 .0,
       (
-        (omega (arith, sizes), sizes .0 .2),
+        (omega (arith, sizes), sizes .0 .1, sizes .0 .2, sizes .0 .3),
         (
           omega (arith, sizes, square .kept),
           squares-of (a .v .p) (a .h .now) (square .last .1 .1 .1 .0) (length (a .h .now) - 1) (omega arith) (omega (arith, sizes, square .kept))

@@ -12,17 +12,17 @@ use Rattle.sheet.specs.Values.{question}
 use Rattle.zmod.specs.Residues.{poly}
 use Rattle.isogeny.specs.Expansion.{Recurs}
 use Rattle.expansion.specs.Multiple.{Multiple}
-use Rattle.expansion.proofs.Turns.{none, thrice, two-more}
+use Rattle.expansion.proofs.Turns.{multiple, two-more}
 use Rattle.expansion.proofs.recurs_by.Statement.{statement}
 use Rattle.expansion.proofs.recurs_by.Tie as tie
 
 abbrev Inv-loop : tie.InvT-loop
-Inv-loop v h squares p a b k₀ y₀ z₀ k y z =
-    (3 ≤ k) × ((j : ℕ) → j < k → 3 ≤ j → Recurs (Zmod (v .p)) (question v .A) (question v .B) (poly (v .p) h) j)
+Inv-loop v h squares from p a b k₀ n y₀ z₀ k y z =
+    (from ≤ k) × ((j : ℕ) → j < k → from ≤ j → Recurs (Zmod (v .p)) (question v .A) (question v .B) (poly (v .p) h) j)
     × (Multiple (v .p) (2 * k - 3) (question v .A) y) × Multiple (v .p) (2 * k - 6) (question v .B) z
 
 abbrev μ-loop : tie.MeasureT-loop
-μ-loop v h squares p a b k₀ y₀ z₀ k y z = length h - k
+μ-loop v h squares from p a b k₀ n y₀ z₀ k y z = length h - k
 
 add-requires : tie.Need-add-requires Inv-loop μ-loop
 add-requires c κs = search needs
@@ -30,21 +30,45 @@ add-requires c κs = search needs
 add-requires-2 : tie.Need-add-requires-2 Inv-loop μ-loop
 add-requires-2 c κs = search needs
 
+cast-n : tie.Need-cast-n Inv-loop μ-loop
+cast-n c = search needs
+
+mul-multiply : tie.Need-mul-multiply Inv-loop μ-loop
+mul-multiply c = search needs
+
+sub-multiply : tie.Need-sub-multiply Inv-loop μ-loop
+sub-multiply c = search needs
+
 multiply-requires : tie.Need-multiply-requires Inv-loop μ-loop
 multiply-requires c κs = search needs
 
+mul-multiply-2 : tie.Need-mul-multiply-2 Inv-loop μ-loop
+mul-multiply-2 c = search needs
+
+sub-multiply-2 : tie.Need-sub-multiply-2 Inv-loop μ-loop
+sub-multiply-2 c = search needs
+
+multiply-requires-2 : tie.Need-multiply-requires-2 Inv-loop μ-loop
+multiply-requires-2 c κs = search needs
+
 loop-holds : tie.Need-loop-holds Inv-loop μ-loop
 loop-holds c =
-    let start = c .before .before .before .before .before in
-    let v = start .args .v in
-    (omega arith, (λ j l m. absurd (omega arith)), thrice (v .a) (c .multiply .result) (c .multiply .ensures), none (question v .B) (omega arith))
+    let at-multiply = c .before in
+    let start = at-multiply .before .before .before .before .before in
+    let a = start .args in
+    let v = a .v in (
+      omega arith,
+      (λ j l m. absurd (omega arith)),
+      multiple (2 * a .from - 3) (v .a) (at-multiply .multiply .result) (at-multiply .multiply .ensures),
+      multiple (2 * a .from - 6) (v .b) (c .multiply2 .result) (c .multiply2 .ensures),
+    )
 
 recurs-at-requires : tie.Need-recurs-at-requires Inv-loop μ-loop
 recurs-at-requires c κs =
     let at-loop = c .before in
-    let start = at-loop .before .before .before .before .before .before in
+    let start = at-loop .before .before .before .before .before .before .before in
     let inv = at-loop .loop .inv in
-    (start .pre .0, ((omega arith, omega arith, start .pre .1 .0 .0, start .pre .1 .0 .1), (start .pre .1 .1, (inv .2, inv .3))))
+    (start .pre .0, ((omega (arith, start .pre .1 .0), omega arith, start .pre .1 .0 .0, start .pre .1 .0 .1), (start .pre .1 .1, (inv .2, inv .3))))
 
 returns : tie.Need-returns Inv-loop μ-loop
 returns c =
@@ -57,7 +81,7 @@ returns c =
 add-requires-3 : tie.Need-add-requires-3 Inv-loop μ-loop
 add-requires-3 c κs =
     let at-loop = c .before .before .before in
-    let at-add = at-loop .before .before .before in (
+    let at-add = at-loop .before .before .before .before in (
       omega (arith, at-loop .loop .inv .2 .below),
       omega
           (arith, at-add .add .ensures .below),
@@ -67,7 +91,7 @@ add-requires-3 c κs =
 add-requires-4 : tie.Need-add-requires-4 Inv-loop μ-loop
 add-requires-4 c κs =
     let at-loop = c .before .before .before .before in
-    let at-add2 = at-loop .before .before in (
+    let at-add2 = at-loop .before .before .before in (
       omega (arith, at-loop .loop .inv .3 .below),
       omega
           (arith, at-add2 .add2 .ensures .below),
@@ -86,7 +110,7 @@ loop-again c =
     let at-if1 = at-add3 .before in
     let at-recurs-at = at-if1 .before in
     let at-loop = at-recurs-at .before .before in
-    let at-add2 = at-loop .before .before in
+    let at-add2 = at-loop .before .before .before in
     let at-add = at-add2 .before in
     let at-start = at-add .before .before .before in
     let v = at-start .args .v in
@@ -114,7 +138,13 @@ recurs-by-spec =
     μ-loop
     add-requires
     add-requires-2
+    cast-n
+    mul-multiply
+    sub-multiply
     multiply-requires
+    mul-multiply-2
+    sub-multiply-2
+    multiply-requires-2
     loop-holds
     recurs-at-requires
     returns

@@ -78,7 +78,7 @@ module _ (R : CRing) where
         cc (sum-same R (λ i. a (suc i) ⊗ rev R d g (suc k - suc i)) (λ i. b (suc i) ⊗ rev R d g (suc k - suc i)) k
         (λ i l. ap (λ x. x ⊗ rev R d g (suc k - suc i)) (e (suc i) (omega arith))))
 
-    sums-obey : (g : Seq R) (n : ℕ) → power-sums R d g n ≡ newton-step R d g n (power-sums R d g)
+    pub sums-obey : (g : Seq R) (n : ℕ) → power-sums R d g n ≡ newton-step R d g n (power-sums R d g)
     unfolding power-sums
     sums-obey g = fix-is Car 𝟘 (newton-step R d g) (newton-local g)
 
