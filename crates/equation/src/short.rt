@@ -10,36 +10,52 @@ ghost use Rattle.zmod.specs.Zmod.{Zmod};
 ghost use Rattle.zmod.specs.Residues.{Reduced, poly};
 ghost use Rattle.isogeny.specs.Rules.{N, R1, R3};
 ghost use Rattle.isogeny.specs.Expansion.{Short};
-ghost use Rattle.sheet.specs.Values.{question};
+ghost use Rattle.sheet.specs.Values.{half, question};
 ghost use Rattle.rules.specs.Over.{Over};
+ghost use Rattle.expansion.specs.Begun.{ShortTo, Begun};
 ghost use Rattle.sheet.specs.Ready.{Ready, HoldsG};
 
-// Are 5h₁ = A - Ã and 7h₂ = B - B̃, and does h obey the recurrence? e, acc and squares are room for that.
+// Are 5h₁ = A - Ã and 7h₂ = B - B̃? Nothing is asked where they are known to be.
+fn begins(v: Values, h: &[u32], known: usize) -> bool
+    requires { ⌜ (Ready v) × (3 ≤ length (now h)) × ShortTo (Zmod (v .p)) (question v) known (poly (v .p) (now h)) ⌝ }
+    ensures { λ r. ⌜ (r ≡ true) ↔ ShortTo (Zmod (v .p)) (question v) 3 (poly (v .p) (now (h .entry))) ⌝ }
+{
+    if 3 <= known {
+        return true;
+    }
+    let p = v.p;
+    if field::multiply(5, h[1], p) != field::subtract(v.a, v.atilde, p) {
+        return false;
+    }
+    field::multiply(7, h[2], p) == field::subtract(v.b, v.btilde, p)
+}
+
+// Does h, whose terms before `known` do, begin so and obey the recurrence? e, acc and squares are room for that.
 fn conditions(
     v: Values,
     m: Modulus,
     h: &[u32],
+    known: usize,
     e: &mut [u64],
     acc: &mut [u64],
     squares: &mut [u32],
 ) -> bool
     requires { ⌜ (Ready v) × Over v m × (length (now h) ≡ v .degree + 1) × (Reduced (v .p) (now h)) ⌝ }
     requires { ⌜ (length (now squares) ≡ v .degree - 2) × (length (now squares) ≤ length (now acc)) × (v .degree + 6 ≤ length (now e)) ⌝ }
+    requires { ⌜ (known ≤ v .degree) × ShortTo (Zmod (v .p)) (question v) known (poly (v .p) (now h)) ⌝ }
     ensures { λ r. ⌜ (r ≡ true) ↔ Short (Zmod (v .p)) (question v) (poly (v .p) (now (h .entry))) ⌝ }
 {
-    let p = v.p;
-    if field::multiply(5, h[1], p) != field::subtract(v.a, v.atilde, p) {
-        return false;
-    }
-    if field::multiply(7, h[2], p) != field::subtract(v.b, v.btilde, p) {
+    if !begins(v, h, known) {
         return false;
     }
     let k = squares.len();
-    expansion::recurs(v, m, h, e, &mut acc[..k], squares)
+    let from = poly::most(3, known);
+    expansion::recurs(v, m, h, from, e, &mut acc[..k], squares)
 }
 
-// Does R3 hold? s takes the power sums, h the expansion and squares the sums of the recurrence; e and acc are room for all of them.
-fn by_expansion_in(
+// Does R3 hold? s takes the power sums, h the expansion, of both of which the beginning may be there already, and squares the sums of the recurrence; e and
+// acc are room for all of them.
+pub fn by_expansion_in(
     v: Values,
     m: Modulus,
     g: &[u32],
@@ -48,17 +64,19 @@ fn by_expansion_in(
     s: &mut [u32],
     h: &mut [u32],
     squares: &mut [u32],
+    known: usize,
 ) -> bool
     requires { ⌜ (Ready v) × Over v m × (3 * v .degree - 3 < v .p) ⌝ }
     requires { ⌜ HoldsG v (now g) × R1 (Zmod (v .p)) (question v) (poly (v .p) (now g)) ⌝ }
     requires { ⌜ (v .degree + 2 ≤ length (now s)) × (length (now s) ≤ 257) × (length (now s) % 4 ≡ 1) × (length (now acc) ≡ length (now s)) ⌝ }
     requires { ⌜ (length (now h) ≡ v .degree + 1) × (length (now squares) ≡ v .degree - 2) × (v .degree + 6 ≤ length (now e)) ⌝ }
+    requires { ⌜ (known ≤ half v) × Begun v (now g) (now s) (now h) known ⌝ }
     ensures { λ r. ⌜ (r ≡ true) ↔ (R3 (Zmod (v .p)) (question v) (poly (v .p) (now (g .entry)))
         (N (Zmod (v .p)) (question v) (poly (v .p) (now (g .entry))))) ⌝ }
 {
-    expansion::power_sums(v, g, e, acc, s);
-    expansion::expansion(v, s, h);
-    conditions(v, m, h, e, acc, squares)
+    expansion::power_sums(v, g, e, acc, s, known);
+    expansion::expansion(v, s, h, known);
+    conditions(v, m, h, known, e, acc, squares)
 }
 
 // Room of three sizes, as for R2; the power sums are as many as fill whole turns. (As the result of a call its words stay out of the callers' proofs.)
@@ -95,6 +113,7 @@ fn by_expansion28(v: Values, m: Modulus, g: &[u32]) -> bool
         &mut s[..i],
         &mut h[..j],
         &mut squares[..k],
+        0,
     )
 }
 
@@ -131,6 +150,7 @@ fn by_expansion88(v: Values, m: Modulus, g: &[u32]) -> bool
         &mut s[..i],
         &mut h[..j],
         &mut squares[..k],
+        0,
     )
 }
 
@@ -167,6 +187,7 @@ fn by_expansion264(v: Values, m: Modulus, g: &[u32]) -> bool
         &mut s[..i],
         &mut h[..j],
         &mut squares[..k],
+        0,
     )
 }
 

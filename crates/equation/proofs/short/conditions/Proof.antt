@@ -1,49 +1,27 @@
--- `equation::short::conditions` meets its contract. Assumes nothing.
+-- `equation::short/conditions` meets its contract. Assumes nothing.
 use native.Mathlib.Omega.{arith}
 use lib.ListN.{length-take}
+use borrow.Author.Tests.{not-true, not-false}
+use Rattle.equation.proofs.Conditions.{begins-no, all}
 use borrow.Author.Needs.{needs}
-use Rattle.equation.proofs.Conditions.{first-no, second-no, all-yes}
 use Rattle.equation.proofs.short.conditions.Statement.{statement}
 use Rattle.equation.proofs.short.conditions.Tie as tie
 
-shared-slice-read-multiply : tie.Need-shared-slice-read-multiply
-shared-slice-read-multiply c = search needs
-
-multiply-requires : tie.Need-multiply-requires
-multiply-requires c κs = search needs
-
-subtract-requires : tie.Need-subtract-requires
-subtract-requires c κs = search needs
+begins-requires : tie.Need-begins-requires
+begins-requires c κs =
+    let start = c .before .before .before .before in
+    (start .pre .0 .0, omega (arith, start .pre .0 .2, start .pre .0 .0 .degree), start .pre .1 .1 .1)
 
 returns : tie.Need-returns
 returns c =
-    let at-subtract = c .before in
-    let at-multiply = at-subtract .before in
-    let at-start = at-multiply .before .before .before .before .before .before in
-    let a = at-start .args in
-    first-no (a .v) (a .h .now) (at-multiply .multiply .result) (at-subtract .subtract .result) (at-multiply .multiply .ensures) (at-subtract .subtract
-    .ensures) (c .if1 .taken)
+    let at-if1 = c in
+    let at-begins = at-if1 .before in
+    let start = at-begins .before .before .before .before .before in
+    let a = start .args in
+    begins-no (a .v) (a .h .now) (at-begins .begins .result) (at-begins .begins .ensures) (not-true (at-begins .begins .result) (at-if1 .if1 .taken))
 
-shared-slice-read-multiply-2 : tie.Need-shared-slice-read-multiply-2
-shared-slice-read-multiply-2 c = search needs
-
-multiply-requires-2 : tie.Need-multiply-requires-2
-multiply-requires-2 c κs = search needs
-
-subtract-requires-2 : tie.Need-subtract-requires-2
-subtract-requires-2 c κs = search needs
-
-returns-2 : tie.Need-returns-2
-returns-2 c =
-    let at-subtract2 = c .before in
-    let at-multiply2 = at-subtract2 .before in
-    let at-subtract = at-multiply2 .before .before .before in
-    let at-multiply = at-subtract .before in
-    let at-start = at-multiply .before .before .before .before .before .before in
-    let a = at-start .args in
-    second-no (a .v) (a .h .now) (at-multiply .multiply .result) (at-subtract .subtract .result) (at-multiply .multiply .ensures) (at-subtract .subtract
-    .ensures)
-    (at-multiply2 .multiply2 .result) (at-subtract2 .subtract2 .result) (at-multiply2 .multiply2 .ensures) (at-subtract2 .subtract2 .ensures) (c .if2 .taken)
+most-requires : tie.Need-most-requires
+most-requires c κs = search needs
 
 slice-relend-prefix-recurs : tie.Need-slice-relend-prefix-recurs
 slice-relend-prefix-recurs c = search needs
@@ -53,13 +31,19 @@ slice-aggregate-recurs c = simp length-take (omega arith)
 
 recurs-requires : tie.Need-recurs-requires
 recurs-requires c κs =
-    let start = c .before .before .before .before .before .before .before .before .before .before .before .before .before .before .before in
+    let at-most = c .before .before .before in
+    let start = at-most .before .before .before .before .before .before .before in
     let pre = start .pre in
     let ready = pre .0 .0 in (
       (ready, pre .0 .1 .prepared, pre .0 .1 .same),
       (
-        (omega (arith, pre .0 .2, ready .degree), omega (arith, pre .0 .2, ready .degree), pre .0 .3),
-        simp length-take (omega (arith, pre .0 .2, pre .1, ready .degree)),
+        (
+          omega (arith, pre .0 .2, ready .degree),
+          pre .0 .3,
+          omega (arith, at-most .most .ensures),
+          omega (arith, at-most .most .ensures, pre .0 .2, pre .1 .1 .0, ready .degree),
+        ),
+        simp length-take (omega (arith, pre .0 .2, pre .1 .0, ready .degree)),
       ),
     )
 
@@ -72,37 +56,17 @@ same-length-2 c = search needs
 same-length-3 : tie.Need-same-length-3
 same-length-3 c = search needs
 
-returns-3 : tie.Need-returns-3
-returns-3 c =
+returns-2 : tie.Need-returns-2
+returns-2 c =
     let at-recurs = c .before .before .before .before .before .before in
-    let at-if2 = at-recurs .before .before .before .before in
-    let at-subtract2 = at-if2 .before in
-    let at-multiply2 = at-subtract2 .before in
-    let at-if1 = at-multiply2 .before .before in
-    let at-subtract = at-if1 .before in
-    let at-multiply = at-subtract .before in
-    let start = at-multiply .before .before .before .before .before .before in
+    let at-most = at-recurs .before .before .before .before in
+    let at-if1 = at-most .before in
+    let at-begins = at-if1 .before in
+    let start = at-begins .before .before .before .before .before in
     let a = start .args in
-    all-yes (a .v) (a .h .now) (at-multiply .multiply .result) (at-subtract .subtract .result) (at-multiply .multiply .ensures) (at-subtract .subtract .ensures)
-    (at-multiply2 .multiply2 .result) (at-subtract2 .subtract2 .result) (at-multiply2 .multiply2 .ensures) (at-subtract2 .subtract2 .ensures)
-    (at-recurs .recurs .result) (start .pre .0 .0) (start .pre .0 .2) (at-if1 .if1 .left) (at-if2 .if2 .left) (at-recurs .recurs .ensures)
+    all (a .v) (a .h .now) (at-begins .begins .result) (at-begins .begins .ensures) (a .known) (at-most .most .result) (at-recurs .recurs .result)
+    (start .pre .0 .0) (start .pre .0 .2) (at-most .most .ensures) (start .pre .1 .1 .1) (not-false (at-begins .begins .result) (at-if1 .if1 .left))
+    (at-recurs .recurs .ensures)
 
 pub conditions-spec : {M : Type 1} → statement M
-conditions-spec =
-    tie.close
-    (tie.spec
-    shared-slice-read-multiply
-    multiply-requires
-    subtract-requires
-    returns
-    shared-slice-read-multiply-2
-    multiply-requires-2
-    subtract-requires-2
-    returns-2
-    slice-relend-prefix-recurs
-    slice-aggregate-recurs
-    recurs-requires
-    same-length
-    same-length-2
-    same-length-3
-    returns-3)
+conditions-spec = tie.close (tie.spec begins-requires returns most-requires slice-relend-prefix-recurs slice-aggregate-recurs recurs-requires same-length same-length-2 same-length-3 returns-2)
