@@ -14,11 +14,6 @@ ghost use Rattle.expansion.specs.Equations.{ReducedTo, Solved, Solves};
 ghost use Rattle.candidate.specs.Candidate.{Candidate};
 ghost use Rattle.candidate.specs.Equations.{HAt, SAt, CAt, Quotient};
 
-// Room for a table or a sequence. (As the result of a call its 256 words stay out of the callers' proofs.)
-fn blank() -> [u32; 256] {
-    [0; 256]
-}
-
 // y / k, by the table of inverses.
 fn divide(y: u32, k: usize, table: &[u32], p: u32) -> u32
     requires { ⌜ (0 < p) × (0 < k) × (k < length (now table)) × Inverses p (now table) ⌝ }
@@ -146,7 +141,7 @@ fn solution(
     requires { ⌜ Ready v ⌝ }
     requires { ⌜ (length (now table) ≡ 2 * half v + 2) × (length (now h) ≡ half v) ⌝ }
     requires { ⌜ (length (now s) ≡ half v + 1) × (length (now c) ≡ half v + 1) × (length (now g) ≡ half v + 1) ⌝ }
-    ensures { λ r. ⌜ Candidate v (now (g .exit)) ⌝ }
+    ensures { λ r. ⌜ Candidate v (now (h .exit)) (now (s .exit)) (now (g .exit)) ⌝ }
 {
     field::inverses(table, v.p);
     fill_h(v, table, h);
@@ -155,18 +150,21 @@ fn solution(
     expansion::reverse(c, g);
 }
 
-// g = the only polynomial that can meet the rules.
-pub fn candidate(v: Values, g: &mut [u32])
+// g = the only polynomial that can meet the rules; the front of h and s takes its expansion and its power sums. table and c are room.
+pub fn candidate(
+    v: Values,
+    table: &mut [u32],
+    h: &mut [u32],
+    s: &mut [u32],
+    c: &mut [u32],
+    g: &mut [u32],
+)
     requires { ⌜ Ready v ⌝ }
-    requires { ⌜ length (now g) ≡ half v + 1 ⌝ }
-    ensures { λ r. ⌜ Candidate v (now (g .exit)) ⌝ }
+    requires { ⌜ (length (now table) ≡ 2 * half v + 2) × (half v ≤ length (now h)) ⌝ }
+    requires { ⌜ (half v + 1 ≤ length (now s)) × (half v + 1 ≤ length (now c)) × (length (now g) ≡ half v + 1) ⌝ }
+    ensures { λ r. ⌜ Candidate v (now (h .exit)) (now (s .exit)) (now (g .exit)) ⌝ }
 {
-    let d = sheet::half_degree(v);
-    let n = d + 1;
-    let m = n + n;
-    let mut table = blank();
-    let mut h = blank();
-    let mut s = blank();
-    let mut c = blank();
-    solution(v, &mut table[..m], &mut h[..d], &mut s[..n], &mut c[..n], g);
+    let n = g.len();
+    let d = n - 1;
+    solution(v, table, &mut h[..d], &mut s[..n], &mut c[..n], g);
 }

@@ -1,101 +1,66 @@
 -- `candidate::candidate` meets its contract. Assumes nothing.
-use mathlib.Core.Path.{sym, _∙_}
-use Prim.Native.Nat.{_+_}
 use native.Mathlib.Omega.{arith}
+use Prim.Native.Nat.{_-_}
+use lib.ListN.{length, length-take, List·getD-append}
 use lib.Seq.{length-take-le}
+use mathlib.Core.Path.{sym}
+use Rattle.candidate.proofs.Only.{lent}
 use borrow.Author.Needs.{needs}
 use Rattle.candidate.proofs.candidate.Statement.{statement}
 use Rattle.candidate.proofs.candidate.Tie as tie
 
-half-degree-requires : tie.Need-half-degree-requires
-half-degree-requires c κs = search needs
+sub-d : tie.Need-sub-d
+sub-d c = search needs
 
-add-n : tie.Need-add-n
-add-n c = search needs
-
-add-m : tie.Need-add-m
-add-m c = search needs
-
-blank-requires : tie.Need-blank-requires
-blank-requires c κs = search needs
-
-blank-requires-2 : tie.Need-blank-requires-2
-blank-requires-2 c κs = search needs
-
-blank-requires-3 : tie.Need-blank-requires-3
-blank-requires-3 c κs = search needs
-
-blank-requires-4 : tie.Need-blank-requires-4
-blank-requires-4 c κs = search needs
-
-array-borrow-prefix-table : tie.Need-array-borrow-prefix-table
-array-borrow-prefix-table c = search needs
+slice-relend-prefix-solution : tie.Need-slice-relend-prefix-solution
+slice-relend-prefix-solution c = search needs
 
 slice-aggregate-solution : tie.Need-slice-aggregate-solution
 slice-aggregate-solution c = sym (length-take-le _ _ (search needs))
 
-array-borrow-prefix-h : tie.Need-array-borrow-prefix-h
-array-borrow-prefix-h c = search needs
+slice-relend-prefix-solution-2 : tie.Need-slice-relend-prefix-solution-2
+slice-relend-prefix-solution-2 c = search needs
 
 slice-aggregate-solution-2 : tie.Need-slice-aggregate-solution-2
 slice-aggregate-solution-2 c = sym (length-take-le _ _ (search needs))
 
-array-borrow-prefix-s : tie.Need-array-borrow-prefix-s
-array-borrow-prefix-s c = search needs
+slice-relend-prefix-solution-3 : tie.Need-slice-relend-prefix-solution-3
+slice-relend-prefix-solution-3 c = search needs
 
 slice-aggregate-solution-3 : tie.Need-slice-aggregate-solution-3
 slice-aggregate-solution-3 c = sym (length-take-le _ _ (search needs))
 
-array-borrow-prefix-c : tie.Need-array-borrow-prefix-c
-array-borrow-prefix-c c = search needs
-
-slice-aggregate-solution-4 : tie.Need-slice-aggregate-solution-4
-slice-aggregate-solution-4 c = sym (length-take-le _ _ (search needs))
-
 solution-requires : tie.Need-solution-requires
 solution-requires c κs =
-    let start = c .before .before .before .before .before .before .before .before .before .before .before in
-    let d = c .before .before .before .before .before .before .before .before .before .half-degree .result in (
-      start .pre .0,
-      (
-        (
-          length-take-le (d + 1 + (d + 1)) (c .before .before .before .before .before .before .before .before .blank .result) (search needs)
-              ∙ omega arith,
-          length-take-le d (c .before .before .before .before .before .before .before .blank2 .result) (search needs) ∙ omega arith,
-        ),
-        (
-          length-take-le (d + 1) (c .before .before .before .before .before .before .blank3 .result) (search needs) ∙ omega arith,
-          length-take-le (d + 1) (c .before .before .before .before .before .blank4 .result) (search needs) ∙ omega arith,
-          omega arith,
-        ),
-      ),
-    )
+    let start = c .before .before .before .before .before .before .before .before .before .before in
+    let pre = start .pre in
+    (pre .0, ((pre .1 .0 .0, simp length-take (omega (arith, pre))), (simp length-take (omega (arith, pre)), simp length-take (omega (arith, pre)), pre .1 .1 .2)))
 
 same-length : tie.Need-same-length
 same-length c = search needs
 
+same-length-2 : tie.Need-same-length-2
+same-length-2 c = search needs
+
+same-length-3 : tie.Need-same-length-3
+same-length-3 c = search needs
+
+same-length-4 : tie.Need-same-length-4
+same-length-4 c = search needs
+
+same-length-5 : tie.Need-same-length-5
+same-length-5 c = search needs
+
 returns : tie.Need-returns
-returns c = search needs
+returns c =
+    let at-solution = c .before .before .before .before .before .before .before .before .before .before in
+    let start = at-solution .before .before .before .before .before .before .before .before .before .before .before in
+    let a = start .args in
+    let made = at-solution .solution in
+    lent (a .v) (made .last .1 .1 .0) (made .last .1 .1 .1 .0) _ _ (made .last .1 .1 .1 .1 .1 .0) 
+    (λ k l. List·getD-append (made .last .1 .1 .0) _ 0 k (omega (arith, made .kept, length-take (length (a .g .now) - 1) (a .h .now), start .pre)))
+    (λ k l. List·getD-append (made .last .1 .1 .1 .0) _ 0 k (omega (arith, made .kept, length-take (length (a .g .now)) (a .s .now), start .pre)))
+    (made .ensures)
 
 pub candidate-spec : {M : Type 1} → statement M
-candidate-spec =
-    tie.close
-    (tie.spec
-    half-degree-requires
-    add-n
-    add-m
-    blank-requires
-    blank-requires-2
-    blank-requires-3
-    blank-requires-4
-    array-borrow-prefix-table
-    slice-aggregate-solution
-    array-borrow-prefix-h
-    slice-aggregate-solution-2
-    array-borrow-prefix-s
-    slice-aggregate-solution-3
-    array-borrow-prefix-c
-    slice-aggregate-solution-4
-    solution-requires
-    same-length
-    returns)
+candidate-spec = tie.close (tie.spec sub-d slice-relend-prefix-solution slice-aggregate-solution slice-relend-prefix-solution-2 slice-aggregate-solution-2 slice-relend-prefix-solution-3 slice-aggregate-solution-3 solution-requires same-length same-length-2 same-length-3 same-length-4 same-length-5 returns)
