@@ -3,31 +3,37 @@ use barrett::Modulus;
 use promises::Written;
 use sheet::Values;
 ghost use mathlib.Core.Path.{_≡_};
+ghost use mathlib.Core.Logic.{_↔_};
+ghost use mathlib.Core.Bool.{true};
 ghost use Prim.Native.Nat.{_+_, _*_};
 ghost use lib.ListN.{length};
 ghost use Rattle.zmod.specs.Zmod.{Zmod};
 ghost use Rattle.zmod.specs.Residues.{poly};
-ghost use Rattle.isogeny.specs.Rules.{N, R1, Meets};
+ghost use Rattle.isogeny.specs.Rules.{N, R1, R3};
 ghost use Rattle.sheet.specs.Values.{half, question};
 ghost use Rattle.sheet.specs.Ready.{Ready, HoldsG, HoldsN};
 ghost use Rattle.rules.specs.Over.{Over};
 ghost use Rattle.promises.specs.Asked.{Room};
 ghost use Rattle.certifying.specs.Certified.{Certified};
 
-// The certificate of a g that meets the rules, where n is its N.
-pub fn finish(v: Values, g: &[u32], n: &[u32], answer: &mut [u32]) -> Written
+// The certificate of a g with R1, where n is its N and `holds` says whether it has R3; else 11.
+pub fn finish(v: Values, g: &[u32], n: &[u32], holds: bool, answer: &mut [u32]) -> Written
     requires { ⌜ Ready v ⌝ }
-    requires { ⌜ HoldsG v (now g) × Meets (Zmod (v .p)) (question v) (poly (v .p) (now g)) ⌝ }
+    requires { ⌜ HoldsG v (now g) × R1 (Zmod (v .p)) (question v) (poly (v .p) (now g)) ⌝ }
     requires { ⌜ HoldsN v (now n) × (poly (v .p) (now n) ≡ N (Zmod (v .p)) (question v) (poly (v .p) (now g))) ⌝ }
+    requires { ⌜ (holds ≡ true) ↔ R3 (Zmod (v .p)) (question v) (poly (v .p) (now g)) (poly (v .p) (now n)) ⌝ }
     requires { ⌜ Room (length (now answer)) ⌝ }
     ensures { λ r. ⌜ Certified v (now (g .entry)) (now (answer .entry)) (now (answer .exit)) r ⌝ }
 {
+    if !holds {
+        return Written::Refused(11);
+    }
     let words = certificate::write(v, g, n, answer);
     let count = words as u32;
     Written::Count(count)
 }
 
-// The certificate of a g with R1 if it has R3 too, else 11; with room for N.
+// The certificate of a g with R1, or 11; with room for N.
 fn certify_in(v: Values, m: Modulus, g: &[u32], n: &mut [u32], answer: &mut [u32]) -> Written
     requires { ⌜ (Ready v) × Over v m ⌝ }
     requires { ⌜ HoldsG v (now g) × R1 (Zmod (v .p)) (question v) (poly (v .p) (now g)) ⌝ }
@@ -35,10 +41,8 @@ fn certify_in(v: Values, m: Modulus, g: &[u32], n: &mut [u32], answer: &mut [u32
     ensures { λ r. ⌜ Certified v (now (g .entry)) (now (answer .entry)) (now (answer .exit)) r ⌝ }
 {
     rules::numerator(v, m, g, n);
-    if !equation::rule_three(v, m, g, n) {
-        return Written::Refused(11);
-    }
-    finish(v, g, n, answer)
+    let holds = equation::rule_three(v, m, g, n);
+    finish(v, g, n, holds, answer)
 }
 
 // The same, with room of its own.

@@ -10,13 +10,19 @@ use Rattle.velu.proofs.completed_in.Tie as tie
 power-sums-requires : tie.Need-power-sums-requires
 power-sums-requires c κs =
     let start = c .before .before .before .before .before .before .before .before in
-    (start .pre .0, (omega arith, ap (λ n. n % 4) (start .pre .1 .2), omega arith, omega (arith, start .pre .1, start .pre .0 .0 .degree)))
+    (
+      start .pre .0,
+      (
+        (omega arith, ap (λ n. n % 4) (start .pre .1 .2), omega arith, omega (arith, start .pre .1, start .pre .0 .0 .degree)),
+        (omega arith, omega arith, λ l. absurd (omega arith)),
+      ),
+    )
 
 expansion-requires : tie.Need-expansion-requires
 expansion-requires c κs =
     let sums = c .before .before .before .before .before .before .before .before .power-sums in
     let start = c .before .before .before .before .before .before .before .before .before .before .before .before .before .before .before .before .before in
-    (start .pre .0 .0, (omega arith, omega arith, omega arith, sums .ensures .reduced))
+    (start .pre .0 .0, ((omega arith, omega arith, omega arith, sums .ensures .reduced, omega arith), λ k l. absurd (omega arith)))
 
 sub-second : tie.Need-sub-second
 sub-second c = search needs
