@@ -79,15 +79,7 @@ pub fn by_expansion_in(
     conditions(v, m, h, known, e, acc, squares)
 }
 
-// Room of three sizes, as for R2; the power sums are as many as fill whole turns. (As the result of a call its words stay out of the callers' proofs.)
-fn blank28() -> [u32; 28] {
-    [0; 28]
-}
-
-fn sums28() -> [u64; 28] {
-    [0; 28]
-}
-
+// In room of three sizes; the power sums are as many as fill whole turns.
 fn by_expansion28(v: Values, m: Modulus, g: &[u32]) -> bool
     requires { ⌜ (Ready v) × Over v m × (3 * v .degree - 3 < v .p) × (v .degree ≤ 21) ⌝ }
     requires { ⌜ HoldsG v (now g) × R1 (Zmod (v .p)) (question v) (poly (v .p) (now g)) ⌝ }
@@ -99,11 +91,11 @@ fn by_expansion28(v: Values, m: Modulus, g: &[u32]) -> bool
     let j = n + 1;
     let k = n - 2;
     let c = n + 6;
-    let mut e = sums28();
-    let mut acc = sums28();
-    let mut s = blank28();
-    let mut h = blank28();
-    let mut squares = blank28();
+    let mut e = rows::sums28();
+    let mut acc = rows::sums28();
+    let mut s = rows::blank28();
+    let mut h = rows::blank28();
+    let mut squares = rows::blank28();
     by_expansion_in(
         v,
         m,
@@ -115,14 +107,6 @@ fn by_expansion28(v: Values, m: Modulus, g: &[u32]) -> bool
         &mut squares[..k],
         0,
     )
-}
-
-fn blank88() -> [u32; 88] {
-    [0; 88]
-}
-
-fn sums88() -> [u64; 88] {
-    [0; 88]
 }
 
 fn by_expansion88(v: Values, m: Modulus, g: &[u32]) -> bool
@@ -136,11 +120,11 @@ fn by_expansion88(v: Values, m: Modulus, g: &[u32]) -> bool
     let j = n + 1;
     let k = n - 2;
     let c = n + 6;
-    let mut e = sums88();
-    let mut acc = sums88();
-    let mut s = blank88();
-    let mut h = blank88();
-    let mut squares = blank88();
+    let mut e = rows::sums88();
+    let mut acc = rows::sums88();
+    let mut s = rows::blank88();
+    let mut h = rows::blank88();
+    let mut squares = rows::blank88();
     by_expansion_in(
         v,
         m,
@@ -154,14 +138,6 @@ fn by_expansion88(v: Values, m: Modulus, g: &[u32]) -> bool
     )
 }
 
-fn blank264() -> [u32; 264] {
-    [0; 264]
-}
-
-fn sums264() -> [u64; 264] {
-    [0; 264]
-}
-
 fn by_expansion264(v: Values, m: Modulus, g: &[u32]) -> bool
     requires { ⌜ (Ready v) × Over v m × (3 * v .degree - 3 < v .p) ⌝ }
     requires { ⌜ HoldsG v (now g) × R1 (Zmod (v .p)) (question v) (poly (v .p) (now g)) ⌝ }
@@ -173,11 +149,11 @@ fn by_expansion264(v: Values, m: Modulus, g: &[u32]) -> bool
     let j = n + 1;
     let k = n - 2;
     let c = n + 6;
-    let mut e = sums264();
-    let mut acc = sums264();
-    let mut s = blank264();
-    let mut h = blank264();
-    let mut squares = blank264();
+    let mut e = rows::sums264();
+    let mut acc = rows::sums264();
+    let mut s = rows::blank264();
+    let mut h = rows::blank264();
+    let mut squares = rows::blank264();
     by_expansion_in(
         v,
         m,

@@ -153,3 +153,29 @@ pub fn square(a: &[u32], e: &mut [u64], acc: &mut [u64], p: u32)
     clear(acc);
     square_turns(a, e, acc, p);
 }
+
+// Room of three sizes, so that small degrees clear little: for ℓ up to 21, up to 79, and for all. (As the result of a call its words stay out of the callers'
+// proofs.)
+pub fn blank28() -> [u32; 28] {
+    [0; 28]
+}
+
+pub fn sums28() -> [u64; 28] {
+    [0; 28]
+}
+
+pub fn blank88() -> [u32; 88] {
+    [0; 88]
+}
+
+pub fn sums88() -> [u64; 88] {
+    [0; 88]
+}
+
+pub fn blank264() -> [u32; 264] {
+    [0; 264]
+}
+
+pub fn sums264() -> [u64; 264] {
+    [0; 264]
+}

@@ -219,17 +219,8 @@ fn numerator_in(
     sum_of_parts(v, square, slope, bend, out);
 }
 
-// Room of three sizes, so that small degrees clear little: for ℓ up to 21, up to 79, and for all. (As the result of a call its words stay out of the
-// callers' proofs.)
-fn blank24() -> [u32; 24] {
-    [0; 24]
-}
-
-fn sums24() -> [u64; 24] {
-    [0; 24]
-}
-
-fn numerator24(v: Values, m: Modulus, g: &[u32], out: &mut [u32])
+// In room of three sizes.
+fn numerator28(v: Values, m: Modulus, g: &[u32], out: &mut [u32])
     requires { ⌜ (Ready v) × HoldsG v (now g) × Over v m ⌝ }
     requires { ⌜ (length (now out) ≡ 2 * half v + 2) × (half v ≤ 10) ⌝ }
     ensures { λ _. ⌜ Residues (v .p) (N (Zmod (v .p)) (question v) (poly (v .p) (now (g .entry)))) (now (out .exit)) ⌝ }
@@ -239,13 +230,13 @@ fn numerator24(v: Values, m: Modulus, g: &[u32], out: &mut [u32])
     let j = 2 * d;
     let k = 2 * d - 1;
     let c = d + 7;
-    let mut e = sums24();
-    let mut acc = sums24();
-    let mut h = blank24();
-    let mut q = blank24();
-    let mut square = blank24();
-    let mut slope = blank24();
-    let mut bend = blank24();
+    let mut e = rows::sums28();
+    let mut acc = rows::sums28();
+    let mut h = rows::blank28();
+    let mut q = rows::blank28();
+    let mut square = rows::blank28();
+    let mut slope = rows::blank28();
+    let mut bend = rows::blank28();
     numerator_in(
         v,
         m,
@@ -261,15 +252,7 @@ fn numerator24(v: Values, m: Modulus, g: &[u32], out: &mut [u32])
     );
 }
 
-fn blank80() -> [u32; 80] {
-    [0; 80]
-}
-
-fn sums80() -> [u64; 80] {
-    [0; 80]
-}
-
-fn numerator80(v: Values, m: Modulus, g: &[u32], out: &mut [u32])
+fn numerator88(v: Values, m: Modulus, g: &[u32], out: &mut [u32])
     requires { ⌜ (Ready v) × HoldsG v (now g) × Over v m ⌝ }
     requires { ⌜ (length (now out) ≡ 2 * half v + 2) × (half v ≤ 39) ⌝ }
     ensures { λ _. ⌜ Residues (v .p) (N (Zmod (v .p)) (question v) (poly (v .p) (now (g .entry)))) (now (out .exit)) ⌝ }
@@ -279,13 +262,13 @@ fn numerator80(v: Values, m: Modulus, g: &[u32], out: &mut [u32])
     let j = 2 * d;
     let k = 2 * d - 1;
     let c = d + 7;
-    let mut e = sums80();
-    let mut acc = sums80();
-    let mut h = blank80();
-    let mut q = blank80();
-    let mut square = blank80();
-    let mut slope = blank80();
-    let mut bend = blank80();
+    let mut e = rows::sums88();
+    let mut acc = rows::sums88();
+    let mut h = rows::blank88();
+    let mut q = rows::blank88();
+    let mut square = rows::blank88();
+    let mut slope = rows::blank88();
+    let mut bend = rows::blank88();
     numerator_in(
         v,
         m,
@@ -301,15 +284,7 @@ fn numerator80(v: Values, m: Modulus, g: &[u32], out: &mut [u32])
     );
 }
 
-fn blank256() -> [u32; 256] {
-    [0; 256]
-}
-
-fn sums256() -> [u64; 256] {
-    [0; 256]
-}
-
-fn numerator256(v: Values, m: Modulus, g: &[u32], out: &mut [u32])
+fn numerator264(v: Values, m: Modulus, g: &[u32], out: &mut [u32])
     requires { ⌜ (Ready v) × HoldsG v (now g) × Over v m ⌝ }
     requires { ⌜ length (now out) ≡ 2 * half v + 2 ⌝ }
     ensures { λ _. ⌜ Residues (v .p) (N (Zmod (v .p)) (question v) (poly (v .p) (now (g .entry)))) (now (out .exit)) ⌝ }
@@ -319,13 +294,13 @@ fn numerator256(v: Values, m: Modulus, g: &[u32], out: &mut [u32])
     let j = 2 * d;
     let k = 2 * d - 1;
     let c = d + 7;
-    let mut e = sums256();
-    let mut acc = sums256();
-    let mut h = blank256();
-    let mut q = blank256();
-    let mut square = blank256();
-    let mut slope = blank256();
-    let mut bend = blank256();
+    let mut e = rows::sums264();
+    let mut acc = rows::sums264();
+    let mut h = rows::blank264();
+    let mut q = rows::blank264();
+    let mut square = rows::blank264();
+    let mut slope = rows::blank264();
+    let mut bend = rows::blank264();
     numerator_in(
         v,
         m,
@@ -348,12 +323,12 @@ pub fn numerator(v: Values, m: Modulus, g: &[u32], out: &mut [u32])
     ensures { λ _. ⌜ Residues (v .p) (N (Zmod (v .p)) (question v) (poly (v .p) (now (g .entry)))) (now (out .exit)) ⌝ }
 {
     if g.len() <= 11 {
-        numerator24(v, m, g, out);
+        numerator28(v, m, g, out);
         return;
     }
     if g.len() <= 40 {
-        numerator80(v, m, g, out);
+        numerator88(v, m, g, out);
         return;
     }
-    numerator256(v, m, g, out);
+    numerator264(v, m, g, out);
 }

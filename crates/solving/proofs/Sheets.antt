@@ -25,12 +25,12 @@ use Rattle.candidate.specs.Candidate.{Candidate}
 use Rattle.solving.specs.Solved.{Solved}
 
 -- what becomes of the only polynomial that can meet the rules
-pub solved : (v : Values) (g before after : List ℕ) → Candidate v g → (r : Written) → Certified v g before after r → Solved v before after r
-solved v g before after only (Count c) h = h .certificate
-solved v g before after only (Refused k) h = record {
-  number = h .number;
-  none = λ s. h .unmet (subst (λ a. Meets (Zmod (v .p)) (question v) a) (only .only (s .g) (s .meets)) (s .meets));
-  kept = h .kept;
+pub solved : (v : Values) (h s g before after : List ℕ) → Candidate v h s g → (r : Written) → Certified v g before after r → Solved v before after r
+solved v h s g before after only (Count c) made = made .certificate
+solved v h s g before after only (Refused k) made = record {
+  number = made .number;
+  none = λ t. made .unmet (subst (λ a. Meets (Zmod (v .p)) (question v) a) (only .only (t .g) (t .meets)) (t .meets));
+  kept = made .kept;
 }
 
 module _ (ws before : List ℕ) where

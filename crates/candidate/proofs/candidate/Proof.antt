@@ -57,7 +57,7 @@ returns c =
     let start = at-solution .before .before .before .before .before .before .before .before .before .before .before in
     let a = start .args in
     let made = at-solution .solution in
-    lent (a .v) (made .last .1 .1 .0) (made .last .1 .1 .1 .0) _ _ (made .last .1 .1 .1 .1 .1 .0) 
+    lent (a .v) (made .last .1 .1 .0) (made .last .1 .1 .1 .0) _ _ (made .last .1 .1 .1 .1 .1 .0)
     (λ k l. List·getD-append (made .last .1 .1 .0) _ 0 k (omega (arith, made .kept, length-take (length (a .g .now) - 1) (a .h .now), start .pre)))
     (λ k l. List·getD-append (made .last .1 .1 .1 .0) _ 0 k (omega (arith, made .kept, length-take (length (a .g .now)) (a .s .now), start .pre)))
     (made .ensures)

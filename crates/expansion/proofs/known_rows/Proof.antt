@@ -29,8 +29,7 @@ sums-rows-requires c κs =
     let at-loop = c .before .before in
     let start = at-loop .before .before .before .before in
     let loop = at-loop .loop in
-    let pre = start .pre .1 .0 in
-    (
+    let pre = start .pre .1 .0 in (
       omega (arith, start .pre .0, loop .inv .0, loop .inv .2, loop .inv .3),
       (
         (pre .0, pre .1, pre .2, pre .3, λ j l. pre .4 j (omega (arith, start .pre .0, loop .inv .2))),
@@ -68,8 +67,7 @@ returns c =
     let start = at-loop .before .before .before .before in
     let a = start .args in
     let loop = at-loop .loop in
-    let end : loop .i ≡ a .from = omega (arith, loop .inv .3) in
-    (
+    let end : loop .i ≡ a .from = omega (arith, loop .inv .3) in (
       subst (λ n. (k : ℕ) → getD (loop .acc) k 0 ≤ most-due n) end (loop .inv .4),
       λ g n h. subst (Due (a .p) (a .d) g (loop .acc) (a .s .now) (a .from)) end (loop .inv .5 g n h),
     )

@@ -190,8 +190,7 @@ returns c =
     let z = at-residue3 .residue3 in
     let put = at-put .put in
     let rows = at-sums-rows .sums-rows in
-    let s = put .last .0 in
-    (
+    let s = put .last .0 in (
       (
         rows .ensures .0,
         reduced-four (a .p) (a .s .now) s (a .i) _ _ _ _ (put .ensures) (w .ensures .below) (x .ensures .below) (y .ensures .below) (z .ensures .below)

@@ -1,52 +1,49 @@
 -- `solving::solve_values` meets its contract. Assumes nothing.
-use borrow.Author.Needs.{needs}
-use mathlib.Core.Path.{sym}
 use native.Mathlib.Omega.{arith}
-use lib.ListN.{length-take}
-use lib.Seq.{length-take-le}
+use borrow.Author.Needs.{needs}
 use Rattle.solving.proofs.solve_values.Statement.{statement}
 use Rattle.solving.proofs.solve_values.Tie as tie
 
-half-degree-requires : tie.Need-half-degree-requires
-half-degree-requires c κs = search needs
-
-add-count : tie.Need-add-count
-add-count c = search needs
-
-blank128-requires : tie.Need-blank128-requires
-blank128-requires c κs = search needs
-
-array-borrow-prefix-g : tie.Need-array-borrow-prefix-g
-array-borrow-prefix-g c =
-    let half = c .before in
-    omega (arith, half .half-degree .ensures, half .before .before .pre .0 .degree)
-
-slice-aggregate-solve-in : tie.Need-slice-aggregate-solve-in
-slice-aggregate-solve-in c =
-    let half = c .before .before in
-    sym (length-take-le _ _ (omega (arith, half .half-degree .ensures, half .before .before .pre .0 .degree)))
-
-solve-in-requires : tie.Need-solve-in-requires
-solve-in-requires c κs =
-    let half = c .before .before .before in
-    let start = half .before .before in
-    (start .pre .0, (simp length-take (omega (arith, half .half-degree .ensures, start .pre .0 .degree)), start .pre .1))
+solve28-requires : tie.Need-solve28-requires
+solve28-requires c κs =
+    let at-if1 = c .before in
+    let start = at-if1 .before .before .before in
+    (start .pre .0, (omega (arith, at-if1 .if1 .taken), start .pre .1))
 
 same-length : tie.Need-same-length
 same-length c = search needs
 
 returns : tie.Need-returns
-returns c = c .before .before .before .solve-in .ensures
+returns c =
+    let at-solve28 = c .before .before in
+    at-solve28 .solve28 .ensures
+
+solve88-requires : tie.Need-solve88-requires
+solve88-requires c κs =
+    let at-if2 = c .before in
+    let start = at-if2 .before .before .before .before .before in
+    (start .pre .0, (omega (arith, at-if2 .if2 .taken), start .pre .1))
+
+same-length-2 : tie.Need-same-length-2
+same-length-2 c = search needs
+
+returns-2 : tie.Need-returns-2
+returns-2 c =
+    let at-solve88 = c .before .before in
+    at-solve88 .solve88 .ensures
+
+solve264-requires : tie.Need-solve264-requires
+solve264-requires c κs =
+    let start = c .before .before .before .before .before .before in
+    (start .pre .0, start .pre .1)
+
+same-length-3 : tie.Need-same-length-3
+same-length-3 c = search needs
+
+returns-3 : tie.Need-returns-3
+returns-3 c =
+    let at-solve264 = c .before .before in
+    at-solve264 .solve264 .ensures
 
 pub solve-values-spec : {M : Type 1} → statement M
-solve-values-spec =
-    tie.close
-    (tie.spec
-    half-degree-requires
-    add-count
-    blank128-requires
-    array-borrow-prefix-g
-    slice-aggregate-solve-in
-    solve-in-requires
-    same-length
-    returns)
+solve-values-spec = tie.close (tie.spec solve28-requires same-length returns solve88-requires same-length-2 returns-2 solve264-requires same-length-3 returns-3)

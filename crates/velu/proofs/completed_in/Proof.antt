@@ -9,8 +9,7 @@ use Rattle.velu.proofs.completed_in.Tie as tie
 
 power-sums-requires : tie.Need-power-sums-requires
 power-sums-requires c κs =
-    let start = c .before .before .before .before .before .before .before .before in
-    (
+    let start = c .before .before .before .before .before .before .before .before in (
       start .pre .0,
       (
         (omega arith, ap (λ n. n % 4) (start .pre .1 .2), omega arith, omega (arith, start .pre .1, start .pre .0 .0 .degree)),
@@ -46,7 +45,13 @@ slice-read-less-multiple-2 : tie.Need-slice-read-less-multiple-2
 slice-read-less-multiple-2 c = search needs
 
 less-multiple-requires-2 : tie.Need-less-multiple-requires-2
-less-multiple-requires-2 c κs = search needs
+less-multiple-requires-2 c κs =
+    let start =
+    c .before .before .before .before .before .before .before .before .before .before .before .before .before .before .before .before .before .before .before
+    .before .before .before .before .before .before
+    in
+    let ready = start .pre .0 .0 in
+    (ready .below .b, omega (arith, ready .prime))
 
 negate-requires : tie.Need-negate-requires
 negate-requires c κs = search needs
