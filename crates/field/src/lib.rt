@@ -2,7 +2,7 @@
 // product, .. of the classes of its arguments. `Residue p x r` says that r is the residue of the element x, `InverseOf p a r` that r is the inverse
 // of a.
 ghost use mathlib.Core.Path.{_≡_};
-ghost use Prim.Native.Nat.{_+_, _*_, _^_, _<_, _≤_};
+ghost use Prim.Native.Nat.{_+_, _*_, _%_, _^_, _<_, _≤_};
 ghost use Rattle.ring.specs.Ring.{pow};
 ghost use Rattle.slices.specs.Filling.{Filled};
 ghost use Rattle.zmod.specs.Zmod.{Zmod, mk, plus, minus, times};
@@ -122,7 +122,16 @@ pub fn inverse_by_euclid(a: u32, p: u32) -> u32
     multiply(s, u, p)
 }
 
-// The entry at k of a table of inverses that is filled up to k: −(p / k) times the inverse of p % k, since (p % k) + k (p / k) is 0 modulo p.
+// y / 2 modulo p: the half of y or of y + p, whichever is even. (y + p might not fit a word.)
+fn halve(y: u32, p: u32) -> u32
+    requires { ⌜ (y < p) × (p % 2 ≡ 1) ⌝ }
+    ensures { λ r. ⌜ (r < p) × (times p (mk p 2) (mk p r) ≡ mk p y) ⌝ }
+{
+    if y % 2 == 0 { y / 2 } else { y / 2 + p / 2 + 1 }
+}
+
+// The entry at k of a table of inverses that is filled up to k. For an even k it is half of the one at k / 2, which takes no division by p; for an odd one
+// −(p / k) times the inverse of p % k, since (p % k) + k (p / k) is 0 modulo p.
 fn entry(table: &[u32], k: u32, p: u32) -> u32
     requires { ⌜ Prime p ⌝ }
     requires { do ⌜ (k < p) × (k < (← ⟦table.len()⟧)) ⌝ }
@@ -132,12 +141,16 @@ fn entry(table: &[u32], k: u32, p: u32) -> u32
     if k < 2 {
         return k;
     }
+    if k % 2 == 0 {
+        let half = (k / 2) as usize;
+        return halve(table[half], p);
+    }
     let q = p - p / k;
     let i = (p % k) as usize;
     multiply(q, table[i], p)
 }
 
-// The inverses of 1, 2, .., each from smaller ones: one division and one product for each. At place 0 stands 0.
+// The inverses of 1, 2, .., each from a smaller one: a division and a product for each odd one. At place 0 stands 0.
 pub fn inverses(out: &mut [u32], p: u32)
     requires { ⌜ Prime p ⌝ }
     requires { do ⌜ (← ⟦out.len()⟧) ≤ p ⌝ }
