@@ -318,7 +318,37 @@ fn rule_three_in<const ROOM: usize>(v: Values, m: Modulus, g: &[u32]) -> bool {
     recurs(v, m, h, e, &mut acc[..n - 3], squares)
 }
 
-/// g from the codomain: the inverses, h by the recurrence, s from h, c by Newton's identities, and c reversed.
+/// y / 2: the half of y or of y + p, whichever is even.
+#[inline(always)]
+fn halve(y: u32, p: u32) -> u32 {
+    if y.is_multiple_of(2) {
+        y / 2
+    } else {
+        y / 2 + p / 2 + 1
+    }
+}
+
+/// The inverse of k, from 2 on, by those of smaller numbers.
+#[inline(always)]
+fn entry(table: &[u32], k: u32, p: u32) -> u32 {
+    if k.is_multiple_of(2) {
+        halve(at(table, (k / 2) as usize), p)
+    } else {
+        times(p - p / k, at(table, (p % k) as usize), p)
+    }
+}
+
+/// The sum of s_i c_(k-i), i from 2 to k.
+#[inline(always)]
+fn far_sum(s: &[u32], c: &[u32], k: usize, p: u32) -> u32 {
+    if k == 1 {
+        return 0;
+    }
+    coefficient(0, &s[2..], &c[..k - 1], k - 2, p)
+}
+
+/// g from the codomain: the inverses, h by the recurrence, s from h, c by Newton's identities, and c reversed. The multiples of -A and -B are added up, and
+/// of c's remainders only the last of a turn waits for the word before.
 pub fn candidate(v: Values, g: &mut [u32]) {
     let p = v.p;
     let d = g.len() - 1;
@@ -326,40 +356,45 @@ pub fn candidate(v: Values, g: &mut [u32]) {
     let (mut table, mut h, mut s, mut c) = ([0u32; 256], [0u32; 256], [0u32; 256], [0u32; 256]);
     put(&mut table, 1, 1);
     for k in 2..2 * d as u32 + 2 {
-        let x = times(p - p / k, at(&table, (p % k) as usize), p);
+        let x = entry(&table, k, p);
         put(&mut table, k as usize, x);
     }
     let over = |y: u32, k: usize| times(at(&table, k), y, p);
-    for k in 1..d {
-        let n = k as u32;
-        let x = match k {
-            1 => over(sub(v.a, v.atilde, p), 5),
-            2 => over(sub(v.b, v.btilde, p), 7),
-            _ => {
-                let sum = square_sum(&h, k, p);
-                let y = neg(times(v.a, at(&h, k - 2), p), p);
-                let z = neg(times(v.b, at(&h, k - 3), p), p);
-                let right =
-                    mul(3, sum) + mul((n - 2) * (2 * n - 3), y) + mul(2 * (n - 2) * (n - 3), z);
-                over(over(rem(right, p), 2 * k + 3), k - 2)
-            }
+    let (a, b) = (neg(v.a, p), neg(v.b, p));
+    let (twice_a, twice_b) = (add(a, a, p), add(b, b, p));
+    for k in 1..d.min(3) {
+        let x = if k == 1 {
+            over(sub(v.a, v.atilde, p), 5)
+        } else {
+            over(sub(v.b, v.btilde, p), 7)
         };
         put(&mut h, k, x);
     }
+    let (mut ka, mut kb) = (add(twice_a, a, p), 0);
+    for k in 3..d {
+        let sum = mul(3 * at(&table, k - 2), square_sum(&h, k, p))
+            + mul(ka, at(&h, k - 2))
+            + mul(kb, at(&h, k - 3));
+        put(&mut h, k, over(rem(sum, p), 2 * k + 3));
+        ka = add(ka, twice_a, p);
+        kb = add(kb, twice_b, p);
+    }
     put(&mut s, 0, (v.degree - 1) % p);
     put(&mut s, 1, v.sigma);
-    for k in 2..=d {
-        let i = k - 1;
-        let n = i as u32;
-        let y = neg(times(v.a, at(&s, i - 1), p), p);
-        let z = neg(times(v.b, at(&s, i.saturating_sub(2)), p), p);
-        let sum = u64::from(at(&h, i)) + mul(2 * n - 1, y) + mul(2 * n - 2, z);
-        put(&mut s, k, over(rem(sum, p), 2 * i + 1));
+    let (mut ka, mut kb) = (a, 0);
+    for i in 1..d {
+        let sum =
+            u64::from(at(&h, i)) + mul(ka, at(&s, i - 1)) + mul(kb, at(&s, i.saturating_sub(2)));
+        put(&mut s, i + 1, over(rem(sum, p), 2 * i + 1));
+        ka = add(ka, twice_a, p);
+        kb = add(kb, twice_b, p);
     }
     put(&mut c, 0, 1);
     for k in 1..=d {
-        let sum = coefficient(0, &s[1..], &c[..k], k - 1, p);
-        put(&mut c, k, over(neg(sum, p), 2 * k));
+        let t = neg(at(&table, 2 * k), p);
+        let u = times(at(&s, 1), t, p);
+        let sum = mul(far_sum(&s, &c, k, p), t) + mul(u, at(&c, k - 1));
+        put(&mut c, k, rem(sum, p));
     }
     for i in 0..=d {
         put(g, i, at(&c, d - i));

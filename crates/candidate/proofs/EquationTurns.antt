@@ -7,21 +7,22 @@ use native.Mathlib.Omega.{arith}
 use lib.ListN.{length, getD, set, take, drop}
 use Rattle.ring.specs.Ring
 use Rattle.ring.specs.Ring.{cast}
-use Rattle.ring.specs.Identity.{solve3, solve7}
-use Rattle.ring.specs.Identity.Ex.{:1, _:+_, _:*_, :-_}
+use Rattle.ring.specs.Identity.{solve4, solve5, solve6, solve7}
+use Rattle.ring.specs.Identity.Ex.{:0, :1, _:+_, _:*_, :-_}
 use Rattle.series.specs.Series.{Seq, conv}
-use Rattle.zmod.specs.Zmod.{Elt, Zmod, mk, plus, times, minus, cast-mk, times-assoc}
-use Rattle.zmod.specs.Residues.{Residue, poly, poly-at}
+use Rattle.zmod.specs.Zmod.{Elt, Zmod, mk, plus, times, minus, mk-mul, cast-mk, times-assoc}
+use Rattle.zmod.specs.Residues.{Residue, poly, poly-at, residue-same, residue-self}
 use Rattle.isogeny.specs.Rules.{Question}
-use Rattle.isogeny.specs.Expansion.{recurrence, from-sums}
+use Rattle.isogeny.specs.Expansion.{sum-to, recurrence, from-sums}
 use Rattle.isogeny.specs.Proof.Terms.{recurrence-same}
 use Rattle.field.specs.Inverse.{InverseOf}
+use Rattle.expansion.specs.Multiple.{Multiple}
 use Rattle.expansion.specs.Equations.{Solves}
 use Rattle.expansion.specs.Stores.{stored-before, stored-at}
 use Rattle.expansion.specs.Parts.{part-at, take-at}
-use Rattle.candidate.specs.Equations.{HAt, SAt, CAt, Quotient}
+use Rattle.candidate.specs.Equations.{HAt, SAt, CAt, Quotient, far}
 use Rattle.candidate.proofs.Causal.{newton-same}
-use Rattle.candidate.proofs.Products.{newton-whole}
+use Rattle.candidate.proofs.Products.{newton-split, far-none, far-part}
 
 -- ── quotients
 
@@ -78,103 +79,161 @@ module _ (p : ℕ) (q : Question (Zmod p)) (h : List ℕ) (k : ℕ) (inside : k 
     };
   }
 
-  pub h-more : (t u r : ℕ) → 3 ≤ k → Residue p (recurrence (Zmod p) A B (poly p h) k) t → Quotient p (2 * k + 3) t u → Quotient p (k - 2) u r
-      → Solves p (HAt (Zmod p) q) h k r
-  h-more t u r l ht hu hr = record {
-    below = hr .below;
-    equation = record {
-      zero = λ z. absurd (omega arith);
-      first = λ z. absurd (omega arith);
-      second = λ z. absurd (omega arith);
-      more = λ z.
-          ap (times p (times p (cast (Zmod p) (k - 2)) (cast (Zmod p) (2 * k + 3)))) (stored-at p h k r inside)
-          ∙ solve3 (Zmod p) (λ x y z. x :* y :* z) (λ x y z. y :* (x :* z)) tt (cast (Zmod p) (k - 2)) (cast (Zmod p) (2 * k + 3)) (mk p r)
-          ∙ ap (times p (cast (Zmod p) (2 * k + 3))) (quotient-cast p hr) ∙ quotient-cast p hu ∙ ht .class
-          ∙ sym (recurrence-same (Zmod p) A B k l (poly p (set h k r)) (poly p h) (stored-before p h k r));
-    };
-  }
+  module _ (l : 3 ≤ k) (t x y z w r : ℕ) (ht : InverseOf p (k - 2) t)
+      (hx : Residue p (sum-to (Zmod p) (λ i. times p (poly p h i) (poly p h (k - 1 - i))) (k - 2)) x)
+      (hy : Multiple p (2 * k - 3) (minus p A) y) (hz : Multiple p (2 * k - 6) (minus p B) z)
+      (hw : Residue p (plus p (plus p (times p (mk p (3 * t)) (mk p x)) (times p (mk p y) (mk p (getD h (k - 2) 0))))
+      (times p (mk p z) (mk p (getD h (k - 3) 0)))) w)
+      (hr : Quotient p (2 * k + 3) w r) where
+    abbrev # : ℕ → Elt p
+    # n = cast (Zmod p) n
+
+    abbrev H : Seq (Zmod p)
+    H = poly p h
+
+    abbrev squares : Elt p
+    squares = sum-to (Zmod p) (λ i. times p (H i) (H (k - 1 - i))) (k - 2)
+
+    -- what is divided by 2k + 3
+    inner : mk p w ≡ plus p (plus p (times p (times p (# 3) (mk p t)) squares) (times p (times p (# (2 * k - 3)) (minus p A)) (H (k - 2))))
+        (times p (times p (times p (# 2) (# (k - 3))) (minus p B)) (H (k - 3)))
+    inner =
+        hw .class
+        ∙ ap₂ (plus p)
+        (ap₂ (plus p) (ap₂ (times p) (mk-mul p 3 t ∙ ap (λ n. times p n (mk p t)) (sym (cast-mk p 3))) (hx .class))
+        (ap₂ (times p) (hy .class) (sym (poly-at p h (k - 2)))))
+        (ap₂ (times p) (hz .class ∙ ap (λ n. times p n (minus p B)) (ap # (omega arith) ∙ Ring.cast-mul (Zmod p) 2 (k - 3))) (sym (poly-at p h (k - 3))))
+
+    -- times k − 2
+    whole : times p (# (k - 2)) (mk p w) ≡ recurrence (Zmod p) A B H k
+    whole =
+        ap (times p (# (k - 2))) inner
+        ∙ solve6 (Zmod p) (λ a n t s y z. a :* (n :* t :* s :+ y :+ z)) (λ a n t s y z. a :* t :* (n :* s) :+ a :* y :+ a :* z) tt
+        (# (k - 2)) (# 3) (mk p t) squares (times p (times p (# (2 * k - 3)) (minus p A)) (H (k - 2)))
+        (times p (times p (times p (# 2) (# (k - 3))) (minus p B)) (H (k - 3)))
+        ∙ ap₂ (plus p)
+        (ap₂ (plus p)
+        (ap (λ u. times p u (times p (# 3) squares)) (ap (λ n. times p n (mk p t)) (cast-mk p (k - 2)) ∙ ht .unit) ∙ Ring.one-mul (Zmod p) _)
+        (solve4 (Zmod p) (λ a n b u. a :* (n :* :- b :* u)) (λ a n b u. :- (a :* n :* b :* u)) tt (# (k - 2)) (# (2 * k - 3)) A (H (k - 2))))
+        (solve5 (Zmod p) (λ a m n b u. a :* (m :* n :* :- b :* u)) (λ a m n b u. :- (m :* a :* n :* b :* u)) tt
+        (# (k - 2)) (# 2) (# (k - 3)) B (H (k - 3)))
+
+    pub h-more : Solves p (HAt (Zmod p) q) h k r
+    h-more = record {
+      below = hr .below;
+      equation = record {
+        zero = λ z. absurd (omega arith);
+        first = λ z. absurd (omega arith);
+        second = λ z. absurd (omega arith);
+        more = λ _.
+            ap (times p (times p (# (k - 2)) (# (2 * k + 3)))) (stored-at p h k r inside)
+            ∙ times-assoc p (# (k - 2)) (# (2 * k + 3)) (mk p r) ∙ ap (times p (# (k - 2))) (quotient-cast p hr) ∙ whole
+            ∙ sym (recurrence-same (Zmod p) A B k l (poly p (set h k r)) H (stored-before p h k r));
+      };
+    }
 
 -- ── s from h
 
-module _ (p : ℕ) (q : Question (Zmod p)) (h s : List ℕ) (k : ℕ) (inside : k < length s) where
-  open Question q using (A, B, d, σ)
+module _ (p : ℕ) (q : Question (Zmod p)) (h : Seq (Zmod p)) (s : List ℕ) where
+  open Question q using (d, σ)
 
-  s-at : (m r : ℕ) → k ≡ m → poly p (set s k r) m ≡ mk p r
-  s-at m r e = ap (poly p (set s k r)) (sym e) ∙ stored-at p s k r inside
-
-  pub s-zero : (r : ℕ) → k ≡ 0 → Residue p (mk p (2 * d)) r → Solves p (SAt (Zmod p) q (poly p h)) s k r
-  s-zero r e hr = record {
+  pub s-zero : (r : ℕ) → 0 < length s → Residue p (mk p (2 * d)) r → Solves p (SAt (Zmod p) q h) s 0 r
+  s-zero r inside hr = record {
     below = hr .below;
     equation = record {
-      zero = λ z. s-at 0 r e ∙ hr .class ∙ sym (cast-mk p (2 * d));
+      zero = λ z. stored-at p s 0 r inside ∙ hr .class ∙ sym (cast-mk p (2 * d));
       one = λ z. absurd (omega arith);
       more = λ z. absurd (omega arith);
     };
   }
 
-  pub s-one : (r : ℕ) → k ≡ 1 → Residue p σ r → Solves p (SAt (Zmod p) q (poly p h)) s k r
-  s-one r e hr = record {
+  pub s-one : (r : ℕ) → 1 < length s → Residue p σ r → Solves p (SAt (Zmod p) q h) s 1 r
+  s-one r inside hr = record {
     below = hr .below;
-    equation = record { zero = λ z. absurd (omega arith); one = λ z. s-at 1 r e ∙ hr .class; more = λ z. absurd (omega arith) };
+    equation = record { zero = λ z. absurd (omega arith); one = λ z. stored-at p s 1 r inside ∙ hr .class; more = λ z. absurd (omega arith) };
   }
 
-  module _ (i : ℕ) (l : 2 ≤ k) (e : i ≡ k - 1) (y₀ y z₀ z w r : ℕ) (hy₀ : Residue p (times p A (mk p (getD s (i - 1) 0))) y₀)
-      (hy : Residue p (minus p (mk p y₀)) y) (hz₀ : Residue p (times p B (mk p (getD s (i - 2) 0))) z₀) (hz : Residue p (minus p (mk p z₀)) z)
-      (hw : Residue p (plus p (plus p (times p (mk p 1) (mk p (getD h i 0))) (times p (mk p (2 * i - 1)) (mk p y))) (times p (mk p (2 * i - 2)) (mk p z))) w)
+module _ (p : ℕ) (q : Question (Zmod p)) (h s : List ℕ) (i : ℕ) (l : 1 ≤ i) (inside : i + 1 < length s) (y z w r : ℕ) where
+  open Question q using (A, B)
+
+  module _ (hy : Multiple p (2 * i - 1) (minus p A) y) (hz : Multiple p (2 * i - 2) (minus p B) z)
+      (hw : Residue p (plus p (plus p (times p (mk p 1) (mk p (getD h i 0))) (times p (mk p y) (mk p (getD s (i - 1) 0))))
+      (times p (mk p z) (mk p (getD s (i - 2) 0)))) w)
       (hr : Quotient p (2 * i + 1) w r) where
     abbrev S : Seq (Zmod p)
-    S = poly p (set s k r)
+    S = poly p (set s (i + 1) r)
 
-    read : (j : ℕ) → j < k → mk p (getD s j 0) ≡ S j
-    read j m = sym (poly-at p s j) ∙ sym (stored-before p s k r j m)
-
-    term : (m : ℕ) (a : Elt p) (j x₀ x : ℕ) → j < k → Residue p (times p a (mk p (getD s j 0))) x₀ → Residue p (minus p (mk p x₀)) x
-        → times p (mk p m) (mk p x) ≡ times p (cast (Zmod p) m) (minus p (times p a (S j)))
-    term m a j x₀ x lt h₀ h₁ = ap₂ (times p) (sym (cast-mk p m)) (h₁ .class ∙ ap (minus p) (h₀ .class ∙ ap (times p a) (read j lt)))
+    -- a multiple of −A or −B, times an earlier word
+    term : (m : ℕ) (a : Elt p) (j x : ℕ) → j < i + 1 → Multiple p m a x
+        → times p (mk p x) (mk p (getD s j 0)) ≡ times p (times p (cast (Zmod p) m) a) (S j)
+    term m a j x lt hx = ap₂ (times p) (hx .class) (sym (poly-at p s j) ∙ sym (stored-before p s (i + 1) r j lt))
 
     solved : from-sums (Zmod p) A B S i ≡ poly p h i
     solved =
         ap (λ x. plus p (plus p x (times p (times p (cast (Zmod p) (2 * i - 1)) A) (S (i - 1)))) (times p (times p (cast (Zmod p) (2 * i - 2)) B) (S (i - 2))))
-        (ap (times p (cast (Zmod p) (2 * i + 1))) (s-at (i + 1) r (omega arith)) ∙ quotient-cast p hr ∙ hw .class
+        (ap (times p (cast (Zmod p) (2 * i + 1))) (stored-at p s (i + 1) r inside) ∙ quotient-cast p hr ∙ hw .class
         ∙ ap₂ (plus p)
-        (ap₂ (plus p) (ap (times p (mk p 1)) (sym (poly-at p h i))) (term (2 * i - 1) A (i - 1) y₀ y (omega arith) hy₀ hy))
-        (term (2 * i - 2) B (i - 2) z₀ z (omega arith) hz₀ hz))
+        (ap₂ (plus p) (ap (times p (mk p 1)) (sym (poly-at p h i))) (term (2 * i - 1) (minus p A) (i - 1) y (omega arith) hy))
+        (term (2 * i - 2) (minus p B) (i - 2) z (omega arith) hz))
         ∙ solve7 (Zmod p)
-        (λ h m a u n b w. :1 :* h :+ m :* :- (a :* u) :+ n :* :- (b :* w) :+ m :* a :* u :+ n :* b :* w)
+        (λ h m a u n b w. :1 :* h :+ m :* :- a :* u :+ n :* :- b :* w :+ m :* a :* u :+ n :* b :* w)
         (λ h m a u n b w. h) tt
         (poly p h i) (cast (Zmod p) (2 * i - 1)) A (S (i - 1)) (cast (Zmod p) (2 * i - 2)) B (S (i - 2))
 
-    pub s-more : Solves p (SAt (Zmod p) q (poly p h)) s k r
-    s-more = record {
-      below = hr .below;
-      equation = record {
-        zero = λ z. absurd (omega arith);
-        one = λ z. absurd (omega arith);
-        more = λ z. ap (from-sums (Zmod p) A B S) (sym e) ∙ solved ∙ ap (poly p h) e;
-      };
-    }
+    pub s-more : Solves p (SAt (Zmod p) q (poly p h)) s (i + 1) r
+    s-more =
+        let at : i + 1 - 1 ≡ i = omega arith in
+        record {
+          below = hr .below;
+          equation = record {
+            zero = λ z. absurd (omega arith);
+            one = λ z. absurd (omega arith);
+            more = λ _. ap (from-sums (Zmod p) A B S) at ∙ solved ∙ ap (poly p h) (sym at);
+          };
+        }
 
 -- ── c from s
 
-module _ (p : ℕ) (s c : List ℕ) (k : ℕ) (inside : k < length c) where
-  pub c-zero : 1 < p → k ≡ 0 → Solves p (CAt (Zmod p) (poly p s)) c k 1
-  c-zero big e = record {
+-- what waits for no word but those before k − 1
+pub far-zero : (p : ℕ) (s c : Seq (Zmod p)) (k : ℕ) → 0 < p → k ≡ 1 → Residue p (far (Zmod p) s c k) 0
+far-zero p s c k pos e = residue-same (sym (far-none (Zmod p) s c k e)) (residue-self 0 pos)
+
+pub far-more : (p : ℕ) (s c : List ℕ) (k n r : ℕ) → 2 ≤ k → k ≤ n + 1
+    → Residue p (plus p (mk p 0) (conv (Zmod p) (poly p (take n (drop 2 s))) (poly p (take (k - 1) c)) (k - 2))) r
+    → Residue p (far (Zmod p) (poly p s) (poly p c) k) r
+far-more p s c k n r l fits =
+    residue-same
+    (Ring.zero-add (Zmod p) _
+    ∙ far-part (Zmod p) (poly p s) (poly p c) (poly p (take n (drop 2 s))) (poly p (take (k - 1) c)) k l (λ i m. part-at p s 2 n i (omega arith))
+    (take-at p c (k - 1)))
+
+module _ (p : ℕ) (s c : List ℕ) where
+  pub c-zero : 1 < p → 0 < length c → Solves p (CAt (Zmod p) (poly p s)) c 0 1
+  c-zero big inside = record {
     below = big;
-    equation = record { zero = λ z. ap (poly p (set c k 1)) (sym e) ∙ stored-at p c k 1 inside; more = λ z. absurd (omega arith) };
+    equation = record { zero = λ z. stored-at p c 0 1 inside; more = λ z. absurd (omega arith) };
   }
 
-  pub c-more : (n t y r : ℕ) → k ≤ n → 1 ≤ k → Residue p (plus p (mk p 0) (conv (Zmod p) (poly p (take n (drop 1 s))) (poly p (take k c)) (k - 1))) t
-      → Residue p (minus p (mk p t)) y → Quotient p (2 * k) y r → Solves p (CAt (Zmod p) (poly p s)) c k r
-  c-more n t y r fits l ht hy hr = record {
+  -- with t = −1/2k: from 2 on, then s₁
+  pub c-more : (k : ℕ) → k < length c → (i t u f r : ℕ) → 1 ≤ k → InverseOf p (2 * k) i → Residue p (minus p (mk p i)) t
+      → Residue p (times p (mk p (getD s 1 0)) (mk p t)) u → Residue p (far (Zmod p) (poly p s) (poly p c) k) f
+      → Residue p (plus p (plus p (times p (mk p f) (mk p t)) (times p (mk p u) (mk p (getD c (k - 1) 0)))) (times p (mk p 0) (mk p 0))) r
+      → Solves p (CAt (Zmod p) (poly p s)) c k r
+  c-more k inside i t u f r l hi ht hu hf hr = record {
     below = hr .below;
     equation = record {
       zero = λ z. absurd (omega arith);
-      more = λ z.
-          ap (times p (cast (Zmod p) (2 * k))) (stored-at p c k r inside) ∙ quotient-cast p hr ∙ hy .class
+      more = λ _.
+          ap₂ (times p) (cast-mk p (2 * k))
+          (stored-at p c k r inside ∙ hr .class
+          ∙ ap (λ x. plus p x (times p (mk p 0) (mk p 0)))
+          (ap₂ (plus p) (ap₂ (times p) (hf .class) (ht .class))
+          (ap₂ (times p) (hu .class ∙ ap₂ (times p) (sym (poly-at p s 1)) (ht .class)) (sym (poly-at p c (k - 1))))))
+          ∙ solve5 (Zmod p) (λ k i f s c. k :* (f :* :- i :+ s :* :- i :* c :+ :0 :* :0)) (λ k i f s c. :- (k :* i :* (s :* c :+ f))) tt
+          (mk p (2 * k)) (mk p i) (far (Zmod p) (poly p s) (poly p c) k) (poly p s 1) (poly p c (k - 1))
           ∙ ap (minus p)
-          (ht .class ∙ Ring.zero-add (Zmod p) _
-          ∙ newton-whole (Zmod p) (poly p s) (poly p c) (poly p (take n (drop 1 s))) (poly p (take k c)) k l (λ i m. part-at p s 1 n i (omega arith))
-          (take-at p c k)
+          (ap (λ x. times p x (plus p (times p (poly p s 1) (poly p c (k - 1))) (far (Zmod p) (poly p s) (poly p c) k))) (hi .unit)
+          ∙ Ring.one-mul (Zmod p) _ ∙ sym (newton-split (Zmod p) (poly p s) (poly p c) k l)
           ∙ sym (newton-same (Zmod p) (poly p s) k (poly p (set c k r)) (poly p c) (stored-before p c k r)));
     };
   }

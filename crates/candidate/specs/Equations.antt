@@ -1,9 +1,9 @@
 -- The equations of what solving computes, one for each place of a sequence. An equation at k reads the sequence up to k.
 -- Assumes nothing.
 use mathlib.Core.Path.{_≡_}
-use Prim.Native.Nat.{ℕ, _*_, _-_, _≤_, _<_}
+use Prim.Native.Nat.{ℕ, suc, _*_, _-_, _≤_, _<_}
 use Rattle.ring.specs.Ring.{CRing, cast}
-use Rattle.series.specs.Series.{Seq}
+use Rattle.series.specs.Series.{Seq, sum}
 use Rattle.zmod.specs.Zmod.{mk, times}
 use Rattle.isogeny.specs.Rules.{Question}
 use Rattle.isogeny.specs.Expansion.{Newton, Recurs, from-sums}
@@ -30,6 +30,10 @@ module _ (R : CRing) where
   pub record CAt (s c : Seq R) (k : ℕ) : Type 0 where
     pub zero : k ≡ 0 → c 0 ≡ R .𝟙
     pub more : 1 ≤ k → Newton R c s k
+
+  -- Newton's sum at k without the term that waits for c_(k − 1): s_i c_(k − i), i from 2 to k
+  abbrev pub far : Seq R → Seq R → ℕ → R .Car
+  far s c k = sum R (λ i. R .mul (s (suc (suc i))) (c (k - suc (suc i)))) (k - 1)
 
 -- r is y / k
 pub record Quotient (p k y r : ℕ) : Type 0 where

@@ -3,16 +3,19 @@
 // the words before it.
 use sheet::Values;
 ghost use mathlib.Core.Path.{_≡_};
-ghost use Prim.Native.Nat.{_+_, _-_, _*_, _<_, _≤_};
+ghost use mathlib.Core.List.{List};
+ghost use Prim.Native.Nat.{ℕ, _+_, _-_, _*_, _^_, _<_, _≤_, min};
 ghost use lib.ListN.{length};
-ghost use Rattle.zmod.specs.Zmod.{Zmod};
-ghost use Rattle.zmod.specs.Residues.{Reduced, poly};
+ghost use Rattle.series.specs.Series.{Seq};
+ghost use Rattle.zmod.specs.Zmod.{Zmod, mk, minus};
+ghost use Rattle.zmod.specs.Residues.{Residue, Reduced, poly};
 ghost use Rattle.field.specs.Inverse.{Inverses};
 ghost use Rattle.sheet.specs.Values.{half, question};
 ghost use Rattle.sheet.specs.Ready.{Ready};
+ghost use Rattle.expansion.specs.Multiple.{Multiple};
 ghost use Rattle.expansion.specs.Equations.{ReducedTo, Solved, Solves};
 ghost use Rattle.candidate.specs.Candidate.{Candidate};
-ghost use Rattle.candidate.specs.Equations.{HAt, SAt, CAt, Quotient};
+ghost use Rattle.candidate.specs.Equations.{HAt, SAt, CAt, Quotient, far};
 
 // y / k, by the table of inverses.
 fn divide(y: u32, k: usize, table: &[u32], p: u32) -> u32
@@ -22,12 +25,21 @@ fn divide(y: u32, k: usize, table: &[u32], p: u32) -> u32
     field::multiply(table[k], y, p)
 }
 
-// h_k from the codomain and the words before it: 5h₁ = A - Ã, 7h₂ = B - B̃, and from 3 on the recurrence. (At 2 its left side is 0.)
-fn next_h(v: Values, table: &[u32], h: &[u32], k: usize) -> u32
+// -2a
+fn minus_twice(a: u32, p: u32) -> u32
+    requires { ⌜ (a < p) × (p ≤ 2 ^ 28) ⌝ }
+    ensures { λ r. ⌜ Multiple p 2 (minus p (mk p a)) r ⌝ }
+{
+    let n = field::negate(a, p);
+    field::add(n, n, p)
+}
+
+// h_k for k up to 2: h₀ = 0, 5h₁ = A - Ã, 7h₂ = B - B̃. (At 2 the recurrence's left side is 0.)
+fn first_h(v: Values, table: &[u32], k: usize) -> u32
     requires { ⌜ Ready v ⌝ }
     requires { ⌜ Inverses (v .p) (now table) × (2 * half v + 1 < length (now table)) ⌝ }
-    requires { ⌜ (k < half v) × (k < length (now h)) × ReducedTo (v .p) (now h) k ⌝ }
-    ensures { λ r. ⌜ Solves (v .p) (HAt (Zmod (v .p)) (question v)) (now (h .entry)) k r ⌝ }
+    requires { ⌜ (k < 3) × (k < half v) ⌝ }
+    ensures { λ r. ⌜ ((h : List ℕ) → k < length h → Solves (v .p) (HAt (Zmod (v .p)) (question v)) h k r) ⌝ }
 {
     let p = v.p;
     if k == 0 {
@@ -36,54 +48,80 @@ fn next_h(v: Values, table: &[u32], h: &[u32], k: usize) -> u32
     if k == 1 {
         return divide(field::subtract(v.a, v.atilde, p), 5, table, p);
     }
-    if k == 2 {
-        return divide(field::subtract(v.b, v.btilde, p), 7, table, p);
-    }
-    divide(
-        divide(expansion::recurrence(v, h, k), 2 * k + 3, table, p),
-        k - 2,
-        table,
-        p,
-    )
+    divide(field::subtract(v.b, v.btilde, p), 7, table, p)
 }
 
+// The words before 3, as many of them as there are.
+fn begin_h(v: Values, table: &[u32], h: &mut [u32])
+    requires { ⌜ Ready v ⌝ }
+    requires { ⌜ Inverses (v .p) (now table) × (2 * half v + 1 < length (now table)) × (length (now h) ≤ half v) ⌝ }
+    ensures { λ _. ⌜ Solved (v .p) (HAt (Zmod (v .p)) (question v)) (now (h .exit)) (min 3 (length (now (h .entry)))) ⌝ }
+{
+    let n = rows::least(3, h.len());
+    let mut k = 0;
+    while k < n {
+        h[k] = first_h(v, table, k);
+        k += 1;
+    }
+}
+
+// h_k by the recurrence, divided by k - 2: (2k + 3)h_k = 3x/(k - 2) + y h_(k-2) + z h_(k-3), where x is its sum, y = -(2k - 3)A and z = -(2k - 6)B.
+fn next_h(v: Values, table: &[u32], h: &[u32], k: usize, y: u32, z: u32) -> u32
+    requires { ⌜ Ready v ⌝ }
+    requires { ⌜ Inverses (v .p) (now table) × (2 * half v + 1 < length (now table)) ⌝ }
+    requires { ⌜ (3 ≤ k) × (k < half v) × (k < length (now h)) × ReducedTo (v .p) (now h) k ⌝ }
+    requires { ⌜ (Multiple (v .p) (2 * k - 3) (minus (v .p) (question v .A)) y) × (Multiple (v .p) (2 * k - 6) (minus (v .p) (question v .B)) z) ⌝ }
+    ensures { λ r. ⌜ Solves (v .p) (HAt (Zmod (v .p)) (question v)) (now (h .entry)) k r ⌝ }
+{
+    let p = v.p;
+    let x = expansion::square_sum(h, k, p);
+    let w = expansion::weighted(3 * table[k - 2], x, y, h[k - 2], z, h[k - 3], p);
+    divide(w, 2 * k + 3, table, p)
+}
+
+// The multiples of A and B are added up, so that they take no remainder.
 fn fill_h(v: Values, table: &[u32], h: &mut [u32])
     requires { ⌜ Ready v ⌝ }
     requires { ⌜ Inverses (v .p) (now table) × (2 * half v + 1 < length (now table)) × (length (now h) ≤ half v) ⌝ }
     ensures { λ r. ⌜ Solved (v .p) (HAt (Zmod (v .p)) (question v)) (now (h .exit)) (length (now (h .entry))) ⌝ }
 {
-    let mut k = 0;
+    let p = v.p;
+    let a = minus_twice(v.a, p);
+    let b = minus_twice(v.b, p);
+    begin_h(v, table, h);
+    let mut k = 3;
+    let mut y = field::add(a, field::negate(v.a, p), p);
+    let mut z = 0;
     while k < h.len() {
-        h[k] = next_h(v, table, h, k);
+        h[k] = next_h(v, table, h, k, y, z);
+        y = field::add(y, a, p);
+        z = field::add(z, b, p);
         k += 1;
     }
 }
 
-// s_k from the formula for h_(k - 1), where s₀ = ℓ - 1 and s₁ = σ.
-fn next_s(v: Values, table: &[u32], h: &[u32], s: &[u32], k: usize) -> u32
+// s₀ = ℓ - 1 and s₁ = σ.
+fn begin_s(v: Values, s: &mut [u32])
+    requires { ⌜ Ready v ⌝ }
+    requires { ⌜ 2 ≤ length (now s) ⌝ }
+    ensures { λ _. ⌜ ((h : Seq (Zmod (v .p))) → Solved (v .p) (SAt (Zmod (v .p)) (question v) h) (now (s .exit)) 2) ⌝ }
+{
+    s[0] = field::reduce(field::wide(v.degree - 1), v.p);
+    s[1] = v.sigma;
+}
+
+// s_(i+1) from the formula for h_i: (2i + 1)s_(i+1) = h_i + y s_(i-1) + z s_(i-2), where y = -(2i - 1)A and z = -(2i - 2)B.
+fn next_s(v: Values, table: &[u32], h: &[u32], s: &[u32], i: usize, y: u32, z: u32) -> u32
     requires { ⌜ Ready v ⌝ }
     requires { ⌜ Inverses (v .p) (now table) × (2 * half v + 1 < length (now table)) ⌝ }
     requires { ⌜ (length (now h) ≡ half v) × Reduced (v .p) (now h) ⌝ }
-    requires { ⌜ (k ≤ half v) × (k < length (now s)) × ReducedTo (v .p) (now s) k ⌝ }
-    ensures { λ r. ⌜ Solves (v .p) (SAt (Zmod (v .p)) (question v) (poly (v .p) (now (h .entry)))) (now (s .entry)) k r ⌝ }
+    requires { ⌜ (1 ≤ i) × (i < half v) × (i + 1 < length (now s)) × ReducedTo (v .p) (now s) (i + 1) ⌝ }
+    requires { ⌜ (Multiple (v .p) (2 * i - 1) (minus (v .p) (question v .A)) y) × (Multiple (v .p) (2 * i - 2) (minus (v .p) (question v .B)) z) ⌝ }
+    ensures { λ r. ⌜ Solves (v .p) (SAt (Zmod (v .p)) (question v) (poly (v .p) (now (h .entry)))) (now (s .entry)) (i + 1) r ⌝ }
 {
     let p = v.p;
-    if k == 0 {
-        return field::reduce(field::wide(v.degree - 1), p);
-    }
-    if k == 1 {
-        return v.sigma;
-    }
-    let i = k - 1;
-    let n = i as u32;
-    let y = field::negate(field::multiply(v.a, s[i - 1], p), p);
-    let z = field::negate(field::multiply(v.b, s[poly::over(i, 2)], p), p);
-    divide(
-        expansion::weighted(1, h[i], 2 * n - 1, y, 2 * n - 2, z, p),
-        2 * i + 1,
-        table,
-        p,
-    )
+    let w = expansion::weighted(1, h[i], y, s[i - 1], z, s[poly::over(i, 2)], p);
+    divide(w, 2 * i + 1, table, p)
 }
 
 fn fill_s(v: Values, table: &[u32], h: &[u32], s: &mut [u32])
@@ -92,29 +130,48 @@ fn fill_s(v: Values, table: &[u32], h: &[u32], s: &mut [u32])
     requires { ⌜ (length (now h) ≡ half v) × Reduced (v .p) (now h) × (length (now s) ≡ half v + 1) ⌝ }
     ensures { λ r. ⌜ Solved (v .p) (SAt (Zmod (v .p)) (question v) (poly (v .p) (now (h .entry)))) (now (s .exit)) (length (now (s .entry))) ⌝ }
 {
-    let mut k = 0;
-    while k < s.len() {
-        s[k] = next_s(v, table, h, s, k);
-        k += 1;
+    let p = v.p;
+    let a = minus_twice(v.a, p);
+    let b = minus_twice(v.b, p);
+    begin_s(v, s);
+    let mut i = 1;
+    let mut y = field::negate(v.a, p);
+    let mut z = 0;
+    while i < h.len() {
+        s[i + 1] = next_s(v, table, h, s, i, y, z);
+        y = field::add(y, a, p);
+        z = field::add(z, b, p);
+        i += 1;
     }
 }
 
-// c_k by Newton's identity, 2k c_k = -(the sum of s_i c_(k - i), i from 1 to k), where c₀ = 1.
+// The sum of s_i c_(k-i), i from 2 to k.
+fn far_sum(s: &[u32], c: &[u32], k: usize, p: u32) -> u32
+    requires { ⌜ (0 < p) × (p ≤ 2 ^ 28) × (1 ≤ k) × (k ≤ 1024) × (k < length (now s)) × (k ≤ length (now c)) ⌝ }
+    requires { ⌜ Reduced p (now s) × ReducedTo p (now c) k ⌝ }
+    ensures { λ r. ⌜ Residue p (far (Zmod p) (poly p (now (s .entry))) (poly p (now (c .entry))) k) r ⌝ }
+{
+    if k == 1 {
+        return 0;
+    }
+    let above = &s[2..];
+    let before = &c[..k - 1];
+    poly::coefficient(0, above, before, k - 2, p)
+}
+
+// c_k by Newton's identity, 2k c_k = -(the sum of s_i c_(k-i), i from 1 to k). What takes time are remainders that wait for each other: so, with t = -1/2k,
+// those of the sum from 2 on and of s₁t are taken without c_(k-1), and c_k's alone waits for it.
 fn next_c(v: Values, table: &[u32], s: &[u32], c: &[u32], k: usize) -> u32
     requires { ⌜ Ready v ⌝ }
     requires { ⌜ Inverses (v .p) (now table) × (2 * half v + 1 < length (now table)) ⌝ }
     requires { ⌜ (length (now s) ≡ half v + 1) × Reduced (v .p) (now s) ⌝ }
-    requires { ⌜ (k ≤ half v) × (k < length (now c)) × ReducedTo (v .p) (now c) k ⌝ }
+    requires { ⌜ (1 ≤ k) × (k ≤ half v) × (k < length (now c)) × ReducedTo (v .p) (now c) k ⌝ }
     ensures { λ r. ⌜ Solves (v .p) (CAt (Zmod (v .p)) (poly (v .p) (now (s .entry)))) (now (c .entry)) k r ⌝ }
 {
     let p = v.p;
-    if k == 0 {
-        return 1;
-    }
-    let above = &s[1..];
-    let before = &c[..k];
-    let sum = poly::coefficient(0, above, before, k - 1, p);
-    divide(field::negate(sum, p), 2 * k, table, p)
+    let t = field::negate(table[2 * k], p);
+    let u = field::multiply(s[1], t, p);
+    expansion::weighted(far_sum(s, c, k, p), t, u, c[k - 1], 0, 0, p)
 }
 
 fn fill_c(v: Values, table: &[u32], s: &[u32], c: &mut [u32])
@@ -123,7 +180,8 @@ fn fill_c(v: Values, table: &[u32], s: &[u32], c: &mut [u32])
     requires { ⌜ (length (now s) ≡ half v + 1) × Reduced (v .p) (now s) × (length (now c) ≡ half v + 1) ⌝ }
     ensures { λ r. ⌜ Solved (v .p) (CAt (Zmod (v .p)) (poly (v .p) (now (s .entry)))) (now (c .exit)) (length (now (c .entry))) ⌝ }
 {
-    let mut k = 0;
+    c[0] = 1;
+    let mut k = 1;
     while k < c.len() {
         c[k] = next_c(v, table, s, c, k);
         k += 1;

@@ -5,31 +5,27 @@ use mathlib.Core.List.{List}
 use mathlib.Core.Bool.{true}
 use mathlib.Core.Logic.{_↔_}
 use Prim.Native.Nat.{ℕ, _+_, _*_, _-_, _≤_, _<_}
-use native.Mathlib.Nat as N
 use native.Mathlib.Omega.{arith}
 use lib.Dec.{eqb}
 use borrow.Author.Tests.{eqb-true, eq-eqb}
 use lib.ListN.{getD, take, drop}
 use Rattle.ring.specs.Ring
 use Rattle.ring.specs.Ring.{cast}
-use Rattle.ring.specs.Identity.{solve2, solve4, solve5, solve8}
-use Rattle.ring.specs.Identity.Ex.{num, :0, _:+_, _:-_, _:*_, :-_}
+use Rattle.ring.specs.Identity.{solve4, solve5, solve8}
+use Rattle.ring.specs.Identity.Ex.{:0, _:+_, _:-_, _:*_, :-_}
 use Rattle.series.specs.Series.{conv}
-use Rattle.zmod.specs.Zmod.{Elt, Zmod, mk, plus, times, minus, mk-mul, cast-mk}
+use Rattle.zmod.specs.Zmod.{Elt, Zmod, mk, plus, times, minus, cast-mk}
 use Rattle.zmod.specs.Residues.{Residue, poly, poly-at, residue-self, residue-same, residue-unique}
 use Rattle.isogeny.specs.Expansion.{sum-to, recurrence, Recurs, expansion}
 use Rattle.expansion.specs.Multiple.{Multiple}
 use Rattle.expansion.specs.Parts.{part-at}
 use Rattle.expansion.specs.Products.{square-part, expansion-above}
 
--- ── equality, and a bound
+-- ── equality
 
 pub same-residue : {p : ℕ} {x y : Elt p} (l r : ℕ) → Residue p x l → Residue p y r → (eqb l r ≡ true) ↔ (x ≡ y)
 same-residue {p} l r hl hr =
     (λ e. sym (hl .class) ∙ ap (mk p) (eqb-true l r e) ∙ hr .class, λ e. eq-eqb l r (residue-unique (residue-same e hl) hr))
-
-pub small : (m n : ℕ) → m ≤ 2048 → n ≤ 2051 → m * n ≤ 2048 * 2051
-small m n hm hn = N.mul-le-mul {n₁ = m} {m₁ = n} {n₂ = 2048} {m₂ = 2051} hm hn
 
 -- ── the expansion from the power sums
 
@@ -44,21 +40,6 @@ expands p A B s i y z r l hy hz =
     (ap₂ (times p) (hz .class) (sym (poly-at p s (i - 2))))
     ∙ sym (expansion-above (Zmod p) A B (poly p s) i l))
 
--- ── multiples of A and B, added up
-
--- the first one
-pub multiple : {p : ℕ} (m a r : ℕ) → Residue p (times p (mk p m) (mk p a)) r → Multiple p m (mk p a) r
-multiple {p} m a r = residue-same (ap (λ x. times p x (mk p a)) (sym (cast-mk p m)))
-
--- two more
-pub two-more : {p : ℕ} (a t m n y r : ℕ) → n ≡ m + 2 → Residue p (plus p (mk p a) (mk p a)) t → Multiple p m (mk p a) y
-    → Residue p (plus p (mk p y) (mk p t)) r → Multiple p n (mk p a) r
-two-more {p} a t m n y r e ht hy =
-    residue-same
-    (ap₂ (plus p) (hy .class) (ht .class)
-    ∙ solve2 (Zmod p) (λ m a. m :* a :+ (a :+ a)) (λ m a. (m :+ num 2) :* a) tt (cast (Zmod p) m) (mk p a)
-    ∙ ap (λ x. times p x (mk p a)) (sym (Ring.cast-add (Zmod p) m 2) ∙ ap (cast (Zmod p)) (sym e)))
-
 -- ── the recurrence
 
 -- the sum, as the coefficient of a square
@@ -71,26 +52,6 @@ squares p h k x l =
 module _ (p : ℕ) (A B : Elt p) (h : List ℕ) (k : ℕ) (l : 3 ≤ k) where
   abbrev S : Elt p
   S = sum-to (Zmod p) (λ i. times p (poly p h i) (poly p h (k - 1 - i))) (k - 2)
-
-  pub recurrence-is : (x y₀ y z₀ z r : ℕ) → Residue p S x
-      → Residue p (times p A (mk p (getD h (k - 2) 0))) y₀ → Residue p (minus p (mk p y₀)) y
-      → Residue p (times p B (mk p (getD h (k - 3) 0))) z₀ → Residue p (minus p (mk p z₀)) z
-      → Residue p (plus p (plus p (times p (mk p 3) (mk p x)) (times p (mk p ((k - 2) * (2 * k - 3))) (mk p y)))
-      (times p (mk p (2 * (k - 2) * (k - 3))) (mk p z))) r
-      → Residue p (recurrence (Zmod p) A B (poly p h) k) r
-  recurrence-is x y₀ y z₀ z r hx hy₀ hy hz₀ hz =
-      residue-same
-      (ap₂ (plus p)
-      (ap₂ (plus p)
-      (ap₂ (times p) (sym (cast-mk p 3)) (hx .class))
-      (ap₂ (times p) (mk-mul p (k - 2) (2 * k - 3) ∙ ap₂ (times p) (sym (cast-mk p (k - 2))) (sym (cast-mk p (2 * k - 3))))
-      (hy .class ∙ ap (minus p) (hy₀ .class ∙ ap (times p A) (sym (poly-at p h (k - 2)))))
-      ∙ solve4 (Zmod p) (λ x y a u. x :* y :* :- (a :* u)) (λ x y a u. :- (x :* y :* a :* u)) tt _ _ A _))
-      (ap₂ (times p)
-      (mk-mul p (2 * (k - 2)) (k - 3)
-      ∙ ap₂ (times p) (mk-mul p 2 (k - 2) ∙ ap₂ (times p) (sym (cast-mk p 2)) (sym (cast-mk p (k - 2)))) (sym (cast-mk p (k - 3))))
-      (hz .class ∙ ap (minus p) (hz₀ .class ∙ ap (times p B) (sym (poly-at p h (k - 3)))))
-      ∙ solve5 (Zmod p) (λ w x y a u. w :* x :* y :* :- (a :* u)) (λ w x y a u. :- (w :* x :* y :* a :* u)) tt _ _ _ B _))
 
   abbrev # : ℕ → Elt p
   # n = cast (Zmod p) n

@@ -10,7 +10,7 @@ ghost use Rattle.slices.specs.Filling.{Filled};
 ghost use Rattle.series.specs.Series.{Seq};
 ghost use Rattle.zmod.specs.Zmod.{Zmod, mk, plus, times};
 ghost use Rattle.zmod.specs.Residues.{Residue, Reduced, poly, Residues};
-ghost use Rattle.isogeny.specs.Expansion.{expansion as expansion-of, power-sums, recurrence as recurrence-of, Recurs, sum-to};
+ghost use Rattle.isogeny.specs.Expansion.{expansion as expansion-of, power-sums, Recurs, sum-to};
 ghost use Rattle.sheet.specs.Values.{half, question};
 ghost use Rattle.sheet.specs.Ready.{Ready, HoldsG};
 ghost use Rattle.expansion.specs.Products.{Squares};
@@ -241,26 +241,12 @@ pub fn expansion(v: Values, s: &[u32], h: &mut [u32], known: usize)
 // ── the recurrence
 
 // The sum of h_i h_(k-1-i), i from 1 to k - 2.
-fn square_sum(h: &[u32], k: usize, p: u32) -> u32
+pub fn square_sum(h: &[u32], k: usize, p: u32) -> u32
     requires { ⌜ (0 < p) × (p ≤ 2 ^ 28) × (3 ≤ k) × (k ≤ 1024) × (k ≤ length (now h)) × ReducedTo p (now h) k ⌝ }
     ensures { λ r. ⌜ Residue p (sum-to (Zmod p) (λ i. times p (poly p (now (h .entry)) i) (poly p (now (h .entry)) (k - 1 - i))) (k - 2)) r ⌝ }
 {
     let part = &h[1..k - 1];
     poly::square_coefficient(part, k - 3, p)
-}
-
-// Its right side at k: 3·(that sum) - (k - 2)(2k - 3)A h_(k-2) - 2(k - 2)(k - 3)B h_(k-3).
-pub fn recurrence(v: Values, h: &[u32], k: usize) -> u32
-    requires { ⌜ Ready v ⌝ }
-    requires { ⌜ (3 ≤ k) × (k ≤ 1024) × (k ≤ length (now h)) × ReducedTo (v .p) (now h) k ⌝ }
-    ensures { λ r. ⌜ Residue (v .p) (recurrence-of (Zmod (v .p)) (question v .A) (question v .B) (poly (v .p) (now (h .entry))) k) r ⌝ }
-{
-    let p = v.p;
-    let n = k as u32;
-    let x = square_sum(h, k, p);
-    let y = field::negate(field::multiply(v.a, h[k - 2], p), p);
-    let z = field::negate(field::multiply(v.b, h[k - 3], p), p);
-    weighted(3, x, (n - 2) * (2 * n - 3), y, 2 * (n - 2) * (n - 3), z, p)
 }
 
 // (k - 2)(2k + 3)h_k is the recurrence's right side, where y = (2k - 3)A and z = (2k - 6)B: all on one side, (k - 2)((2k + 3)h_k + y h_(k-2) + z h_(k-3))

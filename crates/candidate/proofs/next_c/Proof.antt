@@ -1,80 +1,78 @@
 -- `candidate::next_c` meets its contract. Assumes nothing.
-use mathlib.Core.Path.{sym}
-use Prim.Native.Nat.{_-_}
+use Prim.Native.Nat.{_*_, _-_}
 use native.Mathlib.Omega.{arith}
-use lib.ListN.{length}
-use lib.Seq.{length-take-le}
+use lib.ListN.{getD}
 use borrow.Author.Needs.{needs}
-use Rattle.expansion.specs.Parts.{part-reduced, reduced-front}
-use Rattle.candidate.proofs.EquationTurns.{c-zero, c-more}
+use Rattle.candidate.proofs.EquationTurns.{c-more}
 use Rattle.candidate.proofs.next_c.Statement.{statement}
 use Rattle.candidate.proofs.next_c.Tie as tie
 
-returns : tie.Need-returns
-returns c =
-    let start = c .before .before .before .before in
-    let a = start .args in
-    c-zero (a .v .p) (a .s .now) (a .c .now) (a .k) (start .pre .1 .1 .1 .1) (omega arith) (c .if1 .taken)
+abbrev start : tie.After-negate → tie.Start
+start c = c .before .before .before .before .before
 
-sub-above : tie.Need-sub-above
-sub-above c = search needs
+mul-negate : tie.Need-mul-negate
+mul-negate c = search needs
 
-part-above-start : tie.Need-part-above-start
-part-above-start c = search needs
+mul-negate-2 : tie.Need-mul-negate-2
+mul-negate-2 c = search needs
 
-part-above-end : tie.Need-part-above-end
-part-above-end c = search needs
-
-slice-aggregate-before : tie.Need-slice-aggregate-before
-slice-aggregate-before c =
-    let a = c .before .before .before .before .before .before .args in
-    sym (length-take-le (a .k) (a .c .now) (omega arith))
-
-sub-coefficient : tie.Need-sub-coefficient
-sub-coefficient c = search needs
-
-coefficient-requires : tie.Need-coefficient-requires
-coefficient-requires c κs =
-    let start = c .before .before .before .before .before .before in
-    let a = start .args in (
-      (omega arith, omega arith, omega arith),
-      (
-        part-reduced (a .v .p) (a .s .now) 1 (length (a .s .now) - 1) (omega arith) (λ i l. start .pre .1 .1 .0 .1 i),
-        reduced-front (a .v .p) (a .c .now)
-            (omega arith) (a .k) (start .pre .1 .1 .1 .2),
-      ),
-    )
+shared-slice-read-negate : tie.Need-shared-slice-read-negate
+shared-slice-read-negate c = search needs
 
 negate-requires : tie.Need-negate-requires
-negate-requires c κs = search needs
+negate-requires c κs =
+    let begin = c .before .before .before .before in
+    begin .pre .1 .0 .0 .inverse (2 * begin .args .k) (omega arith) (omega arith) .below
 
-mul-divide : tie.Need-mul-divide
-mul-divide c = search needs
+shared-slice-read-multiply : tie.Need-shared-slice-read-multiply
+shared-slice-read-multiply c = search needs
 
-divide-requires : tie.Need-divide-requires
-divide-requires c κs =
-    (omega arith, omega arith, omega arith, c .before .before .before .before .before .before .before .before .pre .1 .0 .0)
+multiply-requires : tie.Need-multiply-requires
+multiply-requires c κs = search needs
 
-returns-2 : tie.Need-returns-2
-returns-2 c =
-    let start = c .before .before .before .before .before .before .before .before .before in
-    let a = start .args in
-    c-more (a .v .p) (a .s .now) (a .c .now) (a .k) (start .pre .1 .1 .1 .1) (length (a .s .now) - 1) (c .before .before .coefficient .result)
-    (c .before .negate .result) (c .divide .result) (omega arith) (omega arith)
-    (c .before .before .coefficient .ensures) (c .before .negate .ensures) (c .divide .ensures)
+far-sum-requires : tie.Need-far-sum-requires
+far-sum-requires c κs = search needs
+
+sub-weighted : tie.Need-sub-weighted
+sub-weighted c = search needs
+
+mul-weighted : tie.Need-mul-weighted
+mul-weighted c = search needs
+
+shared-slice-read-weighted : tie.Need-shared-slice-read-weighted
+shared-slice-read-weighted c = search needs
+
+weighted-requires : tie.Need-weighted-requires
+weighted-requires c κs =
+    let at-negate = c .before .before .before .before in
+    let begin = start at-negate in
+    omega (arith, begin .pre .1 .1 .1 .3 (begin .args .k - 1) (omega arith), at-negate .negate .ensures .below)
+
+returns : tie.Need-returns
+returns c =
+    let at-far = c .before .before in
+    let at-multiply = at-far .before in
+    let at-negate = at-multiply .before .before in
+    let begin = start at-negate in
+    let a = begin .args in
+    let k = a .k in
+    c-more (a .v .p) (a .s .now) (a .c .now) k (omega arith) (getD (a .table .now) (2 * k) 0) (at-negate .negate .result) (at-multiply .multiply .result)
+    (at-far .far-sum .result) (c .weighted .result) (omega arith) (begin .pre .1 .0 .0 .inverse (2 * k) (omega arith) (omega arith))
+    (at-negate .negate .ensures) (at-multiply .multiply .ensures) (at-far .far-sum .ensures) (c .weighted .ensures)
 
 pub next-c-spec : {M : Type 1} → statement M
 next-c-spec =
     tie.close
     (tie.spec
-    returns
-    sub-above
-    part-above-start
-    part-above-end
-    slice-aggregate-before
-    sub-coefficient
-    coefficient-requires
+    mul-negate
+    mul-negate-2
+    shared-slice-read-negate
     negate-requires
-    mul-divide
-    divide-requires
-    returns-2)
+    shared-slice-read-multiply
+    multiply-requires
+    far-sum-requires
+    sub-weighted
+    mul-weighted
+    shared-slice-read-weighted
+    weighted-requires
+    returns)

@@ -1,92 +1,95 @@
 -- `candidate::next_h` meets its contract. Assumes nothing.
 use native.Mathlib.Omega.{arith}
+use Prim.Native.Nat.{_-_}
+use lib.ListN.{getD}
 use borrow.Author.Needs.{needs}
 use Rattle.sheet.specs.Values.{question}
-use Rattle.candidate.proofs.EquationTurns.{h-zero, h-first, h-second, h-more}
+use Rattle.candidate.proofs.EquationTurns.{h-more}
 use Rattle.candidate.proofs.next_h.Statement.{statement}
 use Rattle.candidate.proofs.next_h.Tie as tie
 
-returns : tie.Need-returns
-returns c =
-    let start = c .before .before .before in
-    let a = start .args in
-    h-zero (a .v .p) (question (a .v)) (a .h .now) (a .k) (start .pre .1 .1 .1) (omega arith) (c .if1 .taken)
+abbrev start : tie.After-square-sum → tie.Start
+start c = c .before .before .before
 
-subtract-requires : tie.Need-subtract-requires
-subtract-requires c κs = search needs
+square-sum-requires : tie.Need-square-sum-requires
+square-sum-requires c κs = search needs
 
-divide-requires : tie.Need-divide-requires
-divide-requires c κs =
-    (omega arith, omega arith, omega arith, c .before .before .before .before .before .pre .1 .0 .0)
+sub-weighted : tie.Need-sub-weighted
+sub-weighted c = search needs
 
-returns-2 : tie.Need-returns-2
-returns-2 c =
-    let start = c .before .before .before .before .before .before in
-    let a = start .args in
-    h-first (a .v .p) (question (a .v)) (a .h .now) (a .k) (start .pre .1 .1 .1) (c .before .subtract .result) (c .divide .result)
-    (c .before .before .if2 .taken)
-    (c .before .subtract .ensures) (c .divide .ensures)
+mul-weighted : tie.Need-mul-weighted
+mul-weighted c = search needs
 
-subtract-requires-2 : tie.Need-subtract-requires-2
-subtract-requires-2 c κs = search needs
+shared-slice-read-weighted : tie.Need-shared-slice-read-weighted
+shared-slice-read-weighted c = search needs
 
-divide-requires-2 : tie.Need-divide-requires-2
-divide-requires-2 c κs =
-    (omega arith, omega arith, omega arith, c .before .before .before .before .before .before .pre .1 .0 .0)
+mul-weighted-2 : tie.Need-mul-weighted-2
+mul-weighted-2 c =
+    let begin = start (c .before) in
+    let k = begin .args .k in
+    omega (arith, begin .pre .1 .0 .0 .inverse (k - 2) (omega arith) (omega arith) .below)
 
-returns-3 : tie.Need-returns-3
-returns-3 c =
-    let start = c .before .before .before .before .before .before .before in
-    let a = start .args in
-    h-second (a .v .p) (question (a .v)) (a .h .now) (a .k) (start .pre .1 .1 .1) (c .before .subtract2 .result) (c .divide2 .result)
-    (c .before .before .if3 .taken)
-    (c .before .subtract2 .ensures) (c .divide2 .ensures)
+sub-weighted-2 : tie.Need-sub-weighted-2
+sub-weighted-2 c = search needs
 
-recurrence-requires : tie.Need-recurrence-requires
-recurrence-requires c κs =
-    let start = c .before .before .before .before .before in
-    (start .pre .0, (omega arith, omega arith, omega arith, start .pre .1 .1 .2))
+mul-weighted-3 : tie.Need-mul-weighted-3
+mul-weighted-3 c = search needs
+
+shared-slice-read-weighted-2 : tie.Need-shared-slice-read-weighted-2
+shared-slice-read-weighted-2 c = search needs
+
+sub-weighted-3 : tie.Need-sub-weighted-3
+sub-weighted-3 c = search needs
+
+mul-weighted-4 : tie.Need-mul-weighted-4
+mul-weighted-4 c = search needs
+
+shared-slice-read-weighted-3 : tie.Need-shared-slice-read-weighted-3
+shared-slice-read-weighted-3 c = search needs
+
+weighted-requires : tie.Need-weighted-requires
+weighted-requires c κs =
+    let begin = start (c .before .before .before) in
+    let k = begin .args .k in
+    omega (arith, begin .pre .1 .1 .0 .3 (k - 2) (omega arith), begin .pre .1 .1 .0 .3 (k - 3) (omega arith))
 
 mul-divide : tie.Need-mul-divide
-mul-divide c = omega arith
+mul-divide c = search needs
 
 add-divide : tie.Need-add-divide
-add-divide c = omega arith
+add-divide c = search needs
 
-divide-requires-3 : tie.Need-divide-requires-3
-divide-requires-3 c κs =
-    (omega arith, omega arith, omega arith, c .before .before .before .before .before .before .pre .1 .0 .0)
+divide-requires : tie.Need-divide-requires
+divide-requires c κs = search needs
 
-sub-divide : tie.Need-sub-divide
-sub-divide c = omega arith
-
-divide-requires-4 : tie.Need-divide-requires-4
-divide-requires-4 c κs =
-    (omega arith, omega arith, omega arith, c .before .before .before .before .before .before .before .pre .1 .0 .0)
-
-returns-4 : tie.Need-returns-4
-returns-4 c =
-    let start = c .before .before .before .before .before .before .before .before in
-    let a = start .args in
-    h-more (a .v .p) (question (a .v)) (a .h .now) (a .k) (start .pre .1 .1 .1) (c .before .before .recurrence .result) (c .before .divide3 .result)
-    (c .divide4 .result) (omega arith)
-    (c .before .before .recurrence .ensures) (c .before .divide3 .ensures) (c .divide4 .ensures)
+returns : tie.Need-returns
+returns c =
+    let at-weighted = c .before in
+    let at-sum = at-weighted .before .before .before .before in
+    let begin = start at-sum in
+    let a = begin .args in
+    let k = a .k in
+    h-more (a .v .p) (question (a .v)) (a .h .now) k (omega arith) (omega arith) (getD (a .table .now) (k - 2) 0) (at-sum .square-sum .result) (a .y) (a .z)
+    (at-weighted .weighted .result) (c .divide .result) (begin .pre .1 .0 .0 .inverse (k - 2) (omega arith) (omega arith)) (at-sum .square-sum .ensures)
+    (begin .pre .1 .1 .1 .0) (begin .pre .1 .1 .1 .1) (at-weighted .weighted .ensures) (c .divide .ensures)
 
 pub next-h-spec : {M : Type 1} → statement M
 next-h-spec =
     tie.close
     (tie.spec
-    returns
-    subtract-requires
-    divide-requires
-    returns-2
-    subtract-requires-2
-    divide-requires-2
-    returns-3
-    recurrence-requires
+    square-sum-requires
+    sub-weighted
+    mul-weighted
+    shared-slice-read-weighted
+    mul-weighted-2
+    sub-weighted-2
+    mul-weighted-3
+    shared-slice-read-weighted-2
+    sub-weighted-3
+    mul-weighted-4
+    shared-slice-read-weighted-3
+    weighted-requires
     mul-divide
     add-divide
-    divide-requires-3
-    sub-divide
-    divide-requires-4
-    returns-4)
+    divide-requires
+    returns)

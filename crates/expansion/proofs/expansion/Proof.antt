@@ -13,8 +13,7 @@ use Rattle.sheet.specs.Values.{question}
 use Rattle.isogeny.specs.Expansion.{expansion}
 use Rattle.zmod.specs.Residues.{Residue, poly, residues-filled, residue-self}
 use Rattle.zmod.specs.Zmod.{Zmod}
-use Rattle.expansion.specs.Multiple.{Multiple}
-use Rattle.expansion.proofs.Turns.{multiple, two-more}
+use Rattle.expansion.specs.Multiple.{Multiple, both, twice, multiple}
 use Rattle.expansion.proofs.expansion.Statement.{statement}
 use Rattle.expansion.proofs.expansion.Tie as tie
 
@@ -160,10 +159,10 @@ loop-again c =
       omega arith,
       omega (arith, length-set (loop .h) (loop .i) (r .result)),
       filled-more (F v (a .s .now)) (loop .h) (loop .i) (r .result) inside (loop .inv .3) (r .ensures),
-      two-more (v .a) (at-add .add .result) (2 * loop .i - 1) (2 * (loop .i + 1) - 1) (loop .y) (at-add3 .add3 .result) (omega arith) (at-add .add .ensures)
-          (loop .inv .4) (at-add3 .add3 .ensures),
-      two-more (v .b) (at-add2 .add2 .result) (2 * loop .i - 2) (2 * (loop .i + 1) - 2) (loop .z) (c .add4 .result) (omega arith) (at-add2 .add2 .ensures)
-          (loop .inv .5) (c .add4 .ensures),
+      both (question v .A) (2 * loop .i - 1) 2 (2 * (loop .i + 1) - 1) (omega arith) (loop .inv .4) (twice (question v .A) (at-add .add .ensures))
+          (at-add3 .add3 .ensures),
+      both (question v .B) (2 * loop .i - 2) 2 (2 * (loop .i + 1) - 2) (omega arith) (loop .inv .5) (twice (question v .B) (at-add2 .add2 .ensures))
+          (c .add4 .ensures),
     )
 
 same-length : tie.Need-same-length Inv-loop μ-loop

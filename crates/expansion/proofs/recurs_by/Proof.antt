@@ -11,8 +11,7 @@ use Rattle.zmod.specs.Zmod.{Zmod}
 use Rattle.sheet.specs.Values.{question}
 use Rattle.zmod.specs.Residues.{poly}
 use Rattle.isogeny.specs.Expansion.{Recurs}
-use Rattle.expansion.specs.Multiple.{Multiple}
-use Rattle.expansion.proofs.Turns.{multiple, two-more}
+use Rattle.expansion.specs.Multiple.{Multiple, both, twice, multiple}
 use Rattle.expansion.proofs.recurs_by.Statement.{statement}
 use Rattle.expansion.proofs.recurs_by.Tie as tie
 
@@ -118,11 +117,10 @@ loop-again c =
     let found = at-recurs-at .recurs-at in (
       omega arith,
       below-more _ _ (at .inv .1) (λ l. found .ensures .0 (not-false (found .result) (at-if1 .if1 .left))),
-      two-more (v .a) (at-add .add .result) (2 * at .k - 3) (2 * (at .k + 1) - 3) (at .y)
-          (at-add3 .add3 .result) (omega arith) (at-add .add .ensures) (at .inv .2)
+      both (question v .A) (2 * at .k - 3) 2 (2 * (at .k + 1) - 3) (omega arith) (at .inv .2) (twice (question v .A) (at-add .add .ensures))
           (at-add3 .add3 .ensures),
-      two-more (v .b) (at-add2 .add2 .result) (2 * at .k - 6) (2 * (at .k + 1) - 6) (at .z) (c .add4 .result)
-          (omega arith) (at-add2 .add2 .ensures) (at .inv .3) (c .add4 .ensures),
+      both (question v .B) (2 * at .k - 6) 2 (2 * (at .k + 1) - 6) (omega arith) (at .inv .3) (twice (question v .B) (at-add2 .add2 .ensures))
+          (c .add4 .ensures),
     )
 
 returns-2 : tie.Need-returns-2 Inv-loop μ-loop
