@@ -35,12 +35,13 @@ pub fn kernel(l: usize) -> usize {
     check(l)
 }
 
-/// Solve computes h up to d - 1, each pair counted once, and c up to d before.
+/// Solve computes h up to d - 1, each pair counted once, and c up to d before, and takes no power sum up to d.
 pub fn solve(l: usize) -> usize {
     let d = (l - 1) / 2;
     let h: usize = (3..d).map(|k| (k - 1) / 2).sum();
     let c: usize = (1..=d).sum();
-    h + c + check(l)
+    let known: usize = (1..=d).map(|k| k - 1).sum();
+    h + c + check(l) - known
 }
 
 /// Push evaluates g, N and their derivatives after a check.

@@ -134,8 +134,8 @@ fn columns<'a>(input: &'a Input, pari: &'a mut Pari) -> Vec<Column<'a>> {
     let count = same::rules::whole(n + 1);
     let (mut e, mut acc) = (vec![0u64; n + 5], vec![0u64; count]);
     let (mut s, mut h) = (vec![0u32; count], vec![0u32; n]);
-    same::rules::power_sums(v, g, &mut e, &mut acc, &mut s);
-    same::rules::expansion(v, &s, &mut h);
+    same::rules::power_sums(v, g, &mut e, &mut acc, &mut s, 0);
+    same::rules::expansion(v, &s, &mut h, 0);
     let (sums, expanded) = (s.clone(), h.clone());
     let (mut room, mut due, mut squares) = (e.clone(), vec![0u64; n - 3], vec![0u32; n - 3]);
     let mut numerator = input.n.clone();
@@ -145,11 +145,11 @@ fn columns<'a>(input: &'a Input, pari: &'a mut Pari) -> Vec<Column<'a>> {
     );
     column!(
         "same sums",
-        same::rules::power_sums(v, black_box(g), &mut e, &mut acc, black_box(&mut s))
+        same::rules::power_sums(v, black_box(g), &mut e, &mut acc, black_box(&mut s), 0)
     );
     column!(
         "same expansion",
-        same::rules::expansion(v, black_box(&sums), black_box(&mut h))
+        same::rules::expansion(v, black_box(&sums), black_box(&mut h), 0)
     );
     column!(
         "same recurrence",
@@ -157,6 +157,7 @@ fn columns<'a>(input: &'a Input, pari: &'a mut Pari) -> Vec<Column<'a>> {
             v,
             m,
             black_box(&expanded),
+            3,
             &mut room,
             &mut due,
             &mut squares

@@ -201,9 +201,26 @@ fn numerator_in<const ROOM: usize>(v: Values, m: Modulus, g: &[u32], out: &mut [
     }
 }
 
+/// The rows of the four power sums from i on, for those from `from` on.
+#[inline(always)]
+fn sums_rows(e: &[u64], d: usize, acc: &mut [u64], s: &[u32], i: usize, from: usize) {
+    let skip = from - (i + 4);
+    let len = (d - skip).min(acc.len() - from);
+    // Of remainders the compiler knows too much, and takes products of 64 bits.
+    let factors = [0, 1, 2, 3].map(|j| u64::from(black_box(at(s, i + j))));
+    rows::add_rows(acc, from, len, &e[skip..], factors);
+}
+
 /// s_k = -2k c_k - (the sum of s_i c_(k - i), i from 1 to k - 1), where c is g reversed: four at a time, each of which waits for the one before, and then
-/// their rows, for those that follow. s and acc have 4n + 1 words, e has two more than g or any number.
-pub fn power_sums(v: Values, g: &[u32], e: &mut [u64], acc: &mut [u64], s: &mut [u32]) {
+/// their rows, for those that follow. Those up to `known` are there already. s and acc have 4n + 1 words, e has two more than g or any number.
+pub fn power_sums(
+    v: Values,
+    g: &[u32],
+    e: &mut [u64],
+    acc: &mut [u64],
+    s: &mut [u32],
+    known: usize,
+) {
     let p = v.p;
     let d = g.len() - 1;
     e.fill(0);
@@ -215,7 +232,12 @@ pub fn power_sums(v: Values, g: &[u32], e: &mut [u64], acc: &mut [u64], s: &mut 
         put(acc, k, rows::product(2 * k as u64, at(e, k - 1)));
     }
     put(s, 0, (v.degree - 1) % p);
+    let from = known / 4 * 4 + 1;
     let mut i = 1;
+    while i < from {
+        sums_rows(e, d, acc, s, i, from);
+        i += 4;
+    }
     while i < s.len() {
         let due = |j: usize| at(acc, i + j);
         let c = |x: u32, t: usize| rows::product(u64::from(x), at(e, t));
@@ -224,21 +246,20 @@ pub fn power_sums(v: Values, g: &[u32], e: &mut [u64], acc: &mut [u64], s: &mut 
         let y = rem(due(2) + c(w, 1) + c(x, 0), p);
         let z = rem(due(3) + c(w, 2) + c(x, 1) + c(y, 0), p);
         rows::put_four(s, i, [w, x, y, z]);
-        let len = d.min(acc.len() - (i + 4));
-        // Of remainders the compiler knows too much, and takes products of 64 bits.
-        let factors = [w, x, y, z].map(|x| u64::from(black_box(x)));
-        rows::add_rows(acc, i + 4, len, e, factors);
+        sums_rows(e, d, acc, s, i, i + 4);
         i += 4;
     }
 }
 
-/// h_i = (2i + 1)s_(i+1) + (2i - 1)A s_(i-1) + (2i - 2)B s_(i-2); the multiples of A and B are added up.
-pub fn expansion(v: Values, s: &[u32], h: &mut [u32]) {
+/// h_i = (2i + 1)s_(i+1) + (2i - 1)A s_(i-1) + (2i - 2)B s_(i-2), from `known` on; the multiples of A and B are added up.
+pub fn expansion(v: Values, s: &[u32], h: &mut [u32], known: usize) {
     let p = v.p;
     let (twice_a, twice_b) = (add(v.a, v.a, p), add(v.b, v.b, p));
-    let (mut ka, mut kb) = (v.a, 0);
     put(h, 0, 0);
-    for i in 1..h.len() {
+    let from = known.max(1);
+    let n = from as u32;
+    let (mut ka, mut kb) = (times(2 * n - 1, v.a, p), times(2 * n - 2, v.b, p));
+    for i in from..h.len() {
         let sum = mul(2 * i as u32 + 1, at(s, i + 1))
             + mul(ka, at(s, i - 1))
             + mul(kb, at(s, i.saturating_sub(2)));
@@ -255,12 +276,13 @@ fn square_sum(h: &[u32], k: usize, p: u32) -> u32 {
     square_coefficient(unsafe { h.get_unchecked(1..k - 1) }, k - 3, p)
 }
 
-/// (k - 2)((2k + 3)h_k + (2k - 3)A h_(k-2) + 2(k - 3)B h_(k-3)) = 3(the sum of h_i h_(k-1-i)), for k from 3. All sums are those of one square, for
-/// which acc and squares have three words less than h, and e five more.
+/// (k - 2)((2k + 3)h_k + (2k - 3)A h_(k-2) + 2(k - 3)B h_(k-3)) = 3(the sum of h_i h_(k-1-i)), for k from `from`, 3 at least. All sums are those of
+/// one square, for which acc and squares have three words less than h, and e five more.
 pub fn recurs(
     v: Values,
     m: Modulus,
     h: &[u32],
+    from: usize,
     e: &mut [u64],
     acc: &mut [u64],
     squares: &mut [u32],
@@ -268,8 +290,9 @@ pub fn recurs(
     let p = v.p;
     rows::square(&h[1..], e, acc, squares, m);
     let (twice_a, twice_b) = (add(v.a, v.a, p), add(v.b, v.b, p));
-    let (mut ka, mut kb) = (times(3, v.a, p), 0);
-    for k in 3..h.len() {
+    let n = from as u32;
+    let (mut ka, mut kb) = (times(2 * n - 3, v.a, p), times(2 * n - 6, v.b, p));
+    for k in from..h.len() {
         let n = k as u32;
         let u = rem(
             mul(2 * n + 3, at(h, k)) + mul(ka, at(h, k - 2)) + mul(kb, at(h, k - 3)),
@@ -300,22 +323,40 @@ pub fn rule_three(v: Values, m: Modulus, g: &[u32]) -> bool {
 }
 
 fn rule_three_in<const ROOM: usize>(v: Values, m: Modulus, g: &[u32]) -> bool {
-    let p = v.p;
     let n = last(v.degree as usize) + 1;
     let count = whole(n + 1);
     let (mut e, mut acc) = ([0u64; ROOM], [0u64; ROOM]);
     let (e, acc) = (&mut e[..n + 5], &mut acc[..count]);
     let (mut s, mut h, mut squares) = ([0u32; ROOM], [0u32; ROOM], [0u32; ROOM]);
     let (s, h, squares) = (&mut s[..count], &mut h[..n], &mut squares[..n - 3]);
-    power_sums(v, g, e, acc, s);
-    expansion(v, s, h);
-    if times(5, at(h, 1), p) != sub(v.a, v.atilde, p) {
-        return false;
+    rule_three_from(v, m, g, e, acc, s, h, squares, 0)
+}
+
+/// The same in room from outside, where s up to `known` and h before it are there already and meet what R3 asks of them.
+#[allow(clippy::too_many_arguments)]
+pub fn rule_three_from(
+    v: Values,
+    m: Modulus,
+    g: &[u32],
+    e: &mut [u64],
+    acc: &mut [u64],
+    s: &mut [u32],
+    h: &mut [u32],
+    squares: &mut [u32],
+    known: usize,
+) -> bool {
+    let p = v.p;
+    power_sums(v, g, e, acc, s, known);
+    expansion(v, s, h, known);
+    if known < 3 {
+        if times(5, at(h, 1), p) != sub(v.a, v.atilde, p) {
+            return false;
+        }
+        if times(7, at(h, 2), p) != sub(v.b, v.btilde, p) {
+            return false;
+        }
     }
-    if times(7, at(h, 2), p) != sub(v.b, v.btilde, p) {
-        return false;
-    }
-    recurs(v, m, h, e, &mut acc[..n - 3], squares)
+    recurs(v, m, h, known.max(3), e, &mut acc[..squares.len()], squares)
 }
 
 /// y / 2: the half of y or of y + p, whichever is even.
@@ -348,18 +389,25 @@ fn far_sum(s: &[u32], c: &[u32], k: usize, p: u32) -> u32 {
 }
 
 /// g from the codomain: the inverses, h by the recurrence, s from h, c by Newton's identities, and c reversed. The multiples of -A and -B are added up, and
-/// of c's remainders only the last of a turn waits for the word before.
-pub fn candidate(v: Values, g: &mut [u32]) {
+/// of c's remainders only the last of a turn waits for the word before. The places that are used: 2d + 2 of the table, d of h, d + 1 of s and c.
+pub fn candidate(
+    v: Values,
+    table: &mut [u32],
+    h: &mut [u32],
+    s: &mut [u32],
+    c: &mut [u32],
+    g: &mut [u32],
+) {
     let p = v.p;
     let d = g.len() - 1;
-    // The places that are used: 2d + 2 of the table, d of h, d + 1 of s and c.
-    let (mut table, mut h, mut s, mut c) = ([0u32; 256], [0u32; 256], [0u32; 256], [0u32; 256]);
-    put(&mut table, 1, 1);
+    put(table, 0, 0);
+    put(table, 1, 1);
     for k in 2..2 * d as u32 + 2 {
-        let x = entry(&table, k, p);
-        put(&mut table, k as usize, x);
+        let x = entry(table, k, p);
+        put(table, k as usize, x);
     }
-    let over = |y: u32, k: usize| times(at(&table, k), y, p);
+    let over = |y: u32, k: usize| times(at(table, k), y, p);
+    put(h, 0, 0);
     let (a, b) = (neg(v.a, p), neg(v.b, p));
     let (twice_a, twice_b) = (add(a, a, p), add(b, b, p));
     for k in 1..d.min(3) {
@@ -368,35 +416,34 @@ pub fn candidate(v: Values, g: &mut [u32]) {
         } else {
             over(sub(v.b, v.btilde, p), 7)
         };
-        put(&mut h, k, x);
+        put(h, k, x);
     }
     let (mut ka, mut kb) = (add(twice_a, a, p), 0);
     for k in 3..d {
-        let sum = mul(3 * at(&table, k - 2), square_sum(&h, k, p))
-            + mul(ka, at(&h, k - 2))
-            + mul(kb, at(&h, k - 3));
-        put(&mut h, k, over(rem(sum, p), 2 * k + 3));
+        let sum = mul(3 * at(table, k - 2), square_sum(h, k, p))
+            + mul(ka, at(h, k - 2))
+            + mul(kb, at(h, k - 3));
+        put(h, k, over(rem(sum, p), 2 * k + 3));
         ka = add(ka, twice_a, p);
         kb = add(kb, twice_b, p);
     }
-    put(&mut s, 0, (v.degree - 1) % p);
-    put(&mut s, 1, v.sigma);
+    put(s, 0, (v.degree - 1) % p);
+    put(s, 1, v.sigma);
     let (mut ka, mut kb) = (a, 0);
     for i in 1..d {
-        let sum =
-            u64::from(at(&h, i)) + mul(ka, at(&s, i - 1)) + mul(kb, at(&s, i.saturating_sub(2)));
-        put(&mut s, i + 1, over(rem(sum, p), 2 * i + 1));
+        let sum = u64::from(at(h, i)) + mul(ka, at(s, i - 1)) + mul(kb, at(s, i.saturating_sub(2)));
+        put(s, i + 1, over(rem(sum, p), 2 * i + 1));
         ka = add(ka, twice_a, p);
         kb = add(kb, twice_b, p);
     }
-    put(&mut c, 0, 1);
+    put(c, 0, 1);
     for k in 1..=d {
-        let t = neg(at(&table, 2 * k), p);
-        let u = times(at(&s, 1), t, p);
-        let sum = mul(far_sum(&s, &c, k, p), t) + mul(u, at(&c, k - 1));
-        put(&mut c, k, rem(sum, p));
+        let t = neg(at(table, 2 * k), p);
+        let u = times(at(s, 1), t, p);
+        let sum = mul(far_sum(s, c, k, p), t) + mul(u, at(c, k - 1));
+        put(c, k, rem(sum, p));
     }
     for i in 0..=d {
-        put(g, i, at(&c, d - i));
+        put(g, i, at(c, d - i));
     }
 }

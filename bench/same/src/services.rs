@@ -282,11 +282,31 @@ pub fn solve(ws: &[u32], answer: &mut [u32]) -> u64 {
         Ok(v) => v,
         Err(k) => return REFUSED + u64::from(k),
     };
-    let d = (v.degree as usize - 1) / 2;
-    let mut g = [0; 128];
-    let g = &mut g[..d + 1];
-    rules::candidate(v, g);
-    certify(v, g, answer)
+    match v.degree {
+        ..=21 => solve_in::<28>(v, answer),
+        22..=79 => solve_in::<88>(v, answer),
+        _ => solve_in::<264>(v, answer),
+    }
+}
+
+/// Of the candidate half of what R3 asks is known. N's room serves for its coefficients before, the table's for R3's squares after.
+fn solve_in<const ROOM: usize>(v: Values, answer: &mut [u32]) -> u64 {
+    let l = v.degree as usize;
+    let d = l / 2;
+    let count = rules::whole(l + 2);
+    let (mut e, mut acc) = ([0u64; ROOM], [0u64; ROOM]);
+    let (e, acc) = (&mut e[..l + 6], &mut acc[..count]);
+    let (mut s, mut h, mut table) = ([0u32; ROOM], [0u32; ROOM], [0u32; ROOM]);
+    let (s, h, table) = (&mut s[..count], &mut h[..l + 1], &mut table[..l + 1]);
+    let (mut n, mut g) = ([0u32; ROOM], [0u32; ROOM]);
+    let (n, g) = (&mut n[..l + 1], &mut g[..d + 1]);
+    rules::candidate(v, table, h, s, n, g);
+    let m = rows::modulus(v.p);
+    rules::numerator(v, m, g, n);
+    if !rules::rule_three_from(v, m, g, e, acc, s, h, &mut table[..l - 2], d) {
+        return REFUSED + 11;
+    }
+    write(v, g, n, answer)
 }
 
 pub fn kernel(ws: &[u32], answer: &mut [u32]) -> u64 {
@@ -308,8 +328,8 @@ pub fn kernel(ws: &[u32], answer: &mut [u32]) -> u64 {
     }
     let (mut e, mut acc) = ([0; 130], [0; 5]);
     let (mut s, mut h) = ([0; 5], [0; 3]);
-    rules::power_sums(v, g, &mut e, &mut acc, &mut s);
-    rules::expansion(v, &s, &mut h);
+    rules::power_sums(v, g, &mut e, &mut acc, &mut s, 0);
+    rules::expansion(v, &s, &mut h, 0);
     v.sigma = neg(times(2, at(g, d - 1), p), p);
     v.atilde = sub(v.a, times(5, h[1], p), p);
     v.btilde = sub(v.b, times(7, h[2], p), p);
