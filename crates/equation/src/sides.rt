@@ -26,25 +26,13 @@ fn blank766() -> [u32; 766] {
     [0; 766]
 }
 
-// out = a², coefficient by coefficient: p is so small here that it is as well as by rows.
-fn square(a: &[u32], out: &mut [u32], p: u32)
-    requires { ⌜ (0 < p) × (p ≤ 2 ^ 28) × (Reduced p (now a)) ⌝ }
-    ensures { λ _. ⌜ Residues p (conv (Zmod p) (poly p (now (a .entry))) (poly p (now (a .entry)))) (now (out .exit)) ⌝ }
-{
-    let mut k = 0;
-    while k < out.len() {
-        out[k] = poly::square_coefficient(a, k, p);
-        k += 1;
-    }
-}
-
 // The first n coefficients of a².
 fn square766(a: &[u32], n: usize, p: u32) -> [u32; 766]
     requires { ⌜ (0 < p) × (p ≤ 2 ^ 28) × (Reduced p (now a)) × (n ≤ 766) ⌝ }
     ensures { λ r. ⌜ Residues p (conv (Zmod p) (poly p (now (a .entry))) (poly p (now (a .entry)))) (take n r) ⌝ }
 {
     let mut r = blank766();
-    square(a, &mut r[..n], p);
+    poly::square_by_coefficients(a, &mut r[..n], p);
     r
 }
 

@@ -139,12 +139,27 @@ pub fn square_coefficient(a: &[u32], k: usize, p: u32) -> u32
     field::reduce(half + half + middle(a, k), p)
 }
 
-// out = a², where acc is room for the sums and e for a.
+// out = a², each coefficient by itself.
+pub fn square_by_coefficients(a: &[u32], out: &mut [u32], p: u32)
+    requires { ⌜ (0 < p) × (p ≤ 2 ^ 28) × (Reduced p (now a)) ⌝ }
+    ensures { λ _. ⌜ Residues p (conv (Zmod p) (poly p (now (a .entry))) (poly p (now (a .entry)))) (now (out .exit)) ⌝ }
+{
+    let mut k = 0;
+    while k < out.len() {
+        out[k] = square_coefficient(a, k, p);
+        k += 1;
+    }
+}
+
+// out = a², where acc is room for the sums and e for a. Few coefficients are sooner there without the rows.
 pub fn square(a: &[u32], e: &mut [u64], acc: &mut [u64], out: &mut [u32], m: Modulus)
     requires { ⌜ (Prepared m) × (Reduced (m .p) (now a)) × (8 * turns (length (now a)) (length (now out)) * m .p ≤ 2 ^ 36) ⌝ }
     requires { ⌜ (length (now acc) ≡ length (now out)) × (length (now a) + 6 ≤ length (now e)) × (length (now a) < 2 ^ 60) ⌝ }
     ensures { λ _. ⌜ Residues (m .p) (conv (Zmod (m .p)) (poly (m .p) (now (a .entry))) (poly (m .p) (now (a .entry)))) (now (out .exit)) ⌝ }
 {
+    if out.len() < 8 {
+        return square_by_coefficients(a, out, m.p);
+    }
     rows::square(a, e, acc, m.p);
     barrett::remainders(acc, out, m);
 }

@@ -2,18 +2,33 @@
 use mathlib.Core.Path.{_≡_, subst}
 use Prim.Native.Nat.{_*_, _^_, _≤_}
 use native.Mathlib.Omega.{arith}
-use borrow.Author.Needs.{needs}
 use lib.ListN.{length}
 use Rattle.barrett.specs.Modulus.{prepared-positive, prepared-below}
 use Rattle.rows.specs.Room.{turns}
 use Rattle.rows.specs.Sums.{sums-residues}
+use borrow.Author.Needs.{needs}
 use Rattle.poly.proofs.square.Statement.{statement}
 use Rattle.poly.proofs.square.Tie as tie
 
+square-by-coefficients-requires : tie.Need-square-by-coefficients-requires
+square-by-coefficients-requires c κs =
+    let start = c .before .before .before .before .before .before in
+    let m = start .pre .0 .0 in
+    (prepared-positive m, omega (arith, prepared-below m), start .pre .0 .1)
+
+same-length : tie.Need-same-length
+same-length c = search needs
+
+returns : tie.Need-returns
+returns c =
+    let at-square-by-coefficients = c .before .before in
+    at-square-by-coefficients .square-by-coefficients .ensures
+
 square-requires : tie.Need-square-requires
 square-requires c κs =
-    let pre = c .before .before .before .before .before .before .pre in
-    let a = c .before .before .before .before .before .before .args in
+    let start = c .before .before .before .before .before .before .before in
+    let pre = start .pre in
+    let a = start .args in
     let m = pre .0 .0 in
     let same : length (a .out .now) ≡ length (a .acc .now) = omega arith in (
       (pre .1 .1, pre .1 .2),
@@ -28,18 +43,20 @@ square-requires c κs =
 remainders-requires : tie.Need-remainders-requires
 remainders-requires c κs = search needs
 
-same-length : tie.Need-same-length
-same-length c = search needs
-
 same-length-2 : tie.Need-same-length-2
 same-length-2 c = search needs
 
 same-length-3 : tie.Need-same-length-3
 same-length-3 c = search needs
 
-returns : tie.Need-returns
-returns c = sums-residues (search needs) (c .before .before .before .before .before .before .before .before .before .square .ensures) (c .before .before
-    .remainders .ensures)
+same-length-4 : tie.Need-same-length-4
+same-length-4 c = search needs
+
+returns-2 : tie.Need-returns-2
+returns-2 c =
+    let at-remainders = c .before .before in
+    let at-square = at-remainders .before .before .before .before .before .before .before in
+    sums-residues (search needs) (at-square .square .ensures) (at-remainders .remainders .ensures)
 
 pub square-spec : {M : Type 1} → statement M
-square-spec = tie.close (tie.spec square-requires remainders-requires same-length same-length-2 same-length-3 returns)
+square-spec = tie.close (tie.spec square-by-coefficients-requires same-length returns square-requires remainders-requires same-length-2 same-length-3 same-length-4 returns-2)

@@ -12,16 +12,16 @@ blank766-requires c κs = search needs
 array-borrow-prefix-r : tie.Need-array-borrow-prefix-r
 array-borrow-prefix-r c = search needs
 
-slice-aggregate-square : tie.Need-slice-aggregate-square
-slice-aggregate-square c = simp length-take (omega arith)
+slice-aggregate-square-by-coefficients : tie.Need-slice-aggregate-square-by-coefficients
+slice-aggregate-square-by-coefficients c = simp length-take (omega arith)
 
-square-requires : tie.Need-square-requires
-square-requires c κs = search needs
+square-by-coefficients-requires : tie.Need-square-by-coefficients-requires
+square-by-coefficients-requires c κs = search needs
 
 returns : tie.Need-returns
 returns c =
     let at = c .before .before .before .before .before .args in
-    let e = c .before .square in
+    let e = c .before .square-by-coefficients in
     let blank = c .before .before .before .blank766 .result in
     front (at .p) (e .last .1 .0) (drop (at .n) blank) (at .n)
     (omega (arith, e .kept, c .before .before .before .before .before .pre, length-take (at .n) blank)) (e .ensures)
@@ -32,6 +32,6 @@ square766-spec =
     (tie.spec
     blank766-requires
     array-borrow-prefix-r
-    slice-aggregate-square
-    square-requires
+    slice-aggregate-square-by-coefficients
+    square-by-coefficients-requires
     returns)

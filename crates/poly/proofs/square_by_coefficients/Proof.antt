@@ -1,4 +1,4 @@
--- `equation::sides::square` meets its contract. The invariant: the coefficients before k are stored. Assumes nothing.
+-- `poly::square_by_coefficients` meets its contract. The invariant: the coefficients before k are stored. Assumes nothing.
 use Prim.Native.Nat.{_-_}
 use borrow.Author.Needs.{needs}
 use lib.ListN.{length}
@@ -6,9 +6,9 @@ use Rattle.series.specs.Series.{conv}
 use Rattle.zmod.specs.Zmod.{Zmod}
 use Rattle.zmod.specs.Residues.{poly}
 use Rattle.slices.specs.Stored.{Stored, stored-none, stored-more}
 use Rattle.poly.specs.Stored.{Of, stored-all}
-use Rattle.equation.proofs.sides.square.Statement.{statement}
-use Rattle.equation.proofs.sides.square.Tie as tie
+use Rattle.poly.proofs.square_by_coefficients.Statement.{statement}
+use Rattle.poly.proofs.square_by_coefficients.Tie as tie
 
 abbrev Inv-loop : tie.InvT-loop
 Inv-loop a out₀ p k₀ out k = Stored (Of p (conv (Zmod p) (poly p a) (poly p a))) out₀ out k
@@ -49,8 +49,8 @@ returns c =
     let loop = c .before .loop in
     stored-all (at .p) _ (at .out .now) (loop .out) (loop .k) (search needs) (search needs) (loop .inv)
 
-pub square-spec : {M : Type 1} → statement M
-square-spec =
+pub square-by-coefficients-spec : {M : Type 1} → statement M
+square-by-coefficients-spec =
     tie.close
     (tie.spec
     Inv-loop
