@@ -6,6 +6,7 @@ use crate::rules::{at, put, word};
 /// What the remainders by p need: P = p 2^shift with 2^27 <= P < 2^28, 2^36 mod P, and (2^59 - 1) / P rounded down.
 #[derive(Clone, Copy)]
 pub struct Modulus {
+    pub p: u32,
     shift: u32,
     big: u64,
     fold: u64,
@@ -16,6 +17,7 @@ pub fn modulus(p: u32) -> Modulus {
     let shift = p.leading_zeros() - 4;
     let big = u64::from(p) << shift;
     Modulus {
+        p,
         shift,
         big,
         fold: (1 << 36) % big,

@@ -117,6 +117,17 @@ fn square_coefficient(a: &[u32], k: usize, p: u32) -> u32 {
     rem(half + half + mul(m, m), p)
 }
 
+/// out = a²: few coefficients each by itself, more by rows.
+fn square_of(a: &[u32], e: &mut [u64], acc: &mut [u64], out: &mut [u32], m: Modulus) {
+    if out.len() < 8 {
+        for k in 0..out.len() {
+            put(out, k, square_coefficient(a, k, m.p));
+        }
+        return;
+    }
+    rows::square(a, e, acc, out, m);
+}
+
 /// The word at i, 0 past the end.
 #[inline(always)]
 pub fn word(a: &[u32], i: usize) -> u32 {
@@ -183,13 +194,13 @@ fn numerator_in<const ROOM: usize>(v: Values, m: Modulus, g: &[u32], out: &mut [
     let (h, q) = (&mut h[..d], &mut q[..2 * d + 1]);
     let (mut s, mut t, mut u) = ([0u32; ROOM], [0u32; ROOM], [0u32; ROOM]);
     let (square, slope, bend) = (&mut s[..2 * d + 1], &mut t[..2 * d], &mut u[..2 * d - 1]);
-    rows::square(g, e, acc, square, m);
+    square_of(g, e, acc, square, m);
     for k in 0..slope.len() {
         let less = neg(word(square, k + 1), p);
         put(slope, k, times(k as u32 + 1, less, p));
     }
     derivative(g, h, p);
-    rows::square(h, e, acc, q, m);
+    square_of(h, e, acc, q, m);
     for k in 0..bend.len() {
         let sum = mul(2 * (k as u32 + 1), word(slope, k + 1)) + mul(8, word(q, k));
         put(bend, k, rem(sum, p));
@@ -288,7 +299,7 @@ pub fn recurs(
     squares: &mut [u32],
 ) -> bool {
     let p = v.p;
-    rows::square(&h[1..], e, acc, squares, m);
+    square_of(&h[1..], e, acc, squares, m);
     let (twice_a, twice_b) = (add(v.a, v.a, p), add(v.b, v.b, p));
     let n = from as u32;
     let (mut ka, mut kb) = (times(2 * n - 3, v.a, p), times(2 * n - 6, v.b, p));
