@@ -1,2 +1,3 @@
 pub mod Modulo
 pub mod Shifted
+pub mod Power

@@ -1,14 +1,14 @@
 -- What the slices of this crate hold: `Divisor p g`, the residues of a monic polynomial, of which the last word is 1; `RemainderOf p n g a r`, those of a
 -- polynomial that is a modulo g and has n coefficients at most.
 -- Assumes nothing.
-use mathlib.Core.Path.{_≡_}
+use mathlib.Core.Path.{_≡_, sym, subst}
 use mathlib.Core.List.{List}
 use Prim.Native.Nat.{ℕ, _-_, _≤_, _<_}
 use lib.ListN.{length}
 use Rattle.series.specs.Series.{Seq}
 use Rattle.series.specs.Degree.{Below, Monic, below-mono}
 use Rattle.zmod.specs.Zmod.{Zmod}
-use Rattle.zmod.specs.Residues.{Reduced, poly, poly-past}
+use Rattle.zmod.specs.Residues.{Reduced, poly, poly-past, Residues, residues-poly}
 use Rattle.divisibility.specs.Congruence.{Congruent, congruent-refl}
 
 pub record Divisor (p : ℕ) (g : List ℕ) : Type 0 where
@@ -31,3 +31,18 @@ remainder-mono {p} {n} {k} {r = r} le h = record {
   below = below-mono (Zmod p) n k (poly p r) le (h .below);
   congruent = h .congruent;
 }
+
+-- the slice that was divided held a, and the remainder is copied to where it is wanted
+pub remainder-filled : {p n : ℕ} {g a : Seq (Zmod p)} {xs r : List ℕ} → Residues p a xs → Below (Zmod p) (length xs) a → RemainderOf p n g (poly p xs) r
+    → RemainderOf p n g a r
+remainder-filled {p} {n} {g} {a} {xs} {r} h below k = subst (λ s. RemainderOf p n g s r) (residues-poly h below) k
+
+pub remainder-copied : {p n : ℕ} {g a : Seq (Zmod p)} {r s : List ℕ} → n ≤ length s → RemainderOf p n g a r → Residues p (poly p r) s → RemainderOf p n g a s
+remainder-copied {p} {n} {g} {a} {r} {s} le h k = record {
+  reduced = k .reduced;
+  below = subst (Below (Zmod p) n) (sym is) (h .below);
+  congruent = subst (λ t. Congruent (Zmod p) g t a) (sym is) (h .congruent);
+}
+  where
+    is : poly p s ≡ poly p r
+    is = residues-poly k (below-mono (Zmod p) n (length s) (poly p r) le (h .below))

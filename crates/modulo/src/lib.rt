@@ -4,7 +4,10 @@ use barrett::Modulus;
 ghost use mathlib.Core.Path.{_≡_};
 ghost use Prim.Native.Nat.{ℕ, _+_, _-_, _*_, _^_, _<_, _≤_};
 ghost use lib.ListN.{length, getD};
-ghost use Rattle.series.specs.Series.{sums, scaled};
+ghost use Rattle.ring.specs.Ring.{pow};
+ghost use Rattle.series.specs.Series.{Series, conv, sums, scaled};
+ghost use Rattle.series.specs.Degree.{Below};
+ghost use Rattle.series.specs.Indeterminate.{ind};
 ghost use Rattle.series.specs.Reversal.{shift};
 ghost use Rattle.zmod.specs.Zmod.{Zmod, mk, plus, times};
 ghost use Rattle.zmod.specs.Residues.{Residue, Reduced, poly, Residues};
@@ -56,6 +59,78 @@ pub fn remainder(a: &mut [u32], g: &[u32], m: Modulus)
         let c = a[k];
         if c != 0 {
             add_shifted(a, k - d, g, field::negate(c, m.p), m);
+        }
+    }
+}
+
+// r = x r
+fn shift_up(r: &mut [u32])
+    ensures { λ _. ⌜ ((p : ℕ) → Reduced p (now (r .entry)) → Residues p (conv (Zmod p) (ind (Zmod p)) (poly p (now (r .entry)))) (now (r .exit))) ⌝ }
+{
+    let mut c = 0;
+    let mut k = 0;
+    while k < r.len() {
+        let next = r[k];
+        r[k] = c;
+        c = next;
+        k += 1;
+    }
+}
+
+// r = x r modulo g
+fn times_x(r: &mut [u32], g: &[u32], m: Modulus)
+    requires { ⌜ Prepared m × (Divisor (m .p) (now g)) × (length (now r) ≡ length (now g)) ⌝ }
+    requires { ⌜ (Reduced (m .p) (now r)) × (Below (Zmod (m .p)) (length (now g) - 1) (poly (m .p) (now r))) ⌝ }
+    ensures { λ _. ⌜ RemainderOf (m .p) (length (now (g .entry)) - 1) (poly (m .p) (now (g .entry)))
+        (conv (Zmod (m .p)) (ind (Zmod (m .p))) (poly (m .p) (now (r .entry)))) (now (r .exit)) ⌝ }
+{
+    shift_up(r);
+    remainder(r, g, m);
+}
+
+// r = r² modulo g; e, acc and room are room.
+fn square_modulo(
+    r: &mut [u32],
+    g: &[u32],
+    e: &mut [u64],
+    acc: &mut [u64],
+    room: &mut [u32],
+    m: Modulus,
+)
+    requires { ⌜ Prepared m × (Divisor (m .p) (now g)) × (length (now r) ≡ length (now g)) × (Reduced (m .p) (now r)) ⌝ }
+    requires { ⌜ (length (now g) ≤ 128) × (length (now g) + 6 ≤ length (now e)) × (2 * length (now g) ≤ length (now room))
+        × (length (now acc) ≡ length (now room)) ⌝ }
+    ensures { λ _. ⌜ RemainderOf (m .p) (length (now (g .entry)) - 1) (poly (m .p) (now (g .entry)))
+        (conv (Zmod (m .p)) (poly (m .p) (now (r .entry))) (poly (m .p) (now (r .entry)))) (now (r .exit)) ⌝ }
+{
+    poly::square(r, e, acc, room, m);
+    remainder(room, g, m);
+    poly::copy(room, r);
+}
+
+// r = x^p modulo g, by the digits of p from the topmost one down; e, acc and room are room.
+pub fn power_of_x(
+    g: &[u32],
+    r: &mut [u32],
+    e: &mut [u64],
+    acc: &mut [u64],
+    room: &mut [u32],
+    m: Modulus,
+)
+    requires { ⌜ Prepared m × (Divisor (m .p) (now g)) × (length (now r) ≡ length (now g)) × (1 < m .p) ⌝ }
+    requires { ⌜ (2 ≤ length (now g)) × (length (now g) ≤ 128) × (length (now g) + 6 ≤ length (now e)) × (2 * length (now g) ≤ length (now room))
+        × (length (now acc) ≡ length (now room)) ⌝ }
+    ensures { λ _. ⌜ RemainderOf (m .p) (length (now (g .entry)) - 1) (poly (m .p) (now (g .entry)))
+        (pow (Series (Zmod (m .p))) (ind (Zmod (m .p))) (m .p)) (now (r .exit)) ⌝ }
+{
+    poly::clear(r);
+    r[0] = 1;
+    let mut i = 32 - u32::leading_zeros(m.p);
+    while 0 < i {
+        i -= 1;
+        square_modulo(r, g, e, acc, room, m);
+        if (m.p >> i) % 2 == 1 {
+            times_x(r, g, m);
         }
     }
 }
