@@ -1,3 +1,4 @@
 pub mod Modulo
 pub mod Shifted
 pub mod Power
+pub mod Euclid

@@ -5,14 +5,16 @@ ghost use mathlib.Core.Path.{_≡_};
 ghost use Prim.Native.Nat.{ℕ, _+_, _-_, _*_, _^_, _<_, _≤_};
 ghost use lib.ListN.{length, getD};
 ghost use Rattle.ring.specs.Ring.{pow};
-ghost use Rattle.series.specs.Series.{Series, conv, sums, scaled};
+ghost use Rattle.series.specs.Series.{Series, Seq, conv, sums, scaled};
 ghost use Rattle.series.specs.Degree.{Below};
 ghost use Rattle.series.specs.Indeterminate.{ind};
 ghost use Rattle.series.specs.Reversal.{shift};
 ghost use Rattle.zmod.specs.Zmod.{Zmod, mk, plus, times};
+ghost use Rattle.zmod.specs.Prime.{Prime};
 ghost use Rattle.zmod.specs.Residues.{Residue, Reduced, poly, Residues};
 ghost use Rattle.barrett.specs.Modulus.{Prepared};
 ghost use Rattle.modulo.specs.Modulo.{Divisor, RemainderOf};
+ghost use Rattle.modulo.specs.Euclid.{Trimmed, NextOf, GcdDegree};
 
 // x + c y
 fn plus_multiple(x: u32, c: u32, y: u32, m: Modulus) -> u32
@@ -133,4 +135,69 @@ pub fn power_of_x(
             times_x(r, g, m);
         }
     }
+}
+
+// How many words of a there are before the zeros at its end.
+fn trimmed(a: &[u32]) -> usize
+    ensures { λ r. ⌜ Trimmed (now (a .entry)) r ⌝ }
+{
+    let mut k = a.len();
+    while 0 < k {
+        if a[k - 1] != 0 {
+            return k;
+        }
+        k -= 1;
+    }
+    0
+}
+
+// out = c out
+fn scale(out: &mut [u32], c: u32, m: Modulus)
+    requires { ⌜ Prepared m × (c < m .p) × (Reduced (m .p) (now out)) ⌝ }
+    ensures { λ _. ⌜ Residues (m .p) (scaled (Zmod (m .p)) (mk (m .p) c) (poly (m .p) (now (out .entry)))) (now (out .exit)) ⌝ }
+{
+    let mut k = 0;
+    while k < out.len() {
+        out[k] = plus_multiple(0, c, out[k], m);
+        k += 1;
+    }
+}
+
+// a is made monic, if it is not 0. The result is the number of its coefficients.
+fn make_monic(a: &mut [u32], m: Modulus) -> usize
+    requires { ⌜ Prime (m .p) × Prepared m × (Reduced (m .p) (now a)) ⌝ }
+    ensures { λ r. ⌜ Trimmed (now (a .entry)) r × ((b : Seq (Zmod (m .p))) → NextOf (m .p) b (poly (m .p) (now (a .entry))) r (now (a .exit))) ⌝ }
+{
+    let n = trimmed(a);
+    if 0 < n {
+        let u = field::inverse_by_euclid(a[n - 1], m.p);
+        scale(a, u, m);
+    }
+    n
+}
+
+// A step of Euclid's loop: a becomes its remainder modulo b, made monic if it is not 0. The result is the number of its coefficients.
+fn next(a: &mut [u32], b: &[u32], m: Modulus) -> usize
+    requires { ⌜ Prime (m .p) × Prepared m × (Divisor (m .p) (now b)) × (Reduced (m .p) (now a)) ⌝ }
+    ensures { λ r. ⌜ (r < length (now (b .entry))) × NextOf (m .p) (poly (m .p) (now (b .entry))) (poly (m .p) (now (a .entry))) r (now (a .exit)) ⌝ }
+{
+    remainder(a, b, m);
+    make_monic(a, m)
+}
+
+// The degree of the greatest common divisor of a and b, by Euclid. Both are room too: x and y are how many coefficients they have.
+pub fn gcd_degree(a: &mut [u32], b: &mut [u32], m: Modulus) -> usize
+    requires { ⌜ Prime (m .p) × Prepared m × (Divisor (m .p) (now a)) × (Reduced (m .p) (now b)) ⌝ }
+    ensures { λ r. ⌜ GcdDegree (Zmod (m .p)) (poly (m .p) (now (a .entry))) (poly (m .p) (now (b .entry))) r ⌝ }
+{
+    let mut x = a.len();
+    let mut y = next(b, a, m);
+    while 0 < y {
+        x = next(a, &b[..y], m);
+        if x == 0 {
+            return y - 1;
+        }
+        y = next(b, &a[..x], m);
+    }
+    x - 1
 }
