@@ -1,9 +1,9 @@
 -- Euclid's loop on two slices: `Trimmed a n`, where a's zeros begin; `MonicIn p n a`, the residues of a monic polynomial with n coefficients; `NextOf`, what a
 -- step of the loop leaves; `GcdDegree a b n`, the degree of a greatest common divisor.
 -- Assumes nothing.
-use mathlib.Core.Path.{_≡_, refl, sym, _∙_, ap, subst, fun-ext}
+use mathlib.Core.Path.{_≡_, sym, _∙_, ap, subst, fun-ext}
 use mathlib.Core.List.{List}
-use Prim.Native.Nat.{ℕ, suc, _+_, _-_, _*_, _^_, _≤_, _<_}
+use Prim.Native.Nat.{ℕ, _-_, _≤_, _<_}
 use native.Mathlib.Nat as N
 use native.Mathlib.Decide.{decLt}
 use native.Mathlib.Omega.{arith}
@@ -11,16 +11,15 @@ use lib.ListN.{length, getD, take, length-take, List·getD-eq-default}
 use lib.Seq.{getD-take}
 use Rattle.ring.specs.Ring
 use Rattle.ring.specs.Ring.{CRing}
-use Rattle.ring.specs.Identity.{solve3, solve4, solve5}
+use Rattle.ring.specs.Identity.{solve3, solve5}
 use Rattle.ring.specs.Identity.Ex.{_:+_, _:*_}
-use Rattle.series.specs.Series.{Series, Seq, conv, scaled, const, zeros, conv-scalar}
+use Rattle.series.specs.Series.{Series, Seq, scaled, const, zeros, conv-scalar}
 use Rattle.series.specs.Degree.{Below, Monic, leading, poly-const, poly-mul}
 use Rattle.series.specs.Indeterminate.{const-mul}
 use Rattle.zmod.specs.Zmod.{Zmod, mk, times, mk-apart}
-use Rattle.zmod.specs.Residues.{Residue, Reduced, poly, poly-at, poly-past, Residues, reduced-take, residues-poly}
+use Rattle.zmod.specs.Residues.{Reduced, poly, poly-at, Residues, reduced-take, residues-poly}
 use Rattle.field.specs.Inverse.{InverseOf}
-use Rattle.divisibility.specs.Divides.{Divides}
-use Rattle.divisibility.specs.Congruence.{Congruent, congruent-refl, congruent-sym}
+use Rattle.divisibility.specs.Congruence.{congruent-refl, congruent-sym}
 use Rattle.divisibility.specs.Gcd.{Gcd, gcd-modulo, gcd-step, gcd-zeros}
 use Rattle.modulo.specs.Modulo.{Divisor, RemainderOf}
 

@@ -2,3 +2,4 @@ pub mod Modulo
 pub mod Shifted
 pub mod Power
 pub mod Euclid
+pub mod Count

@@ -3,22 +3,22 @@
 -- Assumes nothing.
 use mathlib.Core.Path.{_≡_, refl, sym, _∙_, ap, subst, fun-ext}
 use mathlib.Core.List.{List, _∷_}
-use Prim.Native.Nat.{ℕ, zero, suc, _+_, _-_, _*_, _/_, _%_, _^_, _≤_, _<_}
+use Prim.Native.Nat.{ℕ, zero, suc, _+_, _-_, _/_, _%_, _^_, _≤_, _<_}
 use native.Mathlib.Nat as N
 use native.Mathlib.Numerals.{add-one}
 use native.Mathlib.Omega.{arith}
 use lib.Count.{leadingZeros, leading-top}
-use lib.ListN.{length, getD, set, replicate, length-replicate, length-set, getD-replicate}
+use lib.ListN.{length, getD, set, replicate, length-replicate}
 use lib.Seq.{getD-set-same, getD-set-other}
 use Rattle.ring.specs.Ring.{pow}
-use Rattle.series.specs.Series.{Series, Seq, conv, const, head-then}
+use Rattle.series.specs.Series.{Series, Seq, conv, const}
 use Rattle.series.specs.Degree.{Below}
 use Rattle.series.specs.Indeterminate.{ind, conv-ind}
 use Rattle.series.specs.Binomial.{poly-ind}
 use Rattle.zmod.specs.Zmod.{Zmod, mk}
-use Rattle.zmod.specs.Residues.{Residue, Reduced, poly, poly-at, poly-past, Residues, residues-filled}
+use Rattle.zmod.specs.Residues.{Residue, Reduced, poly, poly-at, Residues, residues-filled}
 use Rattle.slices.specs.Stored.{Stored}
-use Rattle.rows.specs.Room.{blank, zero-at}
+use Rattle.rows.specs.Room.{zero-at}
 use Rattle.roots.specs.Power.{power-zero, power-congruent, power-double, power-next}
 use Rattle.divisibility.specs.Congruence.{Congruent}
 use Rattle.modulo.specs.Modulo.{RemainderOf}

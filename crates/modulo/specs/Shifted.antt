@@ -1,6 +1,6 @@
 -- One step of long division: c xᵏ g is added to a, which stays the same modulo g, and with the right c loses its highest coefficient.
 -- Assumes nothing.
-use mathlib.Core.Path.{_≡_, refl, sym, _∙_, ap, ap₂, subst, fun-ext}
+use mathlib.Core.Path.{_≡_, sym, _∙_, ap, ap₂, subst}
 use mathlib.Core.List.{List, _++_}
 use Prim.Native.Nat.{ℕ, suc, _+_, _-_, _*_, _^_, _≤_, _<_}
 use native.Mathlib.Nat as N
@@ -11,11 +11,11 @@ use Rattle.ring.specs.Ring
 use Rattle.ring.specs.Ring.{CRing}
 use Rattle.ring.specs.Identity.{solve2}
 use Rattle.ring.specs.Identity.Ex.{_:+_, _:-_}
-use Rattle.slices.specs.Stored.{part-at, part-below, back-before, back-inside, back-after}
-use Rattle.series.specs.Series.{Series, Seq, conv, sums, scaled, const, conv-scalar}
+use Rattle.slices.specs.Stored.{part-at, back-before, back-inside, back-after}
+use Rattle.series.specs.Series.{Series, Seq, sums, scaled, const, conv-scalar}
 use Rattle.series.specs.Degree.{Below, Monic, const-below, below-drop}
 use Rattle.series.specs.Reversal.{shift, shift-low, shift-at, conv-shift}
-use Rattle.zmod.specs.Zmod.{Elt, Zmod, mk, plus, minus, times, plus-zero}
+use Rattle.zmod.specs.Zmod.{Zmod, mk, plus, minus, times, plus-zero}
 use Rattle.zmod.specs.Residues.{Residue, Reduced, poly, poly-at, poly-past, Residues, residue-same, residues-at, residues-poly, residues-filled}
 use Rattle.divisibility.specs.Congruence.{Congruent, congruent-trans}
 use Rattle.modulo.specs.Modulo.{RemainderOf}

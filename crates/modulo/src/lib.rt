@@ -2,8 +2,8 @@
 // words, of which the last is 1.
 use barrett::Modulus;
 ghost use mathlib.Core.Path.{_≡_};
-ghost use Prim.Native.Nat.{ℕ, _+_, _-_, _*_, _^_, _<_, _≤_};
-ghost use lib.ListN.{length, getD};
+ghost use Prim.Native.Nat.{ℕ, _+_, _-_, _*_, _<_, _≤_};
+ghost use lib.ListN.{length};
 ghost use Rattle.ring.specs.Ring.{pow};
 ghost use Rattle.series.specs.Series.{Series, Seq, conv, sums, scaled};
 ghost use Rattle.series.specs.Degree.{Below};
@@ -12,6 +12,7 @@ ghost use Rattle.series.specs.Reversal.{shift};
 ghost use Rattle.zmod.specs.Zmod.{Zmod, mk, plus, times};
 ghost use Rattle.zmod.specs.Prime.{Prime};
 ghost use Rattle.zmod.specs.Residues.{Residue, Reduced, poly, Residues};
+ghost use Rattle.roots.specs.Rational.{rational-roots};
 ghost use Rattle.barrett.specs.Modulus.{Prepared};
 ghost use Rattle.modulo.specs.Modulo.{Divisor, RemainderOf};
 ghost use Rattle.modulo.specs.Euclid.{Trimmed, NextOf, GcdDegree};
@@ -200,4 +201,25 @@ pub fn gcd_degree(a: &mut [u32], b: &mut [u32], m: Modulus) -> usize
         y = next(b, &a[..x], m);
     }
     x - 1
+}
+
+// The number of roots of g in ℤ/p: the degree of the greatest common divisor of g and x^p − x. All slices but g are room.
+pub fn count(
+    g: &[u32],
+    a: &mut [u32],
+    r: &mut [u32],
+    e: &mut [u64],
+    acc: &mut [u64],
+    room: &mut [u32],
+    m: Modulus,
+) -> usize
+    requires { ⌜ Prime (m .p) × Prepared m × (Divisor (m .p) (now g)) × (2 ≤ length (now g)) × (length (now g) ≤ 128) ⌝ }
+    requires { ⌜ (length (now a) ≡ length (now g)) × (length (now r) ≡ length (now g)) × (length (now g) + 6 ≤ length (now e))
+        × (2 * length (now g) ≤ length (now room)) × (length (now acc) ≡ length (now room)) ⌝ }
+    ensures { λ n. ⌜ n ≡ rational-roots (m .p) (length (now (g .entry))) (poly (m .p) (now (g .entry))) ⌝ }
+{
+    power_of_x(g, r, e, acc, room, m);
+    r[1] = field::subtract(r[1], 1, m.p);
+    poly::copy(g, a);
+    gcd_degree(a, r, m)
 }

@@ -1,8 +1,8 @@
 -- `modulo::add_multiple` meets its contract. The invariant: the coefficients before k are stored, the words from k on are as they were.
-use mathlib.Core.Path.{_≡_, sym, _∙_, ap, ap₂}
-use Prim.Native.Nat.{_-_, _≤_}
+use mathlib.Core.Path.{sym, _∙_, ap, ap₂}
+use Prim.Native.Nat.{_-_}
 use native.Mathlib.Omega.{arith}
-use lib.ListN.{length, getD}
+use lib.ListN.{length}
 use Rattle.series.specs.Series.{sums, scaled}
 use Rattle.zmod.specs.Zmod.{Zmod, mk, plus, times}
 use Rattle.zmod.specs.Residues.{poly, poly-at, residue-same}

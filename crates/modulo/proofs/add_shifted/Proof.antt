@@ -49,4 +49,5 @@ returns c =
     (omega (arith, turn .kept, length-take n (drop (a .at) (a .a .now)), length-drop (a .at) (a .a .now))) (search needs) (turn .ensures)
 
 pub add-shifted-spec : {M : Type 1} → statement M
-add-shifted-spec = tie.close (tie.spec add-to mul-add-multiple sub-add-multiple part-add-multiple-start part-add-multiple-end add-multiple-requires same-length returns)
+add-shifted-spec = tie.close (tie.spec add-to mul-add-multiple sub-add-multiple part-add-multiple-start part-add-multiple-end add-multiple-requires
+    same-length returns)

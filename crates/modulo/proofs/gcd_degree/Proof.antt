@@ -1,6 +1,5 @@
 -- `modulo::gcd_degree` meets its contract. The invariant: the greatest common divisors of a and b are some of those before the loop.
 use mathlib.Core.Path.{_≡_}
-use Prim.Native.Nat.{_<_}
 use native.Mathlib.Omega.{arith}
 use lib.ListN.{length, length-take}
 use Rattle.zmod.specs.Residues.{poly}
@@ -66,7 +65,8 @@ returns c =
     let at-loop-test = at-next2 .before .before .before in
     let at-loop = at-loop-test .before in
     let at-next = at-loop .before .before .before in
-    next-degree (at-next .next .ensures .1) (reached-between (at-loop .loop .inv .2) (omega (arith, at-loop-test .loop-test)) (at-next2 .next2 .ensures .1) (at-if1 .if1 .taken))
+    next-degree (at-next .next .ensures .1) (reached-between (at-loop .loop .inv .2) (omega (arith, at-loop-test .loop-test)) (at-next2 .next2 .ensures .1)
+    (at-if1 .if1 .taken))
 
 slice-reshare-prefix-next-2 : tie.Need-slice-reshare-prefix-next-2 Inv-loop μ-loop
 slice-reshare-prefix-next-2 c =
@@ -97,7 +97,14 @@ loop-less c =
     let at-if1 = at-next3 .before .before .before in
     let at-next2 = at-if1 .before .before .before in
     let at-loop = at-next2 .before .before .before .before in
-    omega (arith, at-next2 .next2 .ensures .0, at-next3 .next3 .ensures .0, length-take (at-loop .loop .y) (at-loop .loop .b), length-take (at-next2 .next2 .result) (at-next2 .next2 .last .0))
+    omega (
+      arith,
+      at-next2 .next2 .ensures .0,
+      at-next3 .next3 .ensures .0,
+      length-take (at-loop .loop .y) (at-loop .loop .b),
+      length-take
+          (at-next2 .next2 .result) (at-next2 .next2 .last .0),
+    )
 
 loop-again : tie.Need-loop-again Inv-loop μ-loop
 loop-again c =
@@ -109,7 +116,8 @@ loop-again c =
     let loop = at-loop .loop in (
       omega (arith, loop .inv .0, at-next2 .next2 .kept),
       omega (arith, loop .inv .1, at-next3 .next3 .kept),
-      reached-next (loop .inv .2) (omega (arith, at-loop-test .loop-test)) (at-next2 .next2 .ensures .1) (omega (arith, at-if1 .if1 .left)) (at-next3 .next3 .ensures .1),
+      reached-next (loop .inv .2) (omega (arith, at-loop-test .loop-test)) (at-next2 .next2 .ensures .1) (omega (arith, at-if1 .if1 .left))
+          (at-next3 .next3 .ensures .1),
     )
 
 sub-result-2 : tie.Need-sub-result-2 Inv-loop μ-loop
@@ -136,4 +144,6 @@ returns-2 c =
     next-degree (at-next .next .ensures .1) (reached-end (at-loop .loop .inv .2) (omega (arith, at-loop-test .loop-test)))
 
 pub gcd-degree-spec : {M : Type 1} → statement M
-gcd-degree-spec = tie.close (tie.spec Inv-loop μ-loop next-requires loop-holds slice-reshare-prefix-next slice-aggregate-next next-requires-2 sub-result same-length same-length-2 returns slice-reshare-prefix-next-2 slice-aggregate-next-2 next-requires-3 loop-less loop-again sub-result-2 same-length-3 same-length-4 returns-2)
+gcd-degree-spec = tie.close (tie.spec Inv-loop μ-loop next-requires loop-holds slice-reshare-prefix-next slice-aggregate-next next-requires-2 sub-result
+    same-length same-length-2 returns slice-reshare-prefix-next-2 slice-aggregate-next-2 next-requires-3 loop-less loop-again sub-result-2 same-length-3
+    same-length-4 returns-2)

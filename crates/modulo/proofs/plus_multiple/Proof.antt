@@ -1,6 +1,6 @@
 -- `modulo::plus_multiple` meets its contract. Assumes nothing.
-use mathlib.Core.Path.{_≡_, sym, _∙_, ap}
-use Prim.Native.Nat.{_+_, _*_, _^_, _<_}
+use mathlib.Core.Path.{_≡_, _∙_, ap}
+use Prim.Native.Nat.{_+_, _*_}
 use native.Mathlib.Omega.{arith}
 use Rattle.zmod.specs.Zmod.{mk, plus, mk-add, mk-mul}
 use Rattle.zmod.specs.Residues.{residue-same}

@@ -1,10 +1,9 @@
 -- `modulo::remainder` meets its contract. The invariant: a is what it was modulo g, and has k coefficients at most.
-use mathlib.Core.Path.{_≡_, refl, subst}
+use mathlib.Core.Path.{_≡_, refl}
 use Prim.Native.Nat.{_-_, _≤_}
 use native.Mathlib.Omega.{arith}
 use lib.ListN.{length}
 use Rattle.zmod.specs.Residues.{poly}
-use Rattle.barrett.specs.Modulus.{prepared-positive}
 use Rattle.modulo.specs.Modulo.{RemainderOf, remainder-self, remainder-mono}
 use Rattle.modulo.specs.Shifted.{turn-cancels, turn-skips}
 use borrow.Author.Needs.{needs}
@@ -50,8 +49,10 @@ add-shifted-requires c κs =
     let at-negate = c in
     let at-loop = at-negate .before .before .before .before .before in
     let start = at-loop .before .before .before in
-    let loop = at-loop .loop in
-    ((start .pre .0, omega (arith, start .pre .1 .some, loop .inv .0, loop .inv .1, loop .inv .2), at-negate .negate .ensures .below), (loop .inv .3 .reduced, start .pre .1 .reduced))
+    let loop = at-loop .loop in (
+      (start .pre .0, omega (arith, start .pre .1 .some, loop .inv .0, loop .inv .1, loop .inv .2), at-negate .negate .ensures .below),
+      (loop .inv .3 .reduced, start .pre .1 .reduced),
+    )
 
 loop-less : tie.Need-loop-less Inv-loop μ-loop
 loop-less c = search needs
@@ -69,7 +70,8 @@ loop-again c =
       search needs,
       loop .inv .1,
       omega (arith, loop .inv .2),
-      turn-cancels p (length (a .g .now) - 1) (loop .k) (poly p (a .g .now)) (poly p (a .a .now)) (loop .a) (search needs) (loop .inv .3) (at-negate .negate .result) (turn .last .0)
+      turn-cancels p (length (a .g .now) - 1) (loop .k) (poly p (a .g .now)) (poly p (a .a .now)) (loop .a) (search needs) (loop .inv .3)
+          (at-negate .negate .result) (turn .last .0)
           (start .pre .1 .monic) (omega arith) (search needs) (at-negate .negate .ensures) (turn .ensures),
     )
 
@@ -87,7 +89,8 @@ loop-again-2 c =
       loop .inv .0,
       loop .inv .1,
       omega (arith, loop .inv .2),
-      turn-skips p (length (a .g .now) - 1) (loop .k) (poly p (a .g .now)) (poly p (a .a .now)) (loop .a) (search needs) (loop .inv .3) (omega (arith, at-if1 .if1 .left)),
+      turn-skips p (length (a .g .now) - 1) (loop .k) (poly p (a .g .now)) (poly p (a .a .now)) (loop .a) (search needs) (loop .inv .3)
+          (omega (arith, at-if1 .if1 .left)),
     )
 
 same-length : tie.Need-same-length Inv-loop μ-loop
@@ -99,4 +102,5 @@ returns c =
     remainder-mono (omega (arith, at-loop .loop .inv .1)) (at-loop .loop .inv .3)
 
 pub remainder-spec : {M : Type 1} → statement M
-remainder-spec = tie.close (tie.spec Inv-loop μ-loop sub-d loop-holds sub-k mul-c slice-read-c sub-add-shifted negate-requires add-shifted-requires loop-less loop-again loop-less-2 loop-again-2 same-length returns)
+remainder-spec = tie.close (tie.spec Inv-loop μ-loop sub-d loop-holds sub-k mul-c slice-read-c sub-add-shifted negate-requires add-shifted-requires
+    loop-less loop-again loop-less-2 loop-again-2 same-length returns)

@@ -1,8 +1,8 @@
 -- `modulo::scale` meets its contract. The invariant: the coefficients before k are stored, the words from k on are as they were.
-use mathlib.Core.Path.{_≡_, sym, _∙_, ap}
+use mathlib.Core.Path.{sym, _∙_, ap}
 use Prim.Native.Nat.{_-_}
 use native.Mathlib.Omega.{arith}
-use lib.ListN.{length, getD}
+use lib.ListN.{length}
 use Rattle.ring.specs.Ring
 use Rattle.series.specs.Series.{scaled}
 use Rattle.zmod.specs.Zmod.{Zmod, mk, times}

@@ -1,7 +1,7 @@
 -- `modulo::shift_up` meets its contract. The invariant: each word before k is the one before it, and c is the one before k.
 use mathlib.Core.Path.{_≡_, refl, sym, _∙_, ap}
 use mathlib.Core.List.{_∷_}
-use Prim.Native.Nat.{_-_, suc}
+use Prim.Native.Nat.{_-_}
 use native.Mathlib.Numerals.{add-one}
 use native.Mathlib.Omega.{arith}
 use lib.ListN.{length, getD}

@@ -1,5 +1,5 @@
 -- `modulo::square_modulo` meets its contract. Assumes nothing.
-use Prim.Native.Nat.{_+_, _-_}
+use Prim.Native.Nat.{_+_}
 use native.Mathlib.Omega.{arith}
 use lib.ListN.{length}
 use Rattle.series.specs.Degree.{below-mono, product-below}
@@ -18,7 +18,12 @@ square-requires c κs =
     let a = start .args in
     let pre = start .pre in
     let long = pre .1 in (
-      (pre .0 .0, pre .0 .3, turns-fit (length (a .r .now)) (length (a .room .now)) (a .m .p) (omega (arith, prepared-below (pre .0 .0))) (omega (arith, pre .0 .2, long .0, long .2))),
+      (
+        pre .0 .0,
+        pre .0 .3,
+        turns-fit (length (a .r .now)) (length (a .room .now)) (a .m .p) (omega (arith, prepared-below (pre .0 .0)))
+            (omega (arith, pre .0 .2, long .0, long .2)),
+      ),
       (omega (arith, long .3), omega (arith, pre .0 .2, long .1), omega (arith, pre .0 .2, long .0)),
     )
 
@@ -58,7 +63,8 @@ returns c =
     remainder-copied (omega (arith, pre .0 .2, copied .kept))
     (remainder-filled (square .ensures)
     (below-mono (Zmod p) (length (a .r .now) + length (a .r .now)) _ _ (omega (arith, pre .0 .2, pre .1 .2, square .kept))
-    (product-below (Zmod p) (length (a .r .now)) (length (a .r .now)) (poly p (a .r .now)) (poly p (a .r .now)) (poly-past p (a .r .now)) (poly-past p (a .r .now))))
+    (product-below (Zmod p) (length (a .r .now)) (length (a .r .now)) (poly p (a .r .now)) (poly p (a .r .now)) (poly-past p (a .r .now))
+    (poly-past p (a .r .now))))
     (divided .ensures))
     (copied .ensures p (divided .ensures .reduced))
 

@@ -1,7 +1,7 @@
 -- `modulo::times_x` meets its contract. Assumes nothing.
-use Prim.Native.Nat.{_-_, _<_}
+use Prim.Native.Nat.{_-_}
 use native.Mathlib.Omega.{arith}
-use mathlib.Core.Path.{_≡_, sym, subst}
+use mathlib.Core.Path.{_≡_, subst}
 use lib.ListN.{length}
 use Rattle.series.specs.Degree.{Below}
 use Rattle.zmod.specs.Zmod.{Zmod}
