@@ -89,4 +89,5 @@ returns c =
     stored-all (a .m .p) _ (a .out .now) (loop .out) (loop .k) (prepared-positive (start .pre .0 .0)) (omega (arith, loop .inv .same-length)) (loop .inv)
 
 pub add-multiple-spec : {M : Type 1} → statement M
-add-multiple-spec = tie.close (tie.spec Inv-loop μ-loop loop-holds mul-plus-multiple slice-read-plus-multiple mul-plus-multiple-2 shared-slice-read-plus-multiple plus-multiple-requires mul-out slice-write-out add-k loop-less loop-again same-length returns)
+add-multiple-spec = tie.close (tie.spec Inv-loop μ-loop loop-holds mul-plus-multiple slice-read-plus-multiple mul-plus-multiple-2
+    shared-slice-read-plus-multiple plus-multiple-requires mul-out slice-write-out add-k loop-less loop-again same-length returns)

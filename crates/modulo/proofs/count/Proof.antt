@@ -19,7 +19,8 @@ power-of-x-requires c κs =
 
 slice-read-subtract : tie.Need-slice-read-subtract
 slice-read-subtract c =
-    let start = c .before .before .before .before .before .before .before .before .before .before .before .before .before .before .before .before .before .before .before .before in
+    let start = c .before .before .before .before .before .before .before .before .before .before .before .before .before .before .before .before .before
+    .before .before .before in
     search (needs, start .pre .1 .1, start .pre .0 .3)
 
 subtract-requires : tie.Need-subtract-requires
@@ -30,7 +31,8 @@ subtract-requires c κs =
 
 slice-write-r : tie.Need-slice-write-r
 slice-write-r c =
-    let start = c .before .before .before .before .before .before .before .before .before .before .before .before .before .before .before .before .before .before .before .before .before in
+    let start = c .before .before .before .before .before .before .before .before .before .before .before .before .before .before .before .before .before
+    .before .before .before .before in
     search (needs, start .pre .1 .1, start .pre .0 .3)
 
 copy-requires : tie.Need-copy-requires
@@ -50,7 +52,8 @@ gcd-degree-requires c κs =
       pre .0 .0,
       pre .0 .1,
       divisor-copied (omega (arith, pre .1 .0, copy .kept)) (pre .0 .2) (copy .ensures p (pre .0 .2 .reduced)) .0,
-      subtracted-reduced p (at-subtract .subtract .result) (power .last .1 .0) (power .ensures .reduced) (omega (arith, power .kept, pre .1 .1, pre .0 .3)) (at-subtract .subtract .ensures),
+      subtracted-reduced p (at-subtract .subtract .result) (power .last .1 .0) (power .ensures .reduced) (omega (arith, power .kept, pre .1 .1, pre .0 .3))
+          (at-subtract .subtract .ensures),
     )
 
 same-length : tie.Need-same-length
@@ -95,4 +98,5 @@ returns c =
     (subst (λ s. GcdDegree (Zmod p) s (poly p (set r 1 (v .result))) n) same (at-gcd-degree .gcd-degree .ensures)))
 
 pub count-spec : {M : Type 1} → statement M
-count-spec = tie.close (tie.spec power-of-x-requires slice-read-subtract subtract-requires slice-write-r copy-requires gcd-degree-requires same-length same-length-2 same-length-3 same-length-4 same-length-5 returns)
+count-spec = tie.close (tie.spec power-of-x-requires slice-read-subtract subtract-requires slice-write-r copy-requires gcd-degree-requires same-length
+    same-length-2 same-length-3 same-length-4 same-length-5 returns)

@@ -54,7 +54,8 @@ returns c =
       λ b. record {
         reduced = scale .ensures .reduced;
         none = λ z. absurd (omega arith);
-        some = λ l. scaled-monic p (trimmed .result) (u .result) (a .a .now) (scale .last .0) (trimmed .ensures) pos (u .ensures) (search needs) (scale .ensures);
+        some = λ l. scaled-monic p (trimmed .result) (u .result) (a .a .now) (scale .last .0) (trimmed .ensures) pos (u .ensures) (search needs)
+            (scale .ensures);
         keeps = scaled-keeps p (trimmed .result) (u .result) (a .a .now) (scale .last .0) (trimmed .ensures) pos (u .ensures) (search needs) (scale .ensures) b;
       },
     )
@@ -80,4 +81,5 @@ returns-2 c =
     )
 
 pub make-monic-spec : {M : Type 1} → statement M
-make-monic-spec = tie.close (tie.spec trimmed-requires sub-inverse-by-euclid mul-inverse-by-euclid slice-read-inverse-by-euclid inverse-by-euclid-requires scale-requires same-length returns same-length-2 returns-2)
+make-monic-spec = tie.close (tie.spec trimmed-requires sub-inverse-by-euclid mul-inverse-by-euclid slice-read-inverse-by-euclid inverse-by-euclid-requires
+    scale-requires same-length returns same-length-2 returns-2)

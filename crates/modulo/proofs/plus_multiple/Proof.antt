@@ -23,15 +23,32 @@ add-remainder c =
     let start = at-wide .before in
     let a = start .args in
     let small = prepared-below (start .pre .0) in
-    record { fits = omega (arith, at-product .product .ensures, at-wide .wide .ensures, small, multiple-fits (a .m .p) (a .x) (a .c) (a .y) small (start .pre .1) (start .pre .2) (start .pre .3)) }
+    record {
+      fits = omega (
+        arith,
+        at-product .product .ensures,
+        at-wide .wide .ensures,
+        small,
+        multiple-fits (a .m .p) (a .x) (a .c) (a .y) small
+            (start .pre .1) (start .pre .2) (start .pre .3),
+      );
+    }
 
 remainder-requires : tie.Need-remainder-requires
 remainder-requires c κs =
     let at-product = c in
     let at-wide = at-product .before in
     let start = at-wide .before in
-    let a = start .args in
-    (start .pre .0, omega (arith, at-product .product .ensures, at-wide .wide .ensures, multiple-fits (a .m .p) (a .x) (a .c) (a .y) (prepared-below (start .pre .0)) (start .pre .1) (start .pre .2) (start .pre .3)))
+    let a = start .args in (
+      start .pre .0,
+      omega (
+        arith,
+        at-product .product .ensures,
+        at-wide .wide .ensures,
+        multiple-fits (a .m .p) (a .x) (a .c) (a .y)
+            (prepared-below (start .pre .0)) (start .pre .1) (start .pre .2) (start .pre .3),
+      ),
+    )
 
 returns : tie.Need-returns
 returns c =

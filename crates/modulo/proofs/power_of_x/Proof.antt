@@ -47,8 +47,10 @@ loop-holds c =
       search needs,
       search needs,
       search needs,
-      subst (λ l. RemainderOf p (length (a .g .now) - 1) (poly p (a .g .now)) (x-to p (p / 2 ^ (32 - leadingZeros 32 p))) (set l 0 1)) (sym (at-clear .clear .ensures))
-          (power-begins p (length (a .g .now) - 1) (poly p (a .g .now)) _ (length (a .r .now)) (pre .0 .3) (omega (arith, pre .1 .0)) (omega (arith, pre .0 .2, pre .1 .0)) (top .1)),
+      subst (λ l. RemainderOf p (length (a .g .now) - 1) (poly p (a .g .now)) (x-to p (p / 2 ^ (32 - leadingZeros 32 p))) (set l 0 1))
+          (sym (at-clear .clear .ensures))
+          (power-begins p (length (a .g .now) - 1) (poly p (a .g .now)) _ (length (a .r .now)) (pre .0 .3) (omega (arith, pre .1 .0))
+          (omega (arith, pre .0 .2, pre .1 .0)) (top .1)),
     )
 
 sub-i-2 : tie.Need-sub-i-2 Inv-loop μ-loop
@@ -59,8 +61,10 @@ square-modulo-requires c κs =
     let at-loop = c .before .before .before .before .before in
     let start = at-loop .before .before .before .before .before .before .before .before .before .before .before in
     let loop = at-loop .loop in
-    let pre = start .pre in
-    ((pre .0 .0, pre .0 .1, loop .inv .0, loop .inv .5 .reduced), (pre .1 .1, omega (arith, pre .1 .2, loop .inv .1), omega (arith, pre .1 .3, loop .inv .3), omega (arith, pre .1 .4, loop .inv .2, loop .inv .3)))
+    let pre = start .pre in (
+      (pre .0 .0, pre .0 .1, loop .inv .0, loop .inv .5 .reduced),
+      (pre .1 .1, omega (arith, pre .1 .2, loop .inv .1), omega (arith, pre .1 .3, loop .inv .3), omega (arith, pre .1 .4, loop .inv .2, loop .inv .3)),
+    )
 
 shr-if1 : tie.Need-shr-if1 Inv-loop μ-loop
 shr-if1 c = search needs
@@ -95,7 +99,8 @@ loop-again c =
       omega (arith, loop .inv .2, square .kept),
       omega (arith, loop .inv .3, square .kept),
       omega (arith, loop .inv .4),
-      digit-1 p (length (a .g .now) - 1) (poly p (a .g .now)) p (loop .i) (loop .r) (square .last .0) (omega (arith, at-loop-test .loop-test)) (loop .inv .5) (square .ensures) (times .last .0)
+      digit-1 p (length (a .g .now) - 1) (poly p (a .g .now)) p (loop .i) (loop .r) (square .last .0) (omega (arith, at-loop-test .loop-test))
+          (loop .inv .5) (square .ensures) (times .last .0)
           (at-if1 .if1 .taken) (times .ensures),
     )
 
@@ -118,7 +123,8 @@ loop-again-2 c =
       omega (arith, loop .inv .2, square .kept),
       omega (arith, loop .inv .3, square .kept),
       omega (arith, loop .inv .4),
-      digit-0 p (length (a .g .now) - 1) (poly p (a .g .now)) p (loop .i) (loop .r) (square .last .0) (omega (arith, at-loop-test .loop-test)) (loop .inv .5) (square .ensures) (at-if1 .if1 .left),
+      digit-0 p (length (a .g .now) - 1) (poly p (a .g .now)) p (loop .i) (loop .r) (square .last .0) (omega (arith, at-loop-test .loop-test))
+          (loop .inv .5) (square .ensures) (at-if1 .if1 .left),
     )
 
 same-length : tie.Need-same-length Inv-loop μ-loop
@@ -146,4 +152,5 @@ returns c =
     power-ends p (length (a .g .now) - 1) (poly p (a .g .now)) p (loop .i) (loop .r) (search needs) (loop .inv .5)
 
 pub power-of-x-spec : {M : Type 1} → statement M
-power-of-x-spec = tie.close (tie.spec Inv-loop μ-loop clear-requires slice-write-r sub-i loop-holds sub-i-2 square-modulo-requires shr-if1 times-x-requires loop-less loop-again loop-less-2 loop-again-2 same-length same-length-2 same-length-3 same-length-4 returns)
+power-of-x-spec = tie.close (tie.spec Inv-loop μ-loop clear-requires slice-write-r sub-i loop-holds sub-i-2 square-modulo-requires shr-if1 times-x-requires
+    loop-less loop-again loop-less-2 loop-again-2 same-length same-length-2 same-length-3 same-length-4 returns)

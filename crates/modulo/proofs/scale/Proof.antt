@@ -65,7 +65,8 @@ loop-again c =
     let loop = at-loop .loop in
     let turn = at-plus-multiple .plus-multiple in
     stored-more _ (a .out .now) (loop .out) (loop .k) (turn .result) (omega (arith, loop .inv .same-length)) (loop .inv)
-    (residue-same (Ring.zero-add (Zmod p) _ ∙ ap (times p (mk p (a .c))) (ap (mk p) (word-kept _ _ _ _ (loop .inv)) ∙ sym (poly-at p (a .out .now) (loop .k)))) (turn .ensures))
+    (residue-same (Ring.zero-add (Zmod p) _ ∙ ap (times p (mk p (a .c)))
+    (ap (mk p) (word-kept _ _ _ _ (loop .inv)) ∙ sym (poly-at p (a .out .now) (loop .k)))) (turn .ensures))
 
 same-length : tie.Need-same-length Inv-loop μ-loop
 same-length c =
@@ -81,4 +82,5 @@ returns c =
     stored-all (a .m .p) _ (a .out .now) (loop .out) (loop .k) (prepared-positive (start .pre .0)) (omega (arith, loop .inv .same-length)) (loop .inv)
 
 pub scale-spec : {M : Type 1} → statement M
-scale-spec = tie.close (tie.spec Inv-loop μ-loop loop-holds mul-plus-multiple slice-read-plus-multiple plus-multiple-requires mul-out slice-write-out add-k loop-less loop-again same-length returns)
+scale-spec = tie.close (tie.spec Inv-loop μ-loop loop-holds mul-plus-multiple slice-read-plus-multiple plus-multiple-requires mul-out slice-write-out add-k
+    loop-less loop-again same-length returns)

@@ -36,7 +36,8 @@ returns c =
     let shifted = at-shift-up .shift-up in
     let same : length (a .g .now) ≡ length (shifted .last .0) = omega (arith, pre .0 .2, shifted .kept) in
     remainder-filled (shifted .ensures p (pre .1 .0))
-    (times-below p (length (shifted .last .0)) (poly p (a .r .now)) (omega (arith, pre .0 .1 .some, same)) (subst (λ n. Below (Zmod p) (n - 1) (poly p (a .r .now))) same (pre .1 .1)))
+    (times-below p (length (shifted .last .0)) (poly p (a .r .now)) (omega (arith, pre .0 .1 .some, same))
+    (subst (λ n. Below (Zmod p) (n - 1) (poly p (a .r .now))) same (pre .1 .1)))
     (at-remainder .remainder .ensures)
 
 pub times-x-spec : {M : Type 1} → statement M
