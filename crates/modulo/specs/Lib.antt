@@ -3,3 +3,4 @@ pub mod Shifted
 pub mod Power
 pub mod Euclid
 pub mod Count
+pub mod Reduction

@@ -1,5 +1,7 @@
 // Arithmetic modulo a monic polynomial g over ℤ/p, for p below 2^28: slices of residues, the constant term first, as in `poly`. A slice for g has d + 1
 // words, of which the last is 1.
+mod reduction;
+
 use barrett::Modulus;
 ghost use mathlib.Core.Path.{_≡_};
 ghost use Prim.Native.Nat.{ℕ, _+_, _-_, _*_, _<_, _≤_};

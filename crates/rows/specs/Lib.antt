@@ -3,4 +3,5 @@ pub mod Room
 pub mod Sums
 pub mod Block
 pub mod Turn
+pub mod Product
 pub mod Square

@@ -1,0 +1,61 @@
+-- `rows::widen` meets its contract. Assumes nothing.
+use mathlib.Core.Path.{_≡_, subst}
+use Prim.Native.Nat.{_-_, _≤_}
+use native.Mathlib.Omega.{arith}
+use lib.ListN.{length, getD, length-set}
+use Rattle.slices.specs.Filling.{Filled, filled-none, filled-more}
+use borrow.Author.Needs.{needs}
+use Rattle.rows.proofs.widen.Statement.{statement}
+use Rattle.rows.proofs.widen.Tie as tie
+
+abbrev Inv-loop : tie.InvT-loop
+Inv-loop a out₀ k₀ out k = (length out ≡ length out₀) × (k ≤ length out) × Filled (λ j w. w ≡ getD a j 0) out k
+
+abbrev μ-loop : tie.MeasureT-loop
+μ-loop a out₀ k₀ out k = length out₀ - k
+
+loop-holds : tie.Need-loop-holds Inv-loop μ-loop
+loop-holds c =
+    let start = c .before .before in
+    (search needs, omega arith, filled-none (λ j w. w ≡ getD (start .args .a .now) j 0) (start .args .out .now))
+
+word-requires : tie.Need-word-requires Inv-loop μ-loop
+word-requires c κs = search needs
+
+mul-out : tie.Need-mul-out Inv-loop μ-loop
+mul-out c = search needs
+
+slice-write-out : tie.Need-slice-write-out Inv-loop μ-loop
+slice-write-out c = search needs
+
+add-k : tie.Need-add-k Inv-loop μ-loop
+add-k c = search needs
+
+loop-less : tie.Need-loop-less Inv-loop μ-loop
+loop-less c = search needs
+
+loop-again : tie.Need-loop-again Inv-loop μ-loop
+loop-again c =
+    let at-word = c in
+    let at-loop = at-word .before .before in
+    let start = at-loop .before .before .before in
+    let loop = at-loop .loop in (
+      simp length-set (loop .inv .0),
+      omega (arith, length-set (loop .out) (loop .k) (at-word .word .result)),
+      filled-more (λ j w. w ≡ getD (start .args .a .now) j 0) (loop .out) (loop .k) (at-word .word .result) (omega arith) (loop .inv .2) (at-word .word .ensures),
+    )
+
+same-length : tie.Need-same-length Inv-loop μ-loop
+same-length c = search needs
+
+returns : tie.Need-returns Inv-loop μ-loop
+returns c =
+    let at-loop = c .before in
+    let start = at-loop .before .before .before in
+    let loop = at-loop .loop in
+    let a = start .args in
+    let end : loop .k ≡ length (a .out .now) = omega arith in
+    subst (Filled (λ j w. w ≡ getD (a .a .now) j 0) (loop .out)) end (loop .inv .2)
+
+pub widen-spec : {M : Type 1} → statement M
+widen-spec = tie.close (tie.spec Inv-loop μ-loop loop-holds word-requires mul-out slice-write-out add-k loop-less loop-again same-length returns)
