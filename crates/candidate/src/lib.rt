@@ -205,7 +205,7 @@ fn solution(
     fill_h(v, table, h);
     fill_s(v, table, h, s);
     fill_c(v, table, s, c);
-    poly::reverse(c, g);
+    expansion::reverse(c, g);
 }
 
 // g = the only polynomial that can meet the rules; the front of h and s takes its expansion and its power sums. table and c are room.

@@ -29,6 +29,19 @@ pub fn weighted(l: u32, x: u32, m: u32, y: u32, n: u32, z: u32, p: u32) -> u32
     field::reduce(field::combination(l, x, m, y, n, z), p)
 }
 
+// out is a backwards.
+pub fn reverse(a: &[u32], out: &mut [u32])
+    requires { ⌜ length (now out) ≡ length (now a) ⌝ }
+    ensures { λ r. ⌜ Filled (λ i w. w ≡ getD (now (a .entry)) (length (now (a .entry)) - 1 - i) 0) (now (out .exit)) (length (now (a .entry))) ⌝ }
+{
+    let n = a.len();
+    let mut i = 0;
+    while i < n {
+        out[i] = a[n - 1 - i];
+        i += 1;
+    }
+}
+
 // ── the power sums from g
 
 // e = -c₁, -c₂, .., -c_d, where c is g reversed; then zeros.

@@ -3,4 +3,6 @@ pub mod Shifted
 pub mod Power
 pub mod Euclid
 pub mod Count
-pub mod Reduction
+pub mod Product
+pub mod Quotient
+pub mod Division

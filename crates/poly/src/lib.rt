@@ -7,7 +7,6 @@ ghost use mathlib.Core.Logic.{_↔_};
 ghost use mathlib.Core.Bool.{true};
 ghost use Prim.Native.Nat.{ℕ, _+_, _-_, _*_, _^_, _<_, _≤_, min, max};
 ghost use lib.ListN.{length, getD, replicate};
-ghost use Rattle.slices.specs.Filling.{Filled};
 ghost use Rattle.series.specs.Series.{conv, sums, negs, scaled, ∂};
 ghost use Rattle.zmod.specs.Zmod.{Zmod, mk, plus, times};
 ghost use Rattle.zmod.specs.Residues.{Residue, Reduced, poly, Residues};
@@ -163,19 +162,6 @@ pub fn square(a: &[u32], e: &mut [u64], acc: &mut [u64], out: &mut [u32], m: Mod
     }
     rows::square(a, e, acc, m.p);
     barrett::remainders(acc, out, m);
-}
-
-// out is a backwards.
-pub fn reverse(a: &[u32], out: &mut [u32])
-    requires { ⌜ length (now out) ≡ length (now a) ⌝ }
-    ensures { λ r. ⌜ Filled (λ i w. w ≡ getD (now (a .entry)) (length (now (a .entry)) - 1 - i) 0) (now (out .exit)) (length (now (a .entry))) ⌝ }
-{
-    let n = a.len();
-    let mut i = 0;
-    while i < n {
-        out[i] = a[n - 1 - i];
-        i += 1;
-    }
 }
 
 // x + c y

@@ -157,12 +157,6 @@ module _ (R : CRing) where
   sum-null zero = refl
   sum-null (suc n) = sum-suc R (zeros R) n ∙ ap (λ x. x ⊕ 𝟘) (sum-null n) ∙ CRing.add-zero R 𝟘
 
-  -- what is above i has no term before i in a product
-  pub upper-early : (i : ℕ) (a b : Seq R) (k : ℕ) → k < i → conv R (upper i a) b k ≡ 𝟘
-  upper-early i a b k l =
-      conv-sum R (upper i a) b k
-      ∙ sum-same R _ (zeros R) (suc k) (λ j m. ap (λ x. x ⊗ b (k - j)) (upper-low i a j (omega arith)) ∙ Ring.zero-mul R _) ∙ sum-null (suc k)
-
   pub upper-square : (i : ℕ) (a : Seq R) (k : ℕ) → k < i + i → conv R (upper i a) (upper i a) k ≡ 𝟘
   upper-square i a k l =
       conv-sum R (upper i a) (upper i a) k ∙ sum-same R _ (zeros R) (suc k) (λ j m. go j m (decLt j i)) ∙ sum-null (suc k)

@@ -3,5 +3,4 @@ pub mod Room
 pub mod Sums
 pub mod Block
 pub mod Turn
-pub mod Product
 pub mod Square

@@ -26,20 +26,6 @@ pub record RowsAdded (acc₀ e : List ℕ) (at len w x y z : ℕ) (acc : List �
   pub before : (k : ℕ) → k < at → getD acc k 0 ≡ getD acc₀ k 0
   pub after : (k : ℕ) → at + len ≤ k → getD acc k 0 ≡ getD acc₀ k 0
 
--- the same rows in other words
-pub rows-same : (acc e e′ : List ℕ) (at len w x y z : ℕ) (acc′ : List ℕ) → ((j : ℕ) → getD e′ j 0 ≡ getD e j 0) → RowsAdded acc e at len w x y z acc′
-    → RowsAdded acc e′ at len w x y z acc′
-rows-same acc e e′ at len w x y z acc′ same h = record {
-  inside = λ j l. h .inside j l ∙ sym (row j);
-  before = h .before;
-  after = h .after;
-}
-  where
-    row : (j : ℕ) → row-more (getD acc (at + j) 0) e′ j w x y z ≡ row-more (getD acc (at + j) 0) e j w x y z
-    row j =
-        ap₂ (λ a b. getD acc (at + j) 0 + w * a + x * b + y * getD e′ (1 + j) 0 + z * getD e′ j 0) (same (3 + j)) (same (2 + j))
-        ∙ ap₂ (λ a b. getD acc (at + j) 0 + w * getD e (3 + j) 0 + x * getD e (2 + j) 0 + y * a + z * b) (same (1 + j)) (same j)
-
 -- no factor above q and no word of a row above f
 pub row-le : (q f s : ℕ) (e : List ℕ) (j w x y z : ℕ) → w ≤ q → x ≤ q → y ≤ q → z ≤ q → ((u : ℕ) → getD e u 0 ≤ f) → row-more s e j w x y z ≤ s + 4 * (q * f)
 row-le q f s e j w x y z hw hx hy hz small =

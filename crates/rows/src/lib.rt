@@ -9,7 +9,6 @@ ghost use Rattle.zmod.specs.Zmod.{Zmod};
 ghost use Rattle.zmod.specs.Residues.{Reduced, poly};
 ghost use Rattle.rows.specs.Rows.{four-more, row-more, RowsAdded, Four, Twice};
 ghost use Rattle.rows.specs.Room.{Above, turns};
-ghost use Rattle.rows.specs.Product.{Laid, ProductTurned, ProductAdded};
 ghost use Rattle.rows.specs.Square.{Turned};
 ghost use Rattle.rows.specs.Sums.{Sums};
 
@@ -153,67 +152,6 @@ pub fn square(a: &[u32], e: &mut [u64], acc: &mut [u64], p: u32)
     prepare(a, e);
     clear(acc);
     square_turns(a, e, acc, p);
-}
-
-// e = a behind three zeros, and zeros behind it.
-pub fn lay(a: &[u32], e: &mut [u64])
-    requires { ⌜ (length (now a) + 3 ≤ length (now e)) × (length (now a) < 2 ^ 60) ⌝ }
-    ensures { λ _. ⌜ Laid (now (a .entry)) (length (now (a .entry))) (now (e .exit)) ⌝ }
-{
-    clear(e);
-    let mut k = 0;
-    while k < a.len() {
-        e[3 + k] = word(a, k);
-        k += 1;
-    }
-}
-
-// out = the first words of a, and zeros.
-pub fn widen(a: &[u32], out: &mut [u64])
-    ensures { λ _. ⌜ Filled (λ k w. w ≡ getD (now (a .entry)) k 0) (now (out .exit)) (length (now (out .entry))) ⌝ }
-{
-    let mut k = 0;
-    while k < out.len() {
-        out[k] = word(a, k);
-        k += 1;
-    }
-}
-
-// Four words w, x, y, z of a from i on, times the words that e has behind three zeros, are added to the sums from i on.
-fn product_turn(a: &[u32], i: usize, e: &[u64], acc: &mut [u64], p: u32)
-    requires { ⌜ (i < length (now acc)) × (length (now acc) + 3 ≤ length (now e)) × (i < 2 ^ 60) ⌝ }
-    requires { ⌜ (0 < p) × (p ≤ 2 ^ 28) × Reduced p (now a) × Reduced p (now e) × ((j : ℕ) → j < 3 → getD (now e) j 0 ≡ 0) ⌝ }
-    requires { ⌜ ((k : ℕ) → getD (now acc) k 0 + 4 * ((p - 1) * (p - 1)) < 2 ^ 64) ⌝ }
-    ensures { λ _. ⌜ ProductTurned p (now (a .entry)) (now (e .entry)) i (now (acc .entry)) (now (acc .exit)) ⌝ }
-{
-    let len = acc.len() - i;
-    add_rows(
-        acc,
-        i,
-        len,
-        e,
-        word(a, i),
-        word(a, 1 + i),
-        word(a, 2 + i),
-        word(a, 3 + i),
-    );
-}
-
-// The product of a and what e has behind three zeros is added to the sums: as many coefficients as acc has words.
-pub fn add_product(a: &[u32], e: &[u64], acc: &mut [u64], p: u32)
-    requires { ⌜ (length (now acc) + 3 ≤ length (now e)) × (length (now a) < 2 ^ 60) ⌝ }
-    requires { ⌜ (0 < p) × (p ≤ 2 ^ 28) × Reduced p (now a) × Reduced p (now e) × ((j : ℕ) → j < 3 → getD (now e) j 0 ≡ 0) ⌝ }
-    requires { ⌜ ((k : ℕ) → getD (now acc) k 0 + (length (now a) + 3) * ((p - 1) * (p - 1)) < 2 ^ 64) ⌝ }
-    ensures { λ _. ⌜ ProductAdded p (now (a .entry)) (now (e .entry)) (now (acc .entry)) (now (acc .exit)) ⌝ }
-{
-    let mut i = 0;
-    while i < a.len() {
-        if acc.len() <= i {
-            return;
-        }
-        product_turn(a, i, e, acc, p);
-        i += 4;
-    }
 }
 
 // Room of three sizes, so that small degrees clear little: for ℓ up to 21, up to 79, and for all. (As the result of a call its words stay out of the callers'

@@ -48,16 +48,6 @@ module _ (xs : List ℕ) (a n : ℕ) where
           let z : getD (take n (drop a xs)) j 0 ≡ 0 = List·getD-eq-default (take n (drop a xs)) 0 (omega (arith, length-take n (drop a xs))) in
           omega arith
 
--- all words from a on, and zeros past the end
-pub tail-at : (xs : List ℕ) (a j : ℕ) → getD (take (length xs - a) (drop a xs)) j 0 ≡ getD xs (a + j) 0
-tail-at xs a j = go (decLt j (length xs - a))
-  where
-    go : Dec (j < length xs - a) → getD (take (length xs - a) (drop a xs)) j 0 ≡ getD xs (a + j) 0
-    go (yes l) = part-at xs a (length xs - a) j l
-    go (no l) =
-        List·getD-eq-default (take (length xs - a) (drop a xs)) 0 (omega (arith, length-take (length xs - a) (drop a xs)))
-        ∙ sym (List·getD-eq-default xs 0 (omega arith))
-
 -- all words of a part that was lent and came back: `part` in the place of `len` words from `at` on
 module _ (xs part : List ℕ) (at len : ℕ) (inside : at + len ≤ length xs) (long : length part ≡ len) where
   abbrev back : List ℕ

@@ -4,8 +4,9 @@ use Prim.Native.Nat.{ℕ, _+_, _-_, _*_, _≤_, _<_, min}
 use native.Mathlib.Omega.{arith}
 use native.Mathlib.Decide.{decLt}
 use lib.ListN.{length, getD, take, drop, length-take, length-drop}
-use Rattle.slices.specs.Stored.{part-below, tail-at}
+use Rattle.slices.specs.Stored.{part-below}
 use Rattle.rows.specs.Rows.{row-le, added-le}
+use Rattle.expansion.specs.Parts.{tail-at}
 use Rattle.expansion.specs.Sums.{most-due, same-rows, due-rows}
 use borrow.Author.Needs.{needs}
 use Rattle.expansion.proofs.sums_rows.Statement.{statement}

@@ -13,26 +13,31 @@ use Rattle.modulo.proofs.count.Tie as tie
 
 power-of-x-requires : tie.Need-power-of-x-requires
 power-of-x-requires c κs =
-    let start = c .before .before .before .before .before .before .before .before .before .before in
-    let pre = start .pre in
-    ((pre .0 .1, pre .0 .2, pre .1 .1, pre .0 .0 .above-one), (pre .0 .3, pre .0 .4, pre .1 .2, pre .1 .3, pre .1 .4))
+    let start = c .before .before .before .before .before .before .before .before .before .before .before .before .before .before .before .before .before in
+    let pre = start .pre in (
+      (pre .0 .1, pre .0 .2, pre .0 .0 .above-one, pre .0 .3, pre .0 .4),
+      (pre .1 .1, pre .1 .3, pre .1 .4, pre .1 .5, pre .1 .7, pre .1 .6, pre .1 .0, pre .1 .2),
+    )
 
 slice-read-subtract : tie.Need-slice-read-subtract
 slice-read-subtract c =
     let start = c .before .before .before .before .before .before .before .before .before .before .before .before .before .before .before .before .before
-    .before .before .before in
+    .before .before .before .before .before .before .before .before .before .before .before .before .before .before .before .before .before .before in
     search (needs, start .pre .1 .1, start .pre .0 .3)
 
 subtract-requires : tie.Need-subtract-requires
 subtract-requires c κs =
-    let at-power-of-x = c .before .before .before .before .before .before .before .before .before in
-    let start = at-power-of-x .before .before .before .before .before .before .before .before .before .before .before in
+    let at-power-of-x = c .before .before .before .before .before .before .before .before .before .before .before .before .before .before .before .before
+    .before in
+    let start = at-power-of-x .before .before .before .before .before .before .before .before .before .before .before .before .before .before .before
+    .before .before .before in
     (at-power-of-x .power-of-x .ensures .reduced 1, start .pre .0 .0 .above-one, omega (arith, prepared-below (start .pre .0 .1)))
 
 slice-write-r : tie.Need-slice-write-r
 slice-write-r c =
     let start = c .before .before .before .before .before .before .before .before .before .before .before .before .before .before .before .before .before
-    .before .before .before .before in
+    .before .before .before .before .before .before .before .before .before .before .before .before .before .before .before .before .before .before
+    .before in
     search (needs, start .pre .1 .1, start .pre .0 .3)
 
 copy-requires : tie.Need-copy-requires
@@ -42,8 +47,10 @@ gcd-degree-requires : tie.Need-gcd-degree-requires
 gcd-degree-requires c κs =
     let at-copy = c .before .before .before .before in
     let at-subtract = at-copy .before .before in
-    let at-power-of-x = at-subtract .before .before .before .before .before .before .before .before .before .before in
-    let start = at-power-of-x .before .before .before .before .before .before .before .before .before .before .before in
+    let at-power-of-x = at-subtract .before .before .before .before .before .before .before .before .before .before .before .before .before .before .before
+    .before .before .before in
+    let start = at-power-of-x .before .before .before .before .before .before .before .before .before .before .before .before .before .before .before
+    .before .before .before in
     let a = start .args in
     let pre = start .pre in
     let p = a .m .p in
@@ -51,7 +58,7 @@ gcd-degree-requires c κs =
     let copy = at-copy .copy in (
       pre .0 .0,
       pre .0 .1,
-      divisor-copied (omega (arith, pre .1 .0, copy .kept)) (pre .0 .2) (copy .ensures p (pre .0 .2 .reduced)) .0,
+      divisor-copied (omega (arith, pre .1 .0, power .kept, copy .kept)) (pre .0 .2) (copy .ensures p (pre .0 .2 .reduced)) .0,
       subtracted-reduced p (at-subtract .subtract .result) (power .last .1 .0) (power .ensures .reduced) (omega (arith, power .kept, pre .1 .1, pre .0 .3))
           (at-subtract .subtract .ensures),
     )
@@ -63,7 +70,8 @@ same-length-2 : tie.Need-same-length-2
 same-length-2 c =
     let at-gcd-degree = c .before .before .before .before in
     let at-subtract = at-gcd-degree .before .before .before .before .before .before .before in
-    let at-power-of-x = at-subtract .before .before .before .before .before .before .before .before .before .before in
+    let at-power-of-x = at-subtract .before .before .before .before .before .before .before .before .before .before .before .before .before .before .before
+    .before .before .before in
     let power = at-power-of-x .power-of-x in
     omega (arith, at-gcd-degree .gcd-degree .kept, length-set (power .last .1 .0) 1 (at-subtract .subtract .result), power .kept)
 
@@ -76,13 +84,24 @@ same-length-4 c = search needs
 same-length-5 : tie.Need-same-length-5
 same-length-5 c = search needs
 
+same-length-6 : tie.Need-same-length-6
+same-length-6 c = search needs
+
+same-length-7 : tie.Need-same-length-7
+same-length-7 c = search needs
+
+same-length-8 : tie.Need-same-length-8
+same-length-8 c = search needs
+
 returns : tie.Need-returns
 returns c =
     let at-gcd-degree = c .before .before .before .before in
     let at-copy = at-gcd-degree .before .before .before .before .before in
     let at-subtract = at-copy .before .before in
-    let at-power-of-x = at-subtract .before .before .before .before .before .before .before .before .before .before in
-    let start = at-power-of-x .before .before .before .before .before .before .before .before .before .before .before in
+    let at-power-of-x = at-subtract .before .before .before .before .before .before .before .before .before .before .before .before .before .before .before
+    .before .before .before in
+    let start = at-power-of-x .before .before .before .before .before .before .before .before .before .before .before .before .before .before .before
+    .before .before .before in
     let a = start .args in
     let pre = start .pre in
     let p = a .m .p in
@@ -90,7 +109,7 @@ returns c =
     let copy = at-copy .copy in
     let r = power .last .1 .0 in
     let v = at-subtract .subtract in
-    let same = divisor-copied (omega (arith, pre .1 .0, copy .kept)) (pre .0 .2) (copy .ensures p (pre .0 .2 .reduced)) .1 in
+    let same = divisor-copied (omega (arith, pre .1 .0, power .kept, copy .kept)) (pre .0 .2) (copy .ensures p (pre .0 .2 .reduced)) .1 in
     let n = at-gcd-degree .gcd-degree .result in
     counted (pre .0 .0) (a .g .now) r (power .ensures)
     (subst (λ s. GcdDegree (Zmod p) (poly p (a .g .now)) s n)
@@ -99,4 +118,4 @@ returns c =
 
 pub count-spec : {M : Type 1} → statement M
 count-spec = tie.close (tie.spec power-of-x-requires slice-read-subtract subtract-requires slice-write-r copy-requires gcd-degree-requires same-length
-    same-length-2 same-length-3 same-length-4 same-length-5 returns)
+    same-length-2 same-length-3 same-length-4 same-length-5 same-length-6 same-length-7 same-length-8 returns)

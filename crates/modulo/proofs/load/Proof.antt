@@ -1,15 +1,20 @@
--- `rows::widen` meets its contract. Assumes nothing.
-use mathlib.Core.Path.{_≡_, subst}
-use Prim.Native.Nat.{_-_, _≤_}
+-- `modulo::load` meets its contract. The invariant: the words before k are stored.
+use mathlib.Core.Path.{_≡_, refl}
+use mathlib.Core.List.{List}
+use Prim.Native.Nat.{ℕ, _-_, _≤_}
 use native.Mathlib.Omega.{arith}
 use lib.ListN.{length, getD, length-set}
 use Rattle.slices.specs.Filling.{Filled, filled-none, filled-more}
 use borrow.Author.Needs.{needs}
-use Rattle.rows.proofs.widen.Statement.{statement}
-use Rattle.rows.proofs.widen.Tie as tie
+use Rattle.modulo.proofs.load.Statement.{statement}
+use Rattle.modulo.proofs.load.Tie as tie
+
+-- Assumes nothing.
+abbrev Same : List ℕ → ℕ → ℕ → Type 0
+Same a j v = v ≡ getD a j 0
 
 abbrev Inv-loop : tie.InvT-loop
-Inv-loop a out₀ k₀ out k = (length out ≡ length out₀) × (k ≤ length out) × Filled (λ j w. w ≡ getD a j 0) out k
+Inv-loop a out₀ k₀ out k = (length out ≡ length out₀) × (k ≤ length out₀) × Filled (Same a) out k
 
 abbrev μ-loop : tie.MeasureT-loop
 μ-loop a out₀ k₀ out k = length out₀ - k
@@ -17,7 +22,7 @@ abbrev μ-loop : tie.MeasureT-loop
 loop-holds : tie.Need-loop-holds Inv-loop μ-loop
 loop-holds c =
     let start = c .before .before in
-    (search needs, omega arith, filled-none (λ j w. w ≡ getD (start .args .a .now) j 0) (start .args .out .now))
+    (refl, omega arith, filled-none (Same (start .args .a .now)) (start .args .out .now))
 
 word-requires : tie.Need-word-requires Inv-loop μ-loop
 word-requires c κs = search needs
@@ -41,8 +46,9 @@ loop-again c =
     let start = at-loop .before .before .before in
     let loop = at-loop .loop in (
       simp length-set (loop .inv .0),
-      omega (arith, length-set (loop .out) (loop .k) (at-word .word .result)),
-      filled-more (λ j w. w ≡ getD (start .args .a .now) j 0) (loop .out) (loop .k) (at-word .word .result) (omega arith) (loop .inv .2) (at-word .word .ensures),
+      omega arith,
+      filled-more (Same (start .args .a .now)) (loop .out) (loop .k) _ (omega (arith, loop .inv .0))
+          (loop .inv .2) (at-word .word .ensures),
     )
 
 same-length : tie.Need-same-length Inv-loop μ-loop
@@ -53,9 +59,7 @@ returns c =
     let at-loop = c .before in
     let start = at-loop .before .before .before in
     let loop = at-loop .loop in
-    let a = start .args in
-    let end : loop .k ≡ length (a .out .now) = omega arith in
-    subst (Filled (λ j w. w ≡ getD (a .a .now) j 0) (loop .out)) end (loop .inv .2)
+    λ j l. loop .inv .2 j (omega (arith, loop .inv .0))
 
-pub widen-spec : {M : Type 1} → statement M
-widen-spec = tie.close (tie.spec Inv-loop μ-loop loop-holds word-requires mul-out slice-write-out add-k loop-less loop-again same-length returns)
+pub load-spec : {M : Type 1} → statement M
+load-spec = tie.close (tie.spec Inv-loop μ-loop loop-holds word-requires mul-out slice-write-out add-k loop-less loop-again same-length returns)

@@ -1,12 +1,12 @@
--- `poly::reverse` meets its contract. The invariant: the words before i are those of a backwards. Assumes nothing.
+-- `expansion::reverse` meets its contract. The invariant: the words before i are those of a backwards. Assumes nothing.
 use mathlib.Core.Path.{_≡_, refl}
 use Prim.Native.Nat.{_-_, _≤_, _<_}
 use native.Mathlib.Omega.{arith}
 use lib.ListN.{length, getD, length-set}
 use borrow.Author.Needs.{needs}
 use Rattle.slices.specs.Filling.{Filled, filled-none, filled-more}
-use Rattle.poly.proofs.reverse.Statement.{statement}
-use Rattle.poly.proofs.reverse.Tie as tie
+use Rattle.expansion.proofs.reverse.Statement.{statement}
+use Rattle.expansion.proofs.reverse.Tie as tie
 
 abbrev Inv-loop : tie.InvT-loop
 Inv-loop a out₀ n i₀ out i = (length out ≡ length out₀) × (i ≤ n) × (n ≡ length a) × Filled (λ j w. w ≡ getD a (length a - 1 - j) 0) out i
