@@ -1,14 +1,14 @@
 -- The two sides of R3 from products that are each formed once: with G = g², N³ + ÃNg⁴ + B̃g⁶ = B̃G²G + N(N² + ÃG²), and f(N′g − 2Ng′)².
 -- Where g has degree at most d, and N at most ℓ, both sides have at most 3ℓ + 1 coefficients.
 -- Assumes nothing.
-use mathlib.Core.Path.{_≡_, refl, sym, _∙_, ap, ap₂, subst}
-use Prim.Native.Nat.{ℕ, suc, _+_, _*_, _-_, _<_}
+use mathlib.Core.Path.{_≡_, sym, _∙_, ap₂, subst}
+use Prim.Native.Nat.{ℕ, suc, _+_, _*_, _<_}
 use native.Mathlib.Decide.{decLt}
 use native.Mathlib.Omega.{arith}
 use Rattle.ring.specs.Ring.{CRing, cast}
 use Rattle.ring.specs.Identity.{solve2, solve4}
 use Rattle.ring.specs.Identity.Ex.{num, _:+_, _:-_, _:*_, :-_, _:^_}
-use Rattle.series.specs.Series.{Series, Seq, conv, sums, scaled, const, ∂, conv-scalar}
+use Rattle.series.specs.Series.{Series, Seq, scaled, const, ∂, conv-scalar}
 use Rattle.series.specs.Degree.{Below, below-mono, sums-below, scaled-below}
 use Rattle.series.specs.Reversal.{r-neg, r-cast}
 use Rattle.isogeny.specs.Rules.{Question, f, W, left, right, R3}

@@ -8,7 +8,6 @@ use native.Mathlib.Omega.{arith}
 use lib.ListN.{length, getD, take, drop, length-take, List·getD-eq-default}
 use lib.Seq.{getD-take, getD-drop}
 use Rattle.slices.specs.Filling.{Filled}
-use Rattle.series.specs.Series.{Seq}
 use Rattle.zmod.specs.Zmod.{mk}
 use Rattle.zmod.specs.Residues.{Reduced, poly, poly-at}
 use Rattle.expansion.specs.Equations.{ReducedTo}

@@ -13,7 +13,7 @@ use Rattle.ring.specs.Identity.{solve2, solve4}
 use Rattle.ring.specs.Identity.Ex.{:0, _:+_, _:*_, :-_}
 use Rattle.series.specs.Series.{Seq, sum, sum-suc, sum-same}
 use Rattle.series.specs.Reversal.{rev, rev-sub, rev-past}
-use Rattle.zmod.specs.Zmod.{Elt, Zmod, mk, plus, times, minus, mk-add, mk-mul, cast-mk}
+use Rattle.zmod.specs.Zmod.{Zmod, mk, plus, times, minus, mk-add, mk-mul, cast-mk}
 use Rattle.zmod.specs.Residues.{Residue, poly, poly-at}
 use Rattle.isogeny.specs.Expansion.{sum-to, newton-step, power-sums}
 use Rattle.slices.specs.Stored.{Stored}
@@ -91,7 +91,8 @@ module _ (p d : ℕ) (g : Seq (Zmod p)) where
     three t₂ t₁ t₀ e₂ e₁ e₀ = step (2 + i) y t₀ (omega arith) third (omega arith) _ (two t₂ t₁ e₂ e₁) (3 + i) (omega arith)
 
     pub four : (t : ℕ) → 4 + t ≡ k - i → mk p (row-more a e t w x y z) ≡ due (Zmod p) d g S k (i + 4)
-    four t e₀ = step (3 + i) z t (omega arith) fourth (omega arith) _ (three (3 + t) (2 + t) (1 + t) (omega arith) (omega arith) (omega arith)) (i + 4) (omega arith)
+    four t e₀ = step (3 + i) z t (omega arith) fourth (omega arith) _ (three (3 + t) (2 + t) (1 + t) (omega arith) (omega arith) (omega arith)) (i + 4)
+        (omega arith)
 
   -- four words are computed
   module _ (e acc s s′ : List ℕ) (i w x y z : ℕ) (from : 1 ≤ i) (room : i + 4 ≤ length acc) (n : Negated e) (h : Due acc s i i) (f : Four s i w x y z s′) where
@@ -174,8 +175,10 @@ module _ (p d : ℕ) (g : Seq (Zmod p)) where
         shifted : row-more (getD acc k 0) e′ (k - from) (word i) (word (1 + i)) (word (2 + i)) (word (3 + i))
             ≡ row-more (getD acc k 0) e (k - (i + 4)) (word i) (word (1 + i)) (word (2 + i)) (word (3 + i))
         shifted =
-            ap₂ (λ a b. getD acc k 0 + word i * a + word (1 + i) * b + word (2 + i) * getD e′ (1 + (k - from)) 0 + word (3 + i) * getD e′ (k - from) 0) (at 3) (at 2)
-            ∙ ap₂ (λ a b. getD acc k 0 + word i * getD e (3 + (k - (i + 4))) 0 + word (1 + i) * getD e (2 + (k - (i + 4))) 0 + word (2 + i) * a + word (3 + i) * b)
+            ap₂ (λ a b. getD acc k 0 + word i * a + word (1 + i) * b + word (2 + i) * getD e′ (1 + (k - from)) 0 + word (3 + i) * getD e′ (k - from) 0)
+            (at 3) (at 2)
+            ∙ ap₂ (λ a b. getD acc k 0 + word i * getD e (3 + (k - (i + 4))) 0 + word (1 + i) * getD e (2 + (k - (i + 4))) 0 + word (2 + i) * a + word
+            (3 + i) * b)
             (at 1) (part (k - from) ∙ ap (λ t. getD e t 0) (omega arith))
 
   -- the words before i obey Newton's identities, and acc has what is due from i on

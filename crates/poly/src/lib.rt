@@ -5,7 +5,7 @@ use barrett::Modulus;
 ghost use mathlib.Core.Path.{_≡_};
 ghost use mathlib.Core.Logic.{_↔_};
 ghost use mathlib.Core.Bool.{true};
-ghost use Prim.Native.Nat.{ℕ, _+_, _-_, _*_, _^_, _<_, _≤_, min, max};
+ghost use Prim.Native.Nat.{ℕ, _+_, _-_, _*_, _^_, _<_, _≤_, max};
 ghost use lib.ListN.{length, getD, replicate};
 ghost use Rattle.series.specs.Series.{conv, sums, negs, scaled, ∂};
 ghost use Rattle.zmod.specs.Zmod.{Zmod, mk, plus, times};

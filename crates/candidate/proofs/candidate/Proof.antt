@@ -33,8 +33,13 @@ slice-aggregate-solution-3 c = sym (length-take-le _ _ (search needs))
 solution-requires : tie.Need-solution-requires
 solution-requires c κs =
     let start = c .before .before .before .before .before .before .before .before .before .before in
-    let pre = start .pre in
-    (pre .0, ((pre .1 .0 .0, simp length-take (omega (arith, pre))), (simp length-take (omega (arith, pre)), simp length-take (omega (arith, pre)), pre .1 .1 .2)))
+    let pre = start .pre in (
+      pre .0,
+      (
+        (pre .1 .0 .0, simp length-take (omega (arith, pre))),
+        (simp length-take (omega (arith, pre)), simp length-take (omega (arith, pre)), pre .1 .1 .2),
+      ),
+    )
 
 same-length : tie.Need-same-length
 same-length c = search needs
@@ -63,4 +68,5 @@ returns c =
     (made .ensures)
 
 pub candidate-spec : {M : Type 1} → statement M
-candidate-spec = tie.close (tie.spec sub-d slice-relend-prefix-solution slice-aggregate-solution slice-relend-prefix-solution-2 slice-aggregate-solution-2 slice-relend-prefix-solution-3 slice-aggregate-solution-3 solution-requires same-length same-length-2 same-length-3 same-length-4 same-length-5 returns)
+candidate-spec = tie.close (tie.spec sub-d slice-relend-prefix-solution slice-aggregate-solution slice-relend-prefix-solution-2 slice-aggregate-solution-2
+    slice-relend-prefix-solution-3 slice-aggregate-solution-3 solution-requires same-length same-length-2 same-length-3 same-length-4 same-length-5 returns)

@@ -44,12 +44,15 @@ same-length-5 c = search needs
 returns : tie.Need-returns
 returns c =
     let at-by-expansion-in = c .before .before .before .before .before .before .before .before .before .before in
-    let start = at-by-expansion-in .before .before .before .before .before .before .before .before .before .before .before .before .before .before .before .before in
+    let start = at-by-expansion-in .before .before .before .before .before .before .before .before .before .before .before .before .before .before .before
+    .before in
     let a = start .args in
-    of-words (a .v) (a .g .now) (a .n .now) (at-by-expansion-in .by-expansion-in .result) (start .pre .1 .1 .0 .1) (at-by-expansion-in .by-expansion-in .ensures)
+    of-words (a .v) (a .g .now) (a .n .now) (at-by-expansion-in .by-expansion-in .result) (start .pre .1 .1 .0 .1)
+    (at-by-expansion-in .by-expansion-in .ensures)
 
 returns-2 : tie.Need-returns-2
 returns-2 c = c .compare .ensures
 
 pub rule-three-from-spec : {M : Type 1} → statement M
-rule-three-from-spec = tie.close (tie.spec mul-if1 sub-if1 by-expansion-in-requires compare-requires same-length same-length-2 same-length-3 same-length-4 same-length-5 returns returns-2)
+rule-three-from-spec = tie.close (tie.spec mul-if1 sub-if1 by-expansion-in-requires compare-requires same-length same-length-2 same-length-3 same-length-4
+    same-length-5 returns returns-2)

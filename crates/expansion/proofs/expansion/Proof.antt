@@ -97,7 +97,8 @@ loop-holds c =
     let a = start .args in
     let v = a .v in
     let i = at-most .most .result in
-    let first = filled-more (F v (a .s .now)) (a .h .now) 0 0 (start .pre .1 .0 .0) (filled-none (F v (a .s .now)) (a .h .now)) (residue-self 0 (omega arith)) in (
+    let first = filled-more (F v (a .s .now)) (a .h .now) 0 0 (start .pre .1 .0 .0) (filled-none (F v (a .s .now)) (a .h .now))
+    (residue-self 0 (omega arith)) in (
       omega (arith, length-set (a .h .now) 0 0),
       omega (arith, at-most .most .ensures),
       omega (arith, length-set (a .h .now) 0 0, at-most .most .ensures, start .pre .1 .0),
@@ -181,4 +182,6 @@ returns c =
     (λ j l. loop .inv .3 j (omega arith))
 
 pub expansion-spec : {M : Type 1} → statement M
-expansion-spec = tie.close (tie.spec Inv-loop μ-loop add-requires add-requires-2 slice-write-h most-requires cast-n mul-multiply sub-multiply multiply-requires mul-multiply-2 sub-multiply-2 multiply-requires-2 loop-holds expansion-at-requires mul-h slice-write-h-2 add-requires-3 add-requires-4 add-i loop-less loop-again same-length returns)
+expansion-spec = tie.close (tie.spec Inv-loop μ-loop add-requires add-requires-2 slice-write-h most-requires cast-n mul-multiply sub-multiply
+    multiply-requires mul-multiply-2 sub-multiply-2 multiply-requires-2 loop-holds expansion-at-requires mul-h slice-write-h-2 add-requires-3 add-requires-4
+    add-i loop-less loop-again same-length returns)

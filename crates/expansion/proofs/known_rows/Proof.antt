@@ -1,6 +1,6 @@
 -- `expansion::known_rows` meets its contract. The invariant: from `from` on acc has what is due once the words before i are known.
 use mathlib.Core.Path.{_≡_, refl, subst}
-use Prim.Native.Nat.{ℕ, _+_, _-_, _%_, _≤_}
+use Prim.Native.Nat.{ℕ, _-_, _%_, _≤_}
 use native.Mathlib.Omega.{arith}
 use lib.ListN.{length, getD}
 use Rattle.series.specs.Series.{Seq}

@@ -9,7 +9,6 @@ use lib.ListN.{length, getD, set, length-set}
 use lib.Seq.{getD-set-same, getD-set-other}
 use Rattle.zmod.specs.Zmod.{Zmod, mk, cast-mk}
 use Rattle.zmod.specs.Residues.{Residue, poly, residue-same}
-use Rattle.ring.specs.Ring.{cast}
 use Rattle.isogeny.specs.Expansion.{power-sums}
 use Rattle.isogeny.specs.Proof.Sums.{sums-step, sums-obey}
 use Rattle.sheet.specs.Values.{half}
@@ -205,4 +204,5 @@ returns c =
     }
 
 pub power-sums-spec : {M : Type 1} → statement M
-power-sums-spec = tie.close (tie.spec sub-d negated-requires weights-requires sub-wide wide-requires reduce-requires slice-write-s mul-from add-from known-rows-requires sums-turns-requires same-length same-length-2 same-length-3 returns)
+power-sums-spec = tie.close (tie.spec sub-d negated-requires weights-requires sub-wide wide-requires reduce-requires slice-write-s mul-from add-from
+    known-rows-requires sums-turns-requires same-length same-length-2 same-length-3 returns)

@@ -1,5 +1,5 @@
 -- `expansion::recurs_by` meets its contract. The invariant: the recurrence holds before k, and y and z are the multiples of A and B for k. Assumes nothing.
-use mathlib.Core.Bool.{true, false, false≢true}
+use mathlib.Core.Bool.{false≢true}
 use mathlib.Core.Path.{refl, sym, _∙_}
 use Prim.Native.Nat.{ℕ, _+_, _-_, _*_, _≤_, _<_}
 use native.Mathlib.Omega.{arith}

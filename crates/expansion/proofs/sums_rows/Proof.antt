@@ -1,8 +1,7 @@
 -- `expansion::sums_rows` meets its contract. Assumes nothing.
-use mathlib.Core.Path.{_≡_, _∙_, ap}
+use mathlib.Core.Path.{_≡_, _∙_}
 use Prim.Native.Nat.{ℕ, _+_, _-_, _*_, _≤_, _<_, min}
 use native.Mathlib.Omega.{arith}
-use native.Mathlib.Decide.{decLt}
 use lib.ListN.{length, getD, take, drop, length-take, length-drop}
 use Rattle.slices.specs.Stored.{part-below}
 use Rattle.rows.specs.Rows.{row-le, added-le}
@@ -142,4 +141,5 @@ returns c =
     )
 
 pub sums-rows-spec : {M : Type 1} → statement M
-sums-rows-spec = tie.close (tie.spec add-skip sub-skip sub-least sub-least-2 least-requires mul-add-rows sub-add-rows part-add-rows-start part-add-rows-end word-requires add-word word-requires-2 add-word-2 word-requires-3 add-word-3 word-requires-4 add-rows-requires same-length returns)
+sums-rows-spec = tie.close (tie.spec add-skip sub-skip sub-least sub-least-2 least-requires mul-add-rows sub-add-rows part-add-rows-start part-add-rows-end
+    word-requires add-word word-requires-2 add-word-2 word-requires-3 add-word-3 word-requires-4 add-rows-requires same-length returns)

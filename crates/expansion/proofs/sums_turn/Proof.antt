@@ -1,7 +1,6 @@
 -- `expansion::sums_turn` meets its contract. Assumes nothing.
-use mathlib.Core.Path.{_≡_, sym, _∙_, ap}
-use mathlib.Core.List.{List}
-use Prim.Native.Nat.{ℕ, _+_}
+use mathlib.Core.Path.{sym, _∙_, ap}
+use Prim.Native.Nat.{_+_}
 use native.Mathlib.Omega.{arith}
 use borrow.Author.Needs.{needs}
 use lib.ListN.{getD}
@@ -140,7 +139,8 @@ put-requires c κs = search needs
 
 add-sums-rows : tie.Need-add-sums-rows
 add-sums-rows c =
-    let start = c .before .before .before .before .before .before .before .before .before .before .before .before .before .before .before .before .before .before .before .before .before .before .before in
+    let start = c .before .before .before .before .before .before .before .before .before .before .before .before .before .before .before .before .before
+    .before .before .before .before .before .before in
     record { fits = omega (arith, start .pre .0) }
 
 sums-rows-requires : tie.Need-sums-rows-requires
@@ -208,10 +208,14 @@ returns c =
             (newton₃ (a .p) (a .d) g (a .e .now) (a .acc .now) (a .s .now) s (a .i) _ _ _ _ (start .pre .0 .0) (omega arith) n (h .due-from) (put .ensures)
             (sym (z .ensures .class)))
             (h .solved);
-        due-from = rows .ensures .1 g n (λ k l m. due-now (a .p) (a .d) g (a .e .now) (a .acc .now) (a .s .now) s (a .i) _ _ _ _ (start .pre .0 .0) (omega arith) n
+        due-from = rows .ensures .1 g n (λ k l m. due-now (a .p) (a .d) g (a .e .now) (a .acc .now) (a .s .now) s (a .i) _ _ _ _ (start .pre .0 .0)
+            (omega arith) n
             (h .due-from) (put .ensures) k (omega arith) m);
       },
     )
 
 pub sums-turn-spec : {M : Type 1} → statement M
-sums-turn-spec = tie.close (tie.spec mul-reduce slice-read-reduce reduce-requires add-residue mul-residue slice-read-residue shared-slice-read-residue residue-requires add-residue-2 mul-residue-2 slice-read-residue-2 shared-slice-read-residue-2 shared-slice-read-residue-3 residue-requires-2 add-residue-3 mul-residue-3 slice-read-residue-3 shared-slice-read-residue-4 shared-slice-read-residue-5 shared-slice-read-residue-6 residue-requires-3 put-requires add-sums-rows sums-rows-requires same-length same-length-2 returns)
+sums-turn-spec = tie.close (tie.spec mul-reduce slice-read-reduce reduce-requires add-residue mul-residue slice-read-residue shared-slice-read-residue
+    residue-requires add-residue-2 mul-residue-2 slice-read-residue-2 shared-slice-read-residue-2 shared-slice-read-residue-3 residue-requires-2
+    add-residue-3 mul-residue-3 slice-read-residue-3 shared-slice-read-residue-4 shared-slice-read-residue-5 shared-slice-read-residue-6 residue-requires-3
+    put-requires add-sums-rows sums-rows-requires same-length same-length-2 returns)

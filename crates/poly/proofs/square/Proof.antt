@@ -59,4 +59,5 @@ returns-2 c =
     sums-residues (search needs) (at-square .square .ensures) (at-remainders .remainders .ensures)
 
 pub square-spec : {M : Type 1} → statement M
-square-spec = tie.close (tie.spec square-by-coefficients-requires same-length returns square-requires remainders-requires same-length-2 same-length-3 same-length-4 returns-2)
+square-spec = tie.close (tie.spec square-by-coefficients-requires same-length returns square-requires remainders-requires same-length-2 same-length-3
+    same-length-4 returns-2)

@@ -8,7 +8,6 @@ use Rattle.zmod.specs.Residues.{poly}
 use Rattle.isogeny.specs.Rules.{N}
 use Rattle.sheet.specs.Values.{half, question}
 use Rattle.sheet.specs.Ready.{HoldsG, HoldsN, degree-half}
-use Rattle.rules.specs.Over.{Over}
 use Rattle.promises.specs.Numerators.{holds-n, whole-numerator}
 use Rattle.expansion.specs.Begun.{Begun}
 use Rattle.solving.proofs.Sheets.{solved}
@@ -85,7 +84,8 @@ sub-k c =
 
 slice-relend-prefix-rule-three-from : tie.Need-slice-relend-prefix-rule-three-from
 slice-relend-prefix-rule-three-from c =
-    let at-candidate = c .before .before .before .before .before .before .before .before .before .before .before .before .before .before .before .before .before .before .before .before .before .before in
+    let at-candidate = c .before .before .before .before .before .before .before .before .before .before .before .before .before .before .before .before
+    .before .before .before .before .before .before in
     let s = start at-candidate in
     omega (arith, at-candidate .candidate .kept, s .pre .1 .1 .0)
 
@@ -108,7 +108,13 @@ rule-three-from-requires c κs =
         (
           (n-words at-numerator, n-is at-numerator),
           (
-            (omega (arith, made .kept, s .pre .1 .0), omega (arith, made .kept, s .pre .1 .0), subst (λ n. n % 4 ≡ 1) (sym (made .kept .1 .1 .1 .0)) (s .pre .1 .0 .2), omega (arith, made .kept, s .pre .1 .0)),
+            (
+              omega (arith, made .kept, s .pre .1 .0),
+              omega (arith, made .kept, s .pre .1 .0),
+              subst (λ n. n % 4 ≡ 1) (sym (made .kept .1 .1 .1 .0))
+                  (s .pre .1 .0 .2),
+              omega (arith, made .kept, s .pre .1 .0),
+            ),
             (
               (
                 omega (arith, made .kept, s .pre .1 .1 .0),
@@ -146,25 +152,32 @@ same-length-2 c = search needs
 
 same-length-3 : tie.Need-same-length-3
 same-length-3 c =
-    let at-rule-three-from = c .before .before .before .before .before .before .before .before .before .before .before .before .before .before .before .before in
-    let at-candidate = at-rule-three-from .before .before .before .before .before .before .before .before .before .before .before .before .before .before .before .before .before .before .before .before .before .before .before .before in
+    let at-rule-three-from = c .before .before .before .before .before .before .before .before .before .before .before .before .before .before .before
+    .before in
+    let at-candidate = at-rule-three-from .before .before .before .before .before .before .before .before .before .before .before .before .before .before
+    .before .before .before .before .before .before .before .before .before .before in
     at-rule-three-from .rule-three-from .kept .1 .1 .1 .1 .1 .1 .0 ∙ at-candidate .candidate .kept .1 .1 .1 .0
 
 same-length-4 : tie.Need-same-length-4
 same-length-4 c =
-    let at-rule-three-from = c .before .before .before .before .before .before .before .before .before .before .before .before .before .before .before .before in
-    let at-candidate = at-rule-three-from .before .before .before .before .before .before .before .before .before .before .before .before .before .before .before .before .before .before .before .before .before .before .before .before in
+    let at-rule-three-from = c .before .before .before .before .before .before .before .before .before .before .before .before .before .before .before
+    .before in
+    let at-candidate = at-rule-three-from .before .before .before .before .before .before .before .before .before .before .before .before .before .before
+    .before .before .before .before .before .before .before .before .before .before in
     at-rule-three-from .rule-three-from .kept .1 .1 .1 .1 .1 .1 .1 .0 ∙ at-candidate .candidate .kept .1 .1 .0
 
 same-length-5 : tie.Need-same-length-5
 same-length-5 c =
-    let at-rule-three-from = c .before .before .before .before .before .before .before .before .before .before .before .before .before .before .before .before in
-    let at-candidate = at-rule-three-from .before .before .before .before .before .before .before .before .before .before .before .before .before .before .before .before .before .before .before .before .before .before .before .before in
+    let at-rule-three-from = c .before .before .before .before .before .before .before .before .before .before .before .before .before .before .before
+    .before in
+    let at-candidate = at-rule-three-from .before .before .before .before .before .before .before .before .before .before .before .before .before .before
+    .before .before .before .before .before .before .before .before .before .before in
     search (needs, at-rule-three-from .rule-three-from .kept .1 .1 .1 .1 .1 .1 .1 .1 .0, at-candidate .candidate .kept .1 .0)
 
 same-length-6 : tie.Need-same-length-6
 same-length-6 c =
-    let at-numerator = c .before .before .before .before .before .before .before .before .before .before .before .before .before .before .before .before .before .before .before .before .before .before .before .before .before .before in
+    let at-numerator = c .before .before .before .before .before .before .before .before .before .before .before .before .before .before .before .before
+    .before .before .before .before .before .before .before .before .before .before in
     let at-candidate = at-numerator .before .before .before .before .before .before .before .before .before .before .before .before .before .before in
     at-numerator .numerator .kept .1 .1 .1 .0 ∙ at-candidate .candidate .kept .1 .1 .1 .1 .0
 
@@ -177,11 +190,16 @@ same-length-8 c = search needs
 returns : tie.Need-returns
 returns c =
     let at-finish = c .before .before in
-    let at-candidate = at-finish .before .before .before .before .before .before .before .before .before .before .before .before .before .before .before .before .before .before .before .before .before .before .before .before .before .before .before .before .before .before .before .before .before .before .before .before .before .before in
+    let at-candidate = at-finish .before .before .before .before .before .before .before .before .before .before .before .before .before .before .before
+    .before .before .before .before .before .before .before .before .before .before .before .before .before .before .before .before .before .before
+    .before .before .before .before .before in
     let s = start at-candidate in
     let made = at-candidate .candidate in
-    solved (s .args .v) (made .last .1 .1 .0) (made .last .1 .1 .1 .0) (made .last .1 .1 .1 .1 .1 .0) (s .args .answer .now) (at-finish .finish .last .1 .1 .1 .1 .0)
+    solved (s .args .v) (made .last .1 .1 .0) (made .last .1 .1 .1 .0) (made .last .1 .1 .1 .1 .1 .0) (s .args .answer .now)
+    (at-finish .finish .last .1 .1 .1 .1 .0)
     (made .ensures) (at-finish .finish .result) (at-finish .finish .ensures)
 
 pub solve-in-spec : {M : Type 1} → statement M
-solve-in-spec = tie.close (tie.spec candidate-requires modulus-requires numerator-requires sub-d sub-k slice-relend-prefix-rule-three-from slice-aggregate-rule-three-from rule-three-from-requires finish-requires same-length same-length-2 same-length-3 same-length-4 same-length-5 same-length-6 same-length-7 same-length-8 returns)
+solve-in-spec = tie.close (tie.spec candidate-requires modulus-requires numerator-requires sub-d sub-k slice-relend-prefix-rule-three-from
+    slice-aggregate-rule-three-from rule-three-from-requires finish-requires same-length same-length-2 same-length-3 same-length-4 same-length-5
+    same-length-6 same-length-7 same-length-8 returns)

@@ -1,5 +1,4 @@
 -- `equation::short/begins` meets its contract. Assumes nothing.
-use native.Mathlib.Omega.{arith}
 use Rattle.equation.proofs.Conditions.{begins-known, first-no, second}
 use borrow.Author.Needs.{needs}
 use Rattle.equation.proofs.short.begins.Statement.{statement}
@@ -28,7 +27,8 @@ returns-2 c =
     let at-multiply = at-subtract .before in
     let start = at-multiply .before .before .before .before in
     let a = start .args in
-    first-no (a .v) (a .h .now) (at-multiply .multiply .result) (at-subtract .subtract .result) (at-multiply .multiply .ensures) (at-subtract .subtract .ensures)
+    first-no (a .v) (a .h .now) (at-multiply .multiply .result) (at-subtract .subtract .result) (at-multiply .multiply .ensures)
+    (at-subtract .subtract .ensures)
     (at-if2 .if2 .taken)
 
 shared-slice-read-multiply-2 : tie.Need-shared-slice-read-multiply-2
@@ -50,7 +50,9 @@ returns-3 c =
     let start = at-multiply .before .before .before .before in
     let a = start .args in
     second (a .v) (a .h .now) (at-multiply .multiply .result) (at-subtract .subtract .result) (at-multiply .multiply .ensures) (at-subtract .subtract .ensures)
-    (at-multiply2 .multiply2 .result) (at-subtract2 .subtract2 .result) (at-multiply2 .multiply2 .ensures) (at-subtract2 .subtract2 .ensures) (at-if2 .if2 .left)
+    (at-multiply2 .multiply2 .result) (at-subtract2 .subtract2 .result) (at-multiply2 .multiply2 .ensures) (at-subtract2 .subtract2 .ensures)
+    (at-if2 .if2 .left)
 
 pub begins-spec : {M : Type 1} → statement M
-begins-spec = tie.close (tie.spec returns shared-slice-read-multiply multiply-requires subtract-requires returns-2 shared-slice-read-multiply-2 multiply-requires-2 subtract-requires-2 returns-3)
+begins-spec = tie.close (tie.spec returns shared-slice-read-multiply multiply-requires subtract-requires returns-2 shared-slice-read-multiply-2
+    multiply-requires-2 subtract-requires-2 returns-3)

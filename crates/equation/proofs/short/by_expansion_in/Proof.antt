@@ -92,8 +92,10 @@ returns c =
     let room = start .pre .1 .1 .1 .0 in
     let sums = at-power-sums .power-sums in
     let h = at-expansion .expansion in
-    decided (a .v) (start .pre .0 .0) (a .g .now) (sums .last .1 .1 .1 .1 .0) (h .last .1 .1 .0) (omega (arith, sizes, sums .kept)) (omega (arith, room, h .kept))
+    decided (a .v) (start .pre .0 .0) (a .g .now) (sums .last .1 .1 .1 .1 .0) (h .last .1 .1 .0) (omega (arith, sizes, sums .kept))
+    (omega (arith, room, h .kept))
     (sums .ensures) (h .ensures) (start .pre .0 .2) (start .pre .1 .0 .1) (at-conditions .conditions .result) (at-conditions .conditions .ensures)
 
 pub by-expansion-in-spec : {M : Type 1} → statement M
-by-expansion-in-spec = tie.close (tie.spec power-sums-requires expansion-requires conditions-requires same-length same-length-2 same-length-3 same-length-4 same-length-5 returns)
+by-expansion-in-spec = tie.close (tie.spec power-sums-requires expansion-requires conditions-requires same-length same-length-2 same-length-3 same-length-4
+    same-length-5 returns)

@@ -69,4 +69,5 @@ returns-2 c =
     (at-recurs .recurs .ensures)
 
 pub conditions-spec : {M : Type 1} → statement M
-conditions-spec = tie.close (tie.spec begins-requires returns most-requires slice-relend-prefix-recurs slice-aggregate-recurs recurs-requires same-length same-length-2 same-length-3 returns-2)
+conditions-spec = tie.close (tie.spec begins-requires returns most-requires slice-relend-prefix-recurs slice-aggregate-recurs recurs-requires same-length
+    same-length-2 same-length-3 returns-2)
