@@ -103,7 +103,8 @@ fn put(out: &mut [u32], at: usize, w: u32, x: u32, y: u32, z: u32)
     out[at + 3] = z;
 }
 
-// The rows of the four power sums from i on, for those from `from` on.
+// The rows of the four power sums from i on, for those from `from` on. (The factors are read back from s: of remainders the compiler knows too much, and
+// takes a product of 64 bits where the vectors have one of 32.)
 fn sums_rows(e: &[u64], d: usize, acc: &mut [u64], s: &[u32], i: usize, from: usize, p: u32)
     requires { ⌜ (1 ≤ i) × (i + 4 ≤ from) × (from ≤ length (now acc)) × (length (now acc) ≤ 257) × (from ≤ i + 4 + d) × (d + 3 ≤ length (now e)) ⌝ }
     requires { ⌜ (0 < p) × (p ≤ 2 ^ 28) × Reduced p (now e) × ((t : ℕ) → d ≤ t → getD (now e) t 0 ≡ 0) × ReducedTo p (now s) (i + 4) ⌝ }
@@ -126,8 +127,7 @@ fn sums_rows(e: &[u64], d: usize, acc: &mut [u64], s: &[u32], i: usize, from: us
     );
 }
 
-// Four power sums from i on, each of which waits for the one before, and then their rows, for those that follow. (The factors are read back from s: of
-// remainders the compiler knows too much, and takes a product of 64 bits where the vectors have one of 32.)
+// Four power sums from i on, each of which waits for the one before, and then their rows, for those that follow.
 fn sums_turn(e: &[u64], d: usize, acc: &mut [u64], s: &mut [u32], i: usize, p: u32)
     requires { ⌜ (1 ≤ i) × (i + 4 ≤ length (now s)) × (length (now s) ≤ 257) × (length (now acc) ≡ length (now s)) × (d + 3 ≤ length (now e)) ⌝ }
     requires { ⌜ (0 < p) × (p ≤ 2 ^ 28) × Reduced p (now e) × ((t : ℕ) → d ≤ t → getD (now e) t 0 ≡ 0) × ReducedTo p (now s) i ⌝ }

@@ -21,10 +21,10 @@ use Rattle.rows.specs.Sums.{Sums, sums-residues}
 use Rattle.divisibility.specs.Congruence.{Congruent}
 use Rattle.modulo.specs.Modulo.{Divisor, RemainderOf}
 use Rattle.modulo.specs.Product.{held, ThreeZeros}
-use Rattle.modulo.specs.Quotient.{Backwards, InverseTo, quotient-below}
+use Rattle.modulo.specs.Quotient.{ReversedWords, InverseTo, quotient-below}
 
 -- t holds the inverse of g backwards, and n holds −g
-pub record Ready (p : ℕ) (g t n : List ℕ) : Type 0 where
+pub record DividesBy (p : ℕ) (g t n : List ℕ) : Type 0 where
   pub long-t : length g + 3 ≤ length t
   pub long-n : length g + 3 ≤ length n
   pub reduced-t : Reduced p t
@@ -40,7 +40,7 @@ QuotientTo p n t a q = (g : Seq (Zmod p)) → Below (Zmod p) (suc n) g → Inver
     → Below (Zmod p) n (sums (Zmod p) (poly p a) (negs (Zmod p) (conv (Zmod p) (poly p q) g)))
 
 -- the words of a slice backwards are its polynomial's
-pub backwards-rev : (p : ℕ) {a out : List ℕ} → 0 < length a → Backwards a out → rev (Zmod p) (length a - 1) (poly p a) ≡ poly p out
+pub backwards-rev : (p : ℕ) {a out : List ℕ} → 0 < length a → ReversedWords a out → rev (Zmod p) (length a - 1) (poly p a) ≡ poly p out
 backwards-rev p {a} {out} some h = fun-ext λ k. go k (decLt k (length a))
   where
     go : (k : ℕ) → Dec (k < length a) → rev (Zmod p) (length a - 1) (poly p a) k ≡ poly p out k
@@ -49,7 +49,7 @@ backwards-rev p {a} {out} some h = fun-ext λ k. go k (decLt k (length a))
     go k (no l) = rev-past (Zmod p) (length a - 1) k (poly p a) (omega arith) ∙ sym (poly-past p out k (omega (arith, h .same-length)))
 
 -- and the other way round
-pub backwards-back : (p : ℕ) {a out : List ℕ} → 0 < length a → Backwards a out → rev (Zmod p) (length a - 1) (poly p out) ≡ poly p a
+pub backwards-back : (p : ℕ) {a out : List ℕ} → 0 < length a → ReversedWords a out → rev (Zmod p) (length a - 1) (poly p out) ≡ poly p a
 backwards-back p {a} {out} some h = fun-ext λ k. go k (decLt k (length a))
   where
     go : (k : ℕ) → Dec (k < length a) → rev (Zmod p) (length a - 1) (poly p out) k ≡ poly p a k
@@ -58,7 +58,7 @@ backwards-back p {a} {out} some h = fun-ext λ k. go k (decLt k (length a))
         ∙ ap (mk p) (h .words (length a - 1 - k) (omega arith) ∙ ap (λ n. getD a n 0) (omega arith)) ∙ sym (poly-at p a k)
     go k (no l) = rev-past (Zmod p) (length a - 1) k (poly p out) (omega arith) ∙ sym (poly-past p a k (omega arith))
 
-pub backwards-reduced : {p : ℕ} {a out : List ℕ} → Reduced p a → Backwards a out → Reduced p out
+pub backwards-reduced : {p : ℕ} {a out : List ℕ} → Reduced p a → ReversedWords a out → Reduced p out
 backwards-reduced {p} {a} {out} low h j = go (decLt j (length a))
   where
     go : Dec (j < length a) → getD out j 0 < p
@@ -77,9 +77,9 @@ filled-reduced p a xs low filled j = go (decLt j (length xs))
 
 -- ── the quotient: `top` is the end of a backwards, `product` is what it makes with the inverse, and q is that backwards
 module _ (p d : ℕ) (t a top acc acc′ product q : List ℕ) (size : length a ≡ suc (d + d))
-    (first : Backwards (take (length a - d) (drop d a)) top) (zero : acc ≡ replicate (suc d) 0) (size′ : length acc′ ≡ suc d)
+    (first : ReversedWords (take (length a - d) (drop d a)) top) (zero : acc ≡ replicate (suc d) 0) (size′ : length acc′ ≡ suc d)
     (sum : Sums p (sums (Zmod p) (poly p acc) (conv (Zmod p) (poly p top) (held p t))) acc′) (size″ : length product ≡ suc d)
-    (reduced : Residues p (poly p acc′) product) (last : Backwards product q) where
+    (reduced : Residues p (poly p acc′) product) (last : ReversedWords product q) where
   pub quotient-to : QuotientTo p d t a q
   quotient-to g below inverse =
       quotient-below (Zmod p) d g (poly p a) (rev (Zmod p) d g) (held p t) (poly p top) (poly p product) (poly p q)
@@ -117,7 +117,7 @@ subtracted p a q n acc acc′ r same le filled sum h =
     (poly-at p acc i ∙ ap (mk p) (filled i (omega arith)) ∙ sym (poly-at p a i)))
     (sums-residues (omega arith) sum h)
 
-module _ (p d : ℕ) (g t n a q r : List ℕ) (size : length g ≡ suc d) (ready : Ready p g t n) (quotient : QuotientTo p d t a q) (long : d ≤ length r)
+module _ (p d : ℕ) (g t n a q r : List ℕ) (size : length g ≡ suc d) (ready : DividesBy p g t n) (quotient : QuotientTo p d t a q) (long : d ≤ length r)
     (h : Residues p (sums (Zmod p) (poly p a) (conv (Zmod p) (poly p q) (held p n))) r) where
   abbrev difference : Seq (Zmod p)
   difference = sums (Zmod p) (poly p a) (negs (Zmod p) (conv (Zmod p) (poly p q) (poly p g)))
@@ -149,7 +149,7 @@ module _ (p d : ℕ) (g t n a q r : List ℕ) (size : length g ≡ suc d) (ready
   }
 
 -- ── what is prepared
-module _ (p : ℕ) (g top q q′ t n : List ℕ) (divisor : Divisor p g) (turned : Backwards g top) (inverse : InverseTo (Zmod p) (length g) (poly p top) (poly p q))
+module _ (p : ℕ) (g top q q′ t n : List ℕ) (divisor : Divisor p g) (turned : ReversedWords g top) (inverse : InverseTo (Zmod p) (length g) (poly p top) (poly p q))
     (low : Reduced p q) (negative : Residues p (negs (Zmod p) (poly p g)) q′) (same : length q′ ≡ length g) (long-t : length g + 3 ≤ length t)
     (long-n : length g + 3 ≤ length n) (zeros-t : ThreeZeros t) (held-t : (j : ℕ) → getD t (3 + j) 0 ≡ getD q j 0) (zeros-n : ThreeZeros n)
     (held-n : (j : ℕ) → getD n (3 + j) 0 ≡ getD q′ j 0) where
@@ -163,7 +163,7 @@ module _ (p : ℕ) (g top q q′ t n : List ℕ) (divisor : Divisor p g) (turned
   behind-held : (e a : List ℕ) → ((j : ℕ) → getD e (3 + j) 0 ≡ getD a j 0) → held p e ≡ poly p a
   behind-held e a words = fun-ext λ j. ap (mk p) (words j) ∙ sym (poly-at p a j)
 
-  pub made-ready : Ready p g t n
+  pub made-ready : DividesBy p g t n
   made-ready = record {
     long-t = long-t;
     long-n = long-n;
@@ -177,7 +177,7 @@ module _ (p : ℕ) (g top q q′ t n : List ℕ) (divisor : Divisor p g) (turned
   }
 
 -- g backwards begins with 1
-pub backwards-one : (p : ℕ) (g top : List ℕ) → 1 < p → Divisor p g → Backwards g top → getD top 0 0 ≡ 1
+pub backwards-one : (p : ℕ) (g top : List ℕ) → 1 < p → Divisor p g → ReversedWords g top → getD top 0 0 ≡ 1
 backwards-one p g top large h k =
     k .words 0 (h .some) ∙ mk-apart {p = p} (omega arith) _ 1 (h .reduced (length g - 1 - 0)) large
     (sym (poly-at p g (length g - 1 - 0)) ∙ ap (poly p g) (omega arith) ∙ h .monic .one)

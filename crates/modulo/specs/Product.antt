@@ -17,11 +17,6 @@ use Rattle.rows.specs.Block.{upper, upper-block, upper-none, block}
 use Rattle.rows.specs.Sums.{Sums, products-low}
 use Rattle.rows.specs.Turn.{turn-classes}
 
--- what is said of four words is said of words that are equal to them
-pub four-same : (P : ℕ → ℕ → ℕ → ℕ → Type 0) (w x y z : ℕ) {w′ x′ y′ z′ : ℕ} → w ≡ w′ → x ≡ x′ → y ≡ y′ → z ≡ z′ → P w x y z → P w′ x′ y′ z′
-four-same P w x y z {w′} {x′} {y′} ew ex ey ez h =
-    subst (P w′ x′ y′) ez (subst (λ y. P w′ x′ y z) ey (subst (λ x. P w′ x y z) ex (subst (λ w. P w x y z) ew h)))
-
 -- what e holds behind three zeros
 abbrev pub held : (p : ℕ) → List ℕ → Seq (Zmod p)
 held p e j = mk p (getD e (3 + j) 0)
@@ -30,17 +25,17 @@ pub record ThreeZeros (e : List ℕ) : Type 0 where
   pub zeros : (j : ℕ) → j < 3 → getD e j 0 ≡ 0
 
 -- acc and the product of what is above i make acc₀ and the whole product; a sum has one product at most for each word below i
-pub record Added (p : ℕ) (a e acc₀ : List ℕ) (i : ℕ) (acc : List ℕ) : Type 0 where
+pub record ProductAdded (p : ℕ) (a e acc₀ : List ℕ) (i : ℕ) (acc : List ℕ) : Type 0 where
   pub classes : (k : ℕ) → k < length acc → plus p (poly p acc k) (conv (Zmod p) (upper (Zmod p) i (poly p a)) (held p e) k)
       ≡ plus p (poly p acc₀ k) (conv (Zmod p) (poly p a) (held p e) k)
   pub bounded : (k : ℕ) → getD acc k 0 ≤ getD acc₀ k 0 + i * ((p - 1) * (p - 1))
 
 module _ (p : ℕ) (a e acc₀ : List ℕ) where
-  pub added-none : Added p a e acc₀ 0 acc₀
+  pub added-none : ProductAdded p a e acc₀ 0 acc₀
   unfolding upper
   added-none = record { classes = λ k l. refl; bounded = λ k. omega arith }
 
-  module _ (low-a : Reduced p a) (low-e : Reduced p e) (i : ℕ) (acc : List ℕ) (h : Added p a e acc₀ i acc) where
+  module _ (low-a : Reduced p a) (low-e : Reduced p e) (i : ℕ) (acc : List ℕ) (h : ProductAdded p a e acc₀ i acc) where
     small : (xs : List ℕ) → Reduced p xs → (j : ℕ) → getD xs j 0 ≤ p - 1
     small xs low j = omega (arith, low j)
 
@@ -57,7 +52,7 @@ module _ (p : ℕ) (a e acc₀ : List ℕ) where
         )
 
     pub added-more : (acc′ : List ℕ) → length acc′ ≡ length acc → length acc + 3 ≤ length e → i ≤ length acc → ThreeZeros e
-        → RowsAdded acc e i (length acc - i) (getD a i 0) (getD a (1 + i) 0) (getD a (2 + i) 0) (getD a (3 + i) 0) acc′ → Added p a e acc₀ (i + 4) acc′
+        → RowsAdded acc e i (length acc - i) (getD a i 0) (getD a (1 + i) 0) (getD a (2 + i) 0) (getD a (3 + i) 0) acc′ → ProductAdded p a e acc₀ (i + 4) acc′
     added-more acc′ same long here zeros added = record {
       classes = λ k l.
           ap (λ n. plus p (poly p acc′ k) (conv (Zmod p) (upper (Zmod p) n (poly p a)) (held p e) k)) (omega arith)

@@ -21,7 +21,7 @@ use Rattle.zmod.specs.Residues.{Residue, Reduced, poly, poly-at}
 use Rattle.rows.specs.Room.{zero-at}
 
 -- the words of a from the last one down
-pub record Backwards (a out : List ℕ) : Type 0 where
+pub record ReversedWords (a out : List ℕ) : Type 0 where
   pub same-length : length out ≡ length a
   pub words : (j : ℕ) → j < length a → getD out j 0 ≡ getD a (length a - 1 - j) 0
 

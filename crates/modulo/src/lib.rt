@@ -19,8 +19,8 @@ ghost use Rattle.barrett.specs.Modulus.{Prepared};
 ghost use Rattle.rows.specs.Sums.{Sums};
 ghost use Rattle.modulo.specs.Modulo.{Divisor, RemainderOf};
 ghost use Rattle.modulo.specs.Product.{held, ThreeZeros};
-ghost use Rattle.modulo.specs.Quotient.{Backwards, InverseTo};
-ghost use Rattle.modulo.specs.Division.{QuotientTo, Ready};
+ghost use Rattle.modulo.specs.Quotient.{ReversedWords, InverseTo};
+ghost use Rattle.modulo.specs.Division.{QuotientTo, DividesBy};
 ghost use Rattle.modulo.specs.Euclid.{Trimmed, NextOf, GcdDegree};
 
 // x + c y
@@ -94,7 +94,7 @@ fn add_product(acc: &mut [u64], a: &[u32], e: &[u64], p: u32)
 // out is a backwards.
 fn reverse(a: &[u32], out: &mut [u32])
     requires { ⌜ length (now out) ≡ length (now a) ⌝ }
-    ensures { λ _. ⌜ Backwards (now (a .entry)) (now (out .exit)) ⌝ }
+    ensures { λ _. ⌜ ReversedWords (now (a .entry)) (now (out .exit)) ⌝ }
 {
     let n = a.len();
     let mut k = 0;
@@ -201,7 +201,7 @@ fn subtract_product(a: &[u32], q: &[u32], n: &[u64], acc: &mut [u64], r: &mut [u
 fn prepare(g: &[u32], t: &mut [u64], n: &mut [u64], top: &mut [u32], q: &mut [u32], p: u32)
     requires { ⌜ (1 < p) × (p ≤ 2 ^ 28) × (Divisor p (now g)) × (length (now g) ≤ 2 ^ 62) × (length (now top) ≡ length (now g))
         × (length (now q) ≡ length (now g)) × (length (now g) + 3 ≤ length (now t)) × (length (now g) + 3 ≤ length (now n)) ⌝ }
-    ensures { λ _. ⌜ Ready p (now (g .entry)) (now (t .exit)) (now (n .exit)) ⌝ }
+    ensures { λ _. ⌜ DividesBy p (now (g .entry)) (now (t .exit)) (now (n .exit)) ⌝ }
 {
     reverse(g, top);
     invert(top, q, p);
@@ -222,7 +222,7 @@ fn divide(
     r: &mut [u32],
     m: Modulus,
 )
-    requires { ⌜ Prepared m × (1 < m .p) × (Reduced (m .p) (now a)) × (Divisor (m .p) (now g)) × (Ready (m .p) (now g) (now t) (now n)) ⌝ }
+    requires { ⌜ Prepared m × (1 < m .p) × (Reduced (m .p) (now a)) × (Divisor (m .p) (now g)) × (DividesBy (m .p) (now g) (now t) (now n)) ⌝ }
     requires { ⌜ (length (now g) ≤ 252) × (length (now a) + 1 ≡ 2 * length (now g)) × (length (now acc) ≡ length (now g))
         × (length (now top) ≡ length (now g)) × (length (now q) ≡ length (now g)) × (length (now r) ≡ length (now g)) ⌝ }
     ensures { λ _. ⌜ RemainderOf (m .p) (length (now (g .entry)) - 1) (poly (m .p) (now (g .entry))) (poly (m .p) (now (a .entry))) (now (r .exit)) ⌝ }
@@ -269,7 +269,7 @@ fn square_modulo(
     q: &mut [u32],
     m: Modulus,
 )
-    requires { ⌜ Prepared m × (1 < m .p) × (Divisor (m .p) (now g)) × (Ready (m .p) (now g) (now t) (now n)) × (length (now r) ≡ length (now g))
+    requires { ⌜ Prepared m × (1 < m .p) × (Divisor (m .p) (now g)) × (DividesBy (m .p) (now g) (now t) (now n)) × (length (now r) ≡ length (now g))
         × (Reduced (m .p) (now r)) ⌝ }
     requires { ⌜ (length (now g) ≤ 128) × (length (now g) + 6 ≤ length (now e)) × (length (now room) + 1 ≡ 2 * length (now g))
         × (length (now acc) ≡ length (now room)) × (length (now top) ≡ length (now g)) × (length (now q) ≡ length (now g)) ⌝ }

@@ -1,18 +1,18 @@
 -- `modulo::add_product` meets its contract. The invariant: acc has the products with the words of a before i.
-use mathlib.Core.Path.{_≡_, sym}
+use mathlib.Core.Path.{_≡_}
 use Prim.Native.Nat.{ℕ, _+_, _-_, _*_, _^_, _≤_, _<_}
 use native.Mathlib.Nat as N
 use native.Mathlib.Omega.{arith}
 use lib.ListN.{length, getD}
-use Rattle.rows.specs.Rows.{row-more, RowsAdded}
-use Rattle.modulo.specs.Product.{Added, four-same, added-none, turn-fits, added-more, added-all}
+use Rattle.rows.specs.Rows.{row-more, RowsAdded, of-words, to-words}
+use Rattle.modulo.specs.Product.{ProductAdded, added-none, turn-fits, added-more, added-all}
 use borrow.Author.Needs.{needs}
 use Rattle.modulo.proofs.add_product.Statement.{statement}
 use Rattle.modulo.proofs.add_product.Tie as tie
 
 -- Assumes nothing.
 abbrev Inv-loop : tie.InvT-loop
-Inv-loop acc₀ a e p i₀ acc i = (length acc ≡ length acc₀) × (i < length a + 4) × Added p a e acc₀ i acc
+Inv-loop acc₀ a e p i₀ acc i = (length acc ≡ length acc₀) × (i < length a + 4) × ProductAdded p a e acc₀ i acc
 
 abbrev μ-loop : tie.MeasureT-loop
 μ-loop acc₀ a e p i₀ acc i = length a + 4 - i
@@ -80,9 +80,8 @@ add-rows-requires c κs =
           omega (arith, at-word3 .word3 .ensures, pre .1 .1 (2 + loop .i), pre .0 .4),
           omega (arith, at-word4 .word4 .ensures, pre .1 .1 (3 + loop .i), pre .0 .4),
         ),
-        λ j l. four-same (λ w x y z. row-more (getD (loop .acc) (loop .i + j) 0) (a .e .now) j w x y z < 2 ^ 64) (getD (a .a .now) (loop .i) 0)
-            (getD (a .a .now) (1 + loop .i) 0) (getD (a .a .now) (2 + loop .i) 0) (getD (a .a .now) (3 + loop .i) 0)
-            (sym (at-word .word .ensures)) (sym (at-word2 .word2 .ensures)) (sym (at-word3 .word3 .ensures)) (sym (at-word4 .word4 .ensures))
+        λ j l. to-words (a .a .now) (loop .i) _ _ _ _ (at-word .word .ensures) (at-word2 .word2 .ensures) (at-word3 .word3 .ensures) (at-word4 .word4 .ensures)
+            (λ w x y z. row-more (getD (loop .acc) (loop .i + j) 0) (a .e .now) j w x y z < 2 ^ 64)
             (all-fit (a .p) (getD (a .acc .now) (loop .i + j) 0) _ (loop .i + 4) (pre .0 .4) (pre .1 .0 (loop .i + j)) (omega (arith, pre .0 .2))
             (turn-fits (a .p) (a .a .now) (a .e .now) (a .acc .now) (pre .1 .1) (pre .1 .2) (loop .i) (loop .acc) (inv .2) (loop .i + j) j)),
       ),
@@ -113,8 +112,8 @@ loop-again c =
       omega arith,
       added-more (a .p) (a .a .now) (a .e .now) (a .acc .now) (pre .1 .1) (pre .1 .2) (loop .i) (loop .acc) (inv .2) (rows .last .0) (search needs)
           (omega (arith, inv .0, pre .0 .1)) (omega (arith, inv .0, pre .0 .0)) (pre .1 .3)
-          (four-same (λ w x y z. RowsAdded (loop .acc) (a .e .now) (loop .i) (length (loop .acc) - loop .i) w x y z (rows .last .0)) _ _ _ _
-          (at-word .word .ensures) (at-word2 .word2 .ensures) (at-word3 .word3 .ensures) (at-word4 .word4 .ensures) (rows .ensures)),
+          (of-words (a .a .now) (loop .i) _ _ _ _ (at-word .word .ensures) (at-word2 .word2 .ensures) (at-word3 .word3 .ensures) (at-word4 .word4 .ensures)
+          (λ w x y z. RowsAdded (loop .acc) (a .e .now) (loop .i) (length (loop .acc) - loop .i) w x y z (rows .last .0)) (rows .ensures)),
     )
 
 same-length : tie.Need-same-length Inv-loop μ-loop
