@@ -3,7 +3,7 @@
 use mathlib.Core.Path.{_≡_, sym, _∙_, ap, subst, fun-ext}
 use mathlib.Core.Logic.{_≢_}
 use mathlib.Core.List.{List}
-use Prim.Native.Nat.{ℕ, zero, suc, _-_, _<_}
+use Prim.Native.Nat.{ℕ, zero, suc, _-_, _≤_, _<_}
 use native.Mathlib.Omega.{arith}
 use lib.ListN.{length, getD, set}
 use lib.Seq.{getD-set-same, getD-set-other}
@@ -15,7 +15,7 @@ use Rattle.zmod.specs.Zmod.{Zmod, mk, plus, minus, plus-zero}
 use Rattle.zmod.specs.Prime.{Prime}
 use Rattle.zmod.specs.Residues.{Residue, Reduced, poly, poly-at, poly-past, Residues, residues-poly}
 use Rattle.roots.specs.Rational.{rational-roots}
-use Rattle.roots.specs.Theorems.{roots-modulo}
+use Rattle.roots.specs.Theorems.{roots-modulo, roots-most}
 use Rattle.modulo.specs.Modulo.{Divisor, RemainderOf}
 use Rattle.modulo.specs.Power.{x-to}
 use Rattle.modulo.specs.Euclid.{GcdDegree}
@@ -64,3 +64,11 @@ divisor-copied {p} {g} {a} same h k = (record { reduced = k .reduced; some = ome
 pub counted : {p d n : ℕ} (P : Prime p) (g r : List ℕ) → RemainderOf p d (poly p g) (x-to p p) r
     → GcdDegree (Zmod p) (poly p g) (sums (Zmod p) (poly p r) (negs (Zmod p) (ind (Zmod p)))) n → n ≡ rational-roots p (length g) (poly p g)
 counted {p} {d} {n} P g r h (c, G) = sym (roots-modulo P (length g) (poly p g) (poly-past p g) (poly p r) (h .congruent) n c G)
+
+-- which is at most g's degree
+pub roots-few : {p : ℕ} {g : List ℕ} → Prime p → Divisor p g → rational-roots p (length g) (poly p g) < length g
+roots-few {p} {g} P h =
+    let size : suc (length g - 1) ≡ length g = omega (arith, h .some) in
+    let most : rational-roots p (length g) (poly p g) ≤ length g - 1 = subst (λ n. rational-roots p n (poly p g) ≤ length g - 1) size
+    (roots-most P (length g - 1) (poly p g) (h .monic)) in
+    omega (arith, most, h .some)

@@ -379,7 +379,7 @@ pub fn gcd_degree(a: &mut [u32], b: &mut [u32], m: Modulus) -> usize
 }
 
 // The number of roots of g in ℤ/p: the degree of the greatest common divisor of g and x^p − x. All slices but g are room.
-pub fn count(
+fn count(
     g: &[u32],
     a: &mut [u32],
     r: &mut [u32],
@@ -401,4 +401,113 @@ pub fn count(
     r[1] = field::subtract(r[1], 1, m.p);
     poly::copy(g, a);
     gcd_degree(a, r, m)
+}
+
+// The same, with room of its own, in three sizes.
+fn roots28(g: &[u32], m: Modulus) -> usize
+    requires { ⌜ Prime (m .p) × Prepared m × (Divisor (m .p) (now g)) × (2 ≤ length (now g)) × (length (now g) ≤ 11) ⌝ }
+    ensures { λ k. ⌜ k ≡ rational-roots (m .p) (length (now (g .entry))) (poly (m .p) (now (g .entry))) ⌝ }
+{
+    let k = g.len();
+    let c = k + 6;
+    let i = 2 * k - 1;
+    let mut a = rows::blank28();
+    let mut r = rows::blank28();
+    let mut q = rows::blank28();
+    let mut t = rows::sums28();
+    let mut n = rows::sums28();
+    let mut e = rows::sums28();
+    let mut acc = rows::sums28();
+    let mut room = rows::blank28();
+    count(
+        g,
+        &mut a[..k],
+        &mut r[..k],
+        &mut q[..k],
+        &mut t[..c],
+        &mut n[..c],
+        &mut e[..c],
+        &mut acc[..i],
+        &mut room[..i],
+        m,
+    )
+}
+
+fn roots88(g: &[u32], m: Modulus) -> usize
+    requires { ⌜ Prime (m .p) × Prepared m × (Divisor (m .p) (now g)) × (2 ≤ length (now g)) × (length (now g) ≤ 40) ⌝ }
+    ensures { λ k. ⌜ k ≡ rational-roots (m .p) (length (now (g .entry))) (poly (m .p) (now (g .entry))) ⌝ }
+{
+    let k = g.len();
+    let c = k + 6;
+    let i = 2 * k - 1;
+    let mut a = rows::blank88();
+    let mut r = rows::blank88();
+    let mut q = rows::blank88();
+    let mut t = rows::sums88();
+    let mut n = rows::sums88();
+    let mut e = rows::sums88();
+    let mut acc = rows::sums88();
+    let mut room = rows::blank88();
+    count(
+        g,
+        &mut a[..k],
+        &mut r[..k],
+        &mut q[..k],
+        &mut t[..c],
+        &mut n[..c],
+        &mut e[..c],
+        &mut acc[..i],
+        &mut room[..i],
+        m,
+    )
+}
+
+fn roots264(g: &[u32], m: Modulus) -> usize
+    requires { ⌜ Prime (m .p) × Prepared m × (Divisor (m .p) (now g)) × (2 ≤ length (now g)) × (length (now g) ≤ 128) ⌝ }
+    ensures { λ k. ⌜ k ≡ rational-roots (m .p) (length (now (g .entry))) (poly (m .p) (now (g .entry))) ⌝ }
+{
+    let k = g.len();
+    let c = k + 6;
+    let i = 2 * k - 1;
+    let mut a = rows::blank264();
+    let mut r = rows::blank264();
+    let mut q = rows::blank264();
+    let mut t = rows::sums264();
+    let mut n = rows::sums264();
+    let mut e = rows::sums264();
+    let mut acc = rows::sums264();
+    let mut room = rows::blank264();
+    count(
+        g,
+        &mut a[..k],
+        &mut r[..k],
+        &mut q[..k],
+        &mut t[..c],
+        &mut n[..c],
+        &mut e[..c],
+        &mut acc[..i],
+        &mut room[..i],
+        m,
+    )
+}
+
+fn roots_by_size(g: &[u32], m: Modulus) -> usize
+    requires { ⌜ Prime (m .p) × Prepared m × (Divisor (m .p) (now g)) × (2 ≤ length (now g)) × (length (now g) ≤ 128) ⌝ }
+    ensures { λ k. ⌜ k ≡ rational-roots (m .p) (length (now (g .entry))) (poly (m .p) (now (g .entry))) ⌝ }
+{
+    if g.len() <= 11 {
+        return roots28(g, m);
+    }
+    if g.len() <= 40 {
+        return roots88(g, m);
+    }
+    roots264(g, m)
+}
+
+// The number of roots of g in ℤ/p.
+pub fn roots(g: &[u32], m: Modulus) -> u32
+    requires { ⌜ Prime (m .p) × Prepared m × (Divisor (m .p) (now g)) × (2 ≤ length (now g)) × (length (now g) ≤ 128) ⌝ }
+    ensures { λ k. ⌜ k ≡ rational-roots (m .p) (length (now (g .entry))) (poly (m .p) (now (g .entry))) ⌝ }
+{
+    roots_by_size(g, m) as u32
 }
