@@ -1,8 +1,8 @@
 -- The header of a certificate, word by word, as the writer stores it.
 -- Assumes nothing.
 use mathlib.Core.Path.{_≡_, refl, sym, _∙_, ap, ap₂}
-use mathlib.Core.List.{List, [], _∷_, _++_, map}
-use Prim.Native.Nat.{ℕ, zero, suc, _+_, _*_, _-_, _^_, _<_, _≤_}
+use mathlib.Core.List.{List, [], _∷_, _++_, map, append-assoc}
+use Prim.Native.Nat.{ℕ, zero, suc, _+_, _-_, _^_, _<_, _≤_}
 use native.Mathlib.Omega.{arith}
 use lib.Dec.{eqb, eqb→eq}
 use lib.ListN.{length, getD, set, drop, length-append, length-map}
@@ -75,12 +75,12 @@ g-at d none = place-is Certificate 8 d none ∙ omega arith
 pub n-at : (d none : ℕ) → placeOf Certificate 9 d none ≡ d + 8
 n-at d none = place-is Certificate 9 d none ∙ omega arith
 
-pub end-at : (d none : ℕ) → placeOf Certificate 15 d none ≡ 3 * d + 10
-end-at d none = place-is Certificate 15 d none ∙ omega arith
+pub end-at : (d none : ℕ) → placeOf Certificate 15 d none + 1 ≡ certificateWords d
+end-at d none = omega (arith, place-is Certificate 15 d none)
 
 -- ── the whole certificate
 
-module _ (v : Values) (g n before : List ℕ) (can : Writable v g n (length before)) {o₁ : List ℕ} (header : o₁ ≡ headerWords v ++ drop 7 before) where
+module _ (v : Values) (g n before : List ℕ) (c : ℕ) (can : Writable v g n c (length before)) {o₁ : List ℕ} (header : o₁ ≡ headerWords v ++ drop 7 before) where
   pub first-length : length o₁ ≡ length before
   first-length = front-length before (headerWords v) header (omega arith)
 
@@ -99,21 +99,34 @@ module _ (v : Values) (g n before : List ℕ) (can : Writable v g n (length befo
       front₃ =
           front-paste before (headerWords v ++ map (word 8) g) (map (word 9) n) e₉ (length n) (sym (length-map n (word 9))) (at₉ ∙ sym length₂) front₂ put₉
 
-      length₃ : length (headerWords v ++ map (word 8) g ++ map (word 9) n) ≡ 3 * half v + 10
+      length₃ : length (headerWords v ++ map (word 8) g ++ map (word 9) n) + 2 ≡ certificateWords (half v)
       length₃ =
-          length-append (headerWords v ++ map (word 8) g) (map (word 9) n)
-          ∙ ap₂ _+_ length₂ (length-map n (word 9))
-          ∙ omega arith
+          omega (arith, length-append (headerWords v ++ map (word 8) g) (map (word 9) n), length₂, length-map n (word 9), can .n-words .count)
 
       pub third-length : length o₃ ≡ length before
-      third-length = front-length before (headerWords v ++ map (word 8) g ++ map (word 9) n) front₃ (omega (arith, length₃))
+      third-length = front-length before (headerWords v ++ map (word 8) g ++ map (word 9) n) front₃ (omega (arith, length₃, can .enough))
 
-      pub written : {e w r : ℕ} → e ≡ 3 * half v + 10 → w ≡ word 15 0 → r ≡ e + 1 → Stored v g n before (set o₃ e w) r
-      written {e} {w} {r} at-end is-end count-is = let whole : length (certificate v g n) ≡ r =
-          length-append (headerWords v ++ map (word 8) g ++ map (word 9) n) (word 15 0 ∷ []) ∙ omega (arith, length₃, at-end, count-is) in record {
-            count = omega (arith, at-end, count-is);
-            words =
-                ap (set o₃ e) is-end
-                ∙ front-one before (headerWords v ++ map (word 8) g ++ map (word 9) n) e (word 15 0) (at-end ∙ sym length₃) (omega (arith, at-end)) front₃
-                ∙ ap (λ k. certificate v g n ++ drop k before) whole;
-          }
+      abbrev sections : List ℕ
+      sections = headerWords v ++ map (word 8) g ++ map (word 9) n
+
+      -- the count, and the end
+      module _ (e₁₀ : ℕ) {w₁₀ : ℕ} (at₁₀ : e₁₀ + 2 ≡ certificateWords (half v)) (is-count : w₁₀ ≡ word 10 c) where
+        front₄ : Front before (sections ++ word 10 c ∷ []) (set o₃ e₁₀ w₁₀)
+        front₄ =
+            ap (set o₃ e₁₀) is-count
+            ∙ front-one before sections e₁₀ (word 10 c) (omega (arith, at₁₀, length₃)) (omega (arith, at₁₀, can .enough)) front₃
+
+        length₄ : length (sections ++ word 10 c ∷ []) + 1 ≡ certificateWords (half v)
+        length₄ = omega (arith, length-append sections (word 10 c ∷ []), length₃)
+
+        pub written : (e : ℕ) {w r : ℕ} → e + 1 ≡ certificateWords (half v) → w ≡ word 15 0 → r ≡ e + 1 → Stored v g n c before (set (set o₃ e₁₀ w₁₀) e w) r
+        written e {w} {r} at-end is-end count-is =
+            let both : sections ++ word 10 c ∷ [] ++ word 15 0 ∷ [] ≡ certificate v g n c = append-assoc sections (word 10 c ∷ []) (word 15 0 ∷ []) in
+            let whole : length (sections ++ word 10 c ∷ [] ++ word 15 0 ∷ []) ≡ r =
+            length-append (sections ++ word 10 c ∷ []) (word 15 0 ∷ []) ∙ omega (arith, length₄, at-end, count-is) in record {
+              count = omega (arith, at-end, count-is);
+              words =
+                  ap (set (set o₃ e₁₀ w₁₀) e) is-end
+                  ∙ front-one before (sections ++ word 10 c ∷ []) e (word 15 0) (omega (arith, at-end, length₄)) (omega (arith, at-end, can .enough)) front₄
+                  ∙ ap₂ (λ (a : List ℕ) (k : ℕ). a ++ drop k before) both whole;
+            }

@@ -55,14 +55,16 @@ fn write_section(k: usize, xs: &[u32], from: usize, out: &mut [u32])
 }
 
 // The words of a certificate, to the front of `out`; the rest of it stays. The answer is their count.
-pub fn write(v: Values, g: &[u32], n: &[u32], out: &mut [u32]) -> usize
-    requires { ⌜ Writable v (now g) (now n) (length (now out)) ⌝ }
-    ensures { λ r. ⌜ Stored v (now (g .entry)) (now (n .entry)) (now (out .entry)) (now (out .exit)) r ⌝ }
+pub fn write(v: Values, g: &[u32], n: &[u32], abscissas: u32, out: &mut [u32]) -> usize
+    requires { ⌜ Writable v (now g) (now n) abscissas (length (now out)) ⌝ }
+    ensures { λ r. ⌜ Stored v (now (g .entry)) (now (n .entry)) abscissas (now (out .entry)) (now (out .exit)) r ⌝ }
 {
     let d = g.len() - 1;
     write_header(v, out);
     write_section(8, g, sheet::place(Form::Certificate, 8, d, 0), out);
     write_section(9, n, sheet::place(Form::Certificate, 9, d, 0), out);
+    let at = sheet::place(Form::Certificate, 10, d, 0);
+    out[at] = word_of(10, abscissas);
     let end = sheet::place(Form::Certificate, 15, d, 0);
     out[end] = word_of(15, 0);
     end + 1

@@ -1,4 +1,4 @@
-// The end of every service that writes a certificate: from the values and a g with R1 to N, R3 and the words.
+// The end of every service that writes a certificate: from the values and a g with R1 to N, R3, the count of rational abscissas and the words.
 use barrett::Modulus;
 use promises::Written;
 use sheet::Values;
@@ -17,8 +17,15 @@ ghost use Rattle.promises.specs.Asked.{Room};
 ghost use Rattle.certifying.specs.Certified.{Certified};
 
 // The certificate of a g with R1, where n is its N and `holds` says whether it has R3; else 11.
-pub fn finish(v: Values, g: &[u32], n: &[u32], holds: bool, answer: &mut [u32]) -> Written
-    requires { ⌜ Ready v ⌝ }
+pub fn finish(
+    v: Values,
+    m: Modulus,
+    g: &[u32],
+    n: &[u32],
+    holds: bool,
+    answer: &mut [u32],
+) -> Written
+    requires { ⌜ (Ready v) × Over v m ⌝ }
     requires { ⌜ HoldsG v (now g) × R1 (Zmod (v .p)) (question v) (poly (v .p) (now g)) ⌝ }
     requires { ⌜ HoldsN v (now n) × (poly (v .p) (now n) ≡ N (Zmod (v .p)) (question v) (poly (v .p) (now g))) ⌝ }
     requires { ⌜ (holds ≡ true) ↔ R3 (Zmod (v .p)) (question v) (poly (v .p) (now g)) (poly (v .p) (now n)) ⌝ }
@@ -28,7 +35,8 @@ pub fn finish(v: Values, g: &[u32], n: &[u32], holds: bool, answer: &mut [u32]) 
     if !holds {
         return Written::Refused(11);
     }
-    let words = certificate::write(v, g, n, answer);
+    let abscissas = modulo::roots(g, m);
+    let words = certificate::write(v, g, n, abscissas, answer);
     let count = words as u32;
     Written::Count(count)
 }
@@ -42,7 +50,7 @@ fn certify_in(v: Values, m: Modulus, g: &[u32], n: &mut [u32], answer: &mut [u32
 {
     rules::numerator(v, m, g, n);
     let holds = equation::rule_three(v, m, g, n);
-    finish(v, g, n, holds, answer)
+    finish(v, m, g, n, holds, answer)
 }
 
 // The same, with room of its own.

@@ -4,14 +4,15 @@ use mathlib.Core.Path.{_≡_, sym, _∙_, ap, subst}
 use mathlib.Core.List.{List, _++_, map}
 use Prim.Native.Nat.{ℕ, _+_, _*_}
 use native.Mathlib.Omega.{arith}
-use lib.ListN.{length, take, drop}
+use lib.ListN.{length, getD, take, drop}
 use lib.Seq.{take-at}
 use Rattle.questions.specs.Questions.{AllYes}
 use Rattle.sheet.specs.declared.Form.the-variants.{Certificate}
 use Rattle.sheet.specs.declared.Values.{Values}
 use Rattle.sheet.specs.Word.{valueOf}
 use Rattle.sheet.specs.Form.{certificateWords}
-use Rattle.sheet.specs.Values.{valuesOf, half, gOf, nOf}
+use Rattle.sheet.specs.Place.{placeOf}
+use Rattle.sheet.specs.Values.{valuesOf, half, gOf, nOf, abscissasOf}
 use Rattle.sheet.specs.Asked.{asked}
 use Rattle.sheet.specs.Ready.{Ready, HoldsG, HoldsN}
 use Rattle.sheet.specs.Ready as R
@@ -46,6 +47,10 @@ module _ (ws : List ℕ) (all : AllYes (asked Certificate ws)) (v : Values) (d :
 
     pub n-holds : HoldsN v n
     n-holds = subst (λ v. HoldsN v n) (sym e) (subst (HoldsN (valuesOf Certificate ws)) (sym n-words) (certificate-n ws all))
+
+  -- and so is the count
+  pub abscissas-read : (c : ℕ) → c ≡ valueOf (getD ws (placeOf Certificate 10 d 0) 0) → c ≡ abscissasOf ws
+  abscissas-read c c-is = c-is ∙ ap (λ k. valueOf (getD ws (placeOf Certificate 10 k 0) 0)) d-half
 
 -- at the front of a longer slice
 module _ (ws : List ℕ) (all : AllYes (asked Certificate ws)) (v : Values) (e : v ≡ valuesOf Certificate ws) (part rest : List ℕ) where

@@ -11,13 +11,13 @@ use Rattle.sheet.specs.declared.Values.{Values}
 use Rattle.sheet.specs.declared.Reading.{Reading}
 use Rattle.sheet.specs.declared.Reading.the-variants.{Accepted, Refused}
 use Rattle.sheet.specs.Values.{valuesOf, half, gOf, nOf}
-use Rattle.promises.specs.Asked.{rules-ask, check-asks}
+use Rattle.promises.specs.Asked.{certificate-rules, check-asks}
 
 -- the sheet's coefficients, and the number for 8 to 10
 pub record Coefficients (ws g n : List ℕ) (k : ℕ) : Type 0 where
   pub g-is : g ≡ gOf Certificate ws
   pub n-is : n ≡ nOf Certificate ws
-  pub judged : Judged (rules-ask (valuesOf Certificate ws) (gOf Certificate ws) (nOf Certificate ws)) k
+  pub judged : Judged (certificate-rules ws) k
 
 -- it passes, and the slices begin with its coefficients
 pub record Passes (ws g n : List ℕ) (v : Values) : Type 0 where

@@ -11,7 +11,7 @@ ghost use Prim.Native.Nat.{_+_, _*_};
 ghost use lib.ListN.{length};
 ghost use Rattle.zmod.specs.Zmod.{Zmod};
 ghost use Rattle.zmod.specs.Residues.{poly};
-ghost use Rattle.isogeny.specs.Rules.{N};
+ghost use Rattle.isogeny.specs.Rules.{N, R1};
 ghost use Rattle.questions.specs.Questions.{AllYes};
 ghost use Rattle.questions.specs.Judged.{Judged};
 ghost use Rattle.sheet.specs.declared.Form.the-variants.{Certificate};
@@ -19,6 +19,7 @@ ghost use Rattle.sheet.specs.Values.{valuesOf, half, question};
 ghost use Rattle.sheet.specs.Asked.{asked};
 ghost use Rattle.sheet.specs.Ready.{Ready, HoldsG, HoldsN};
 ghost use Rattle.rules.specs.Over.{Over};
+ghost use Rattle.promises.specs.Abscissas.{rational-abscissas};
 ghost use Rattle.promises.specs.Asked.{rules-ask};
 ghost use Rattle.promises.specs.Answer.{CheckRight};
 ghost use Rattle.checking.specs.Passed.{Coefficients, Passed};
@@ -44,16 +45,29 @@ fn same_numerator(v: Values, m: Modulus, g: &[u32], n: &[u32]) -> bool
     same_numerator_in(v, m, g, n, &mut room[..count])
 }
 
-// The number of the first of questions 8 to 10 that g and N do not pass, or 0, with a modulus that was prepared.
-fn rules_number_over(v: Values, m: Modulus, g: &[u32], n: &[u32]) -> u32
+// Question 9, for a g with R1.
+fn numerator_and_count(v: Values, m: Modulus, g: &[u32], n: &[u32], abscissas: u32) -> bool
+    requires { ⌜ (Ready v) × HoldsG v (now g) × Over v m ⌝ }
+    requires { ⌜ HoldsN v (now n) × R1 (Zmod (v .p)) (question v) (poly (v .p) (now g)) ⌝ }
+    ensures { λ r. ⌜ (r ≡ true) ↔ ((poly (v .p) (now (n .entry)) ≡ N (Zmod (v .p)) (question v) (poly (v .p) (now (g .entry))))
+        × (abscissas ≡ rational-abscissas v (now (g .entry)))) ⌝ }
+{
+    if !same_numerator(v, m, g, n) {
+        return false;
+    }
+    modulo::roots(g, m) == abscissas
+}
+
+// The number of the first of questions 8 to 10 that g, N and the count of rational abscissas do not pass, or 0, with a modulus that was prepared.
+fn rules_number_over(v: Values, m: Modulus, g: &[u32], n: &[u32], abscissas: u32) -> u32
     requires { ⌜ (Ready v) × HoldsG v (now g) × Over v m ⌝ }
     requires { ⌜ HoldsN v (now n) ⌝ }
-    ensures { λ r. ⌜ Judged (rules-ask v (now (g .entry)) (now (n .entry))) r ⌝ }
+    ensures { λ r. ⌜ Judged (rules-ask v (now (g .entry)) (now (n .entry)) abscissas) r ⌝ }
 {
     if !rules::rule_one(v, g) {
         return 8;
     }
-    if !same_numerator(v, m, g, n) {
+    if !numerator_and_count(v, m, g, n, abscissas) {
         return 9;
     }
     if !equation::rule_three(v, m, g, n) {
@@ -63,13 +77,13 @@ fn rules_number_over(v: Values, m: Modulus, g: &[u32], n: &[u32]) -> u32
 }
 
 // The same for the values of any sheet.
-fn rules_number(v: Values, g: &[u32], n: &[u32]) -> u32
+fn rules_number(v: Values, g: &[u32], n: &[u32], abscissas: u32) -> u32
     requires { ⌜ (Ready v) × HoldsG v (now g) ⌝ }
     requires { ⌜ HoldsN v (now n) ⌝ }
-    ensures { λ r. ⌜ Judged (rules-ask v (now (g .entry)) (now (n .entry))) r ⌝ }
+    ensures { λ r. ⌜ Judged (rules-ask v (now (g .entry)) (now (n .entry)) abscissas) r ⌝ }
 {
     let m = barrett::modulus(v.p);
-    rules_number_over(v, m, g, n)
+    rules_number_over(v, m, g, n, abscissas)
 }
 
 // The coefficients on a certificate that passes 2 to 7, to g and n, and the number of the first of questions 8 to 10 that it does not pass, or 0.
@@ -81,7 +95,8 @@ fn judge(v: Values, ws: &[u32], d: usize, g: &mut [u32], n: &mut [u32]) -> u32
 {
     sheet::g_coefficients(Form::Certificate, v.p, ws, d, g);
     sheet::n_coefficients(v.p, ws, d, n);
-    rules_number(v, g, n)
+    let abscissas = sheet::rational_abscissas(ws, d);
+    rules_number(v, g, n, abscissas)
 }
 
 // Questions 2 to 10. The values of a certificate that passes are the answer, and g and n begin with its coefficients.

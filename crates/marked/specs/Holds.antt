@@ -6,6 +6,7 @@ use mathlib.Core.Logic.{inl, inr}
 use mathlib.Core.List.{List, [], _∷_, _++_}
 use Prim.Native.Nat.{ℕ, suc, _+_, _*_, _%_, _^_, _<_, _≤_}
 use native.Mathlib.Omega.{arith}
+use borrow.Author.Tests.{eqb-false}
 use lib.Dec.{T, eqb, eqb→eq, leb, leb→le, ltb, ltb→lt}
 use lib.ListN.{length, getD, drop}
 use Rattle.ring.specs.Test.{both, both-left, both-right}
@@ -14,13 +15,14 @@ use Rattle.zmod.specs.Zmod.{Elt, Zmod, mk, mk-eq}
 use Rattle.zmod.specs.Prime.{prime-pos}
 use Rattle.zmod.specs.Calculation.{primeTest, prime-yes}
 use Rattle.zmod.specs.Residues.{poly, poly-at}
+use Rattle.roots.specs.Computed.{found, roots-computed}
 use Rattle.isogeny.specs.Curve.{Nonsingular}
 use Rattle.isogeny.specs.Rules as Rules
 use Rattle.isogeny.specs.Rules.{N, R1, R3, Meets}
 use Rattle.sheet.specs.declared.Form.the-variants.{Question, Certificate, Kernel}
 use Rattle.sheet.specs.declared.Values.{Values}
 use Rattle.sheet.specs.Form.{certificateWords}
-use Rattle.sheet.specs.Values.{gOf, nOf, valuesOf, half}
+use Rattle.sheet.specs.Values.{gOf, nOf, abscissasOf, valuesOf, half}
 use Rattle.sheet.specs.Asked.{asked}
 use Rattle.certificate.specs.Certificate.{certificate}
 use Rattle.questions.specs.Questions.{Questions, AllYes, FirstNo}
@@ -30,6 +32,7 @@ use Rattle.promises.specs.declared.Point.{Point}
 use Rattle.promises.specs.declared.Point.the-variants as point
 use Rattle.promises.specs.declared.Image.{Image}
 use Rattle.promises.specs.declared.Image.the-variants as image
+use Rattle.promises.specs.Abscissas.{rational-abscissas}
 use Rattle.promises.specs.Asked.{prime, put, g, n, Room, check-asks, push-asks, name-asks, Solvable, last-ask, Passing, Leading, Given}
 use Rattle.promises.specs.Answer.{SolveRight, KernelRight, PushRight, CertificateIn, with}
 use Rattle.marked.specs.Tests.{one, one-of, every, Every, every-yes, same-list, same-list-yes, below, below-yes}
@@ -72,15 +75,23 @@ use Rattle.marked.specs.NoCodomain.{candidate, no-codomain}
 use Rattle.marked.specs.Row.{Row, Claim, Listed, question-words, kernel-words, count, filled}
 use Rattle.marked.specs.Row.Row.{solves, unsolved, pushes, kernel, no-kernel, refused, refused-though, unnamed, parts}
 
--- ── a certificate in the buffer: the values v, g and n of a row against those that are read from the sheet
+-- ── the count of rational abscissas, by trying each u
 
-module _ (read : Values) (g n : List ℕ) (v : Values) (g₀ : List ℕ) where
+abbrev abscissas : Values → List ℕ → ℕ
+abscissas v g = found (v .p) (length g) g (v .p)
+
+abscissas-are : (v : Values) (g : List ℕ) → 0 < v .p → rational-abscissas v g ≡ abscissas v g
+abscissas-are v g pos = roots-computed (v .p) (length g) pos g
+
+-- ── a certificate in the buffer: the values v, g, n and the count c of a row against those that are read from the sheet
+
+module _ (read : Values) (g n : List ℕ) (v : Values) (g₀ : List ℕ) (c : ℕ) where
   abbrev fill-tests : List Bool
   fill-tests =
       meets-test read g n ∷ eqb (length g) (half read + 1) ∷ eqb (length n) (2 * half read + 2) ∷ below (read .p) g ∷ below (read .p) n
-      ∷ eqb (count v) (certificateWords (half read)) ∷ same-list (certificate v g₀ n) (certificate read g n) ∷ []
+      ∷ eqb (count v) (certificateWords (half read)) ∷ same-list (certificate v g₀ n c) (certificate read g n (abscissas read g)) ∷ []
 
-  abbrev fill-by-computing : 0 < read .p → Every fill-tests → (before : List ℕ) → CertificateIn read before (filled v g₀ n before) (count v)
+  abbrev fill-by-computing : 0 < read .p → Every fill-tests → (before : List ℕ) → CertificateIn read before (filled v g₀ n c before) (count v)
   fill-by-computing pos t before = record {
     g = g;
     n = n;
@@ -89,7 +100,9 @@ module _ (read : Values) (g n : List ℕ) (v : Values) (g₀ : List ℕ) where
     meets = meets-by-computing read g n pos (t 0);
     n-is = R2-by-computing read g n pos (both-left (R2-test read g n) (R3-test read g n) (both-right (R1-test read g) _ (t 0)));
     count-is = eqb→eq _ _ (t 5);
-    words = ap (λ l. l ++ drop (count v) before) (same-list-yes (certificate v g₀ n) (certificate read g n) (t 6));
+    words =
+        ap (λ l. l ++ drop (count v) before) (same-list-yes (certificate v g₀ n c) (certificate read g n (abscissas read g)) (t 6))
+        ∙ ap (λ k. certificate read g n k ++ drop (count v) before) (sym (abscissas-are read g pos));
   }
 
 -- ── solve
@@ -101,17 +114,17 @@ module _ (asked-values : Values) where
   abbrev read : Values
   read = valuesOf Question ws
 
-  abbrev solve-test : Values → List ℕ → List ℕ → Bool
-  solve-test v g n = both (asked-test Question ws) (every (fill-tests read g n v g))
+  abbrev solve-test : Values → List ℕ → List ℕ → ℕ → Bool
+  solve-test v g n c = both (asked-test Question ws) (every (fill-tests read g n v g c))
 
-  solve-by-computing : (v : Values) (g n : List ℕ) → T (solve-test v g n) → (before : List ℕ) → Room (length before)
-      → SolveRight ws before (filled v g n before) (written.Count (count v))
-  solve-by-computing v g n t before room =
+  solve-by-computing : (v : Values) (g n : List ℕ) (c : ℕ) → T (solve-test v g n c) → (before : List ℕ) → Room (length before)
+      → SolveRight ws before (filled v g n c before) (written.Count (count v))
+  solve-by-computing v g n c t before room =
       let a : Bool = asked-test Question ws in
       let ta : T (asked-test Question ws) = both-left a _ t in
       let pos : 0 < read .p = prime-pos (prime-by-computing Question ws ta) in
-      let fill : CertificateIn read before (filled v g n before) (count v) = fill-by-computing read g n v g pos
-      (every-yes (fill-tests read g n v g) (both-right a _ t)) before in (
+      let fill : CertificateIn read before (filled v g n c before) (count v) = fill-by-computing read g n v g c pos
+      (every-yes (fill-tests read g n v g c) (both-right a _ t)) before in (
         (
           room,
           all-all (asked Question ws) ((11, Solvable read) ∷ []) (asked-by-computing Question ws ta)
@@ -165,48 +178,65 @@ module _ (ws : List ℕ) where
   positive : T (asked-test Certificate ws) → 0 < v .p
   positive t = prime-pos (prime-by-computing Certificate ws t)
 
-  -- questions 9 and 10, and with 8
+  -- 9, its two halves by tests
+  abbrev Nine : Type 0
+  Nine = (n Certificate ws ≡ N (Zmod (prime Certificate ws)) (put Certificate ws) (g Certificate ws)) × (abscissasOf ws ≡ rational-abscissas v γ)
+
+  abbrev nine-test : Bool
+  nine-test = both (R2-test v γ ν) (eqb (abscissasOf ws) (abscissas v γ))
+
+  nine-by-computing : 0 < v .p → T nine-test → Nine
+  nine-by-computing pos t = (
+    R2-by-computing v γ ν pos (both-left (R2-test v γ ν) _ t),
+    eqb→eq (abscissasOf ws) (abscissas v γ) (both-right (R2-test v γ ν) _ t) ∙ sym (abscissas-are v γ pos),
+  )
+
+  nine-refuted : 0 < v .p → nine-test ≡ false → Nine → ⊥
+  nine-refuted pos e (numerator-is, count-is) = go (R2-test v γ ν) refl e
+    where
+      go : (b : Bool) → R2-test v γ ν ≡ b → both b (eqb (abscissasOf ws) (abscissas v γ)) ≡ false → ⊥
+      go true _ e = eqb-false (abscissasOf ws) (abscissas v γ) e (count-is ∙ abscissas-are v γ pos)
+      go false other _ = R2-refuted v γ ν pos (subst (λ b. T (not b)) (sym other) tt) numerator-is
+
+  -- 9 and 10, and with 8
   abbrev later : Questions
-  later =
-      (9, (n Certificate ws ≡ N (Zmod (prime Certificate ws)) (put Certificate ws) (g Certificate ws)))
-      ∷ (10, R3 (Zmod (prime Certificate ws)) (put Certificate ws) (g Certificate ws) (n Certificate ws))
-      ∷ []
+  later = (9, Nine) ∷ (10, R3 (Zmod (prime Certificate ws)) (put Certificate ws) (g Certificate ws) (n Certificate ws)) ∷ []
 
   abbrev rules : Questions
   rules = (8, R1 (Zmod (prime Certificate ws)) (put Certificate ws) (g Certificate ws)) ∷ later
 
   abbrev pass-tests : List Bool
-  pass-tests = asked-test Certificate ws ∷ R1-test v γ ∷ R2-test v γ ν ∷ R3-test v γ ν ∷ []
+  pass-tests = asked-test Certificate ws ∷ R1-test v γ ∷ nine-test ∷ R3-test v γ ν ∷ []
 
   pass-by-computing : Every pass-tests → AllYes (check-asks ws)
   pass-by-computing t =
       let pos : 0 < v .p = positive (t 0) in
       all-all (asked Certificate ws) rules (asked-by-computing Certificate ws (t 0))
-      (R1-by-computing v γ pos (t 1), (R2-by-computing v γ ν pos (t 2), (R3-by-computing v γ ν pos (t 3), tt)))
+      (R1-by-computing v γ pos (t 1), (nine-by-computing pos (t 2), (R3-by-computing v γ ν pos (t 3), tt)))
 
-  -- 9 where N is not that of R2, and else 10 where R3 does not hold
+  -- 9 where N is not that of R2 or the count is wrong, and else 10 where R3 does not hold
   abbrev rule-test : Bool → ℕ → Bool
   rule-test true k = both (not (R3-test v γ ν)) (eqb k 10)
   rule-test false k = eqb k 9
 
   abbrev refused-tests : ℕ → List Bool
-  refused-tests k = asked-test Certificate ws ∷ R1-test v γ ∷ rule-test (R2-test v γ ν) k ∷ []
+  refused-tests k = asked-test Certificate ws ∷ R1-test v γ ∷ rule-test nine-test k ∷ []
 
   refused-by-computing : (k : ℕ) → Every (refused-tests k) → FirstNo (check-asks ws) k
   refused-by-computing k t =
       no-after (asked Certificate ws) rules k (asked-by-computing Certificate ws (t 0))
-      (inr (R1-by-computing v γ pos (t 1), go (R2-test v γ ν) refl (t 2)))
+      (inr (R1-by-computing v γ pos (t 1), go nine-test refl (t 2)))
     where
       pos : 0 < v .p
       pos = positive (t 0)
 
-      go : (b : Bool) → R2-test v γ ν ≡ b → T (rule-test b k) → FirstNo later k
+      go : (b : Bool) → nine-test ≡ b → T (rule-test b k) → FirstNo later k
       go true e s =
           inr (
-            R2-by-computing v γ ν pos (subst T (sym e) tt),
+            nine-by-computing pos (subst T (sym e) tt),
             inl (eqb→eq k 10 (both-right (not (R3-test v γ ν)) (eqb k 10) s), R3-refuted v γ ν pos (both-left (not (R3-test v γ ν)) (eqb k 10) s)),
           )
-      go false e s = inl (eqb→eq k 9 s, R2-refuted v γ ν pos (subst (λ b. T (not b)) (sym e) tt))
+      go false e s = inl (eqb→eq k 9 s, nine-refuted pos e)
 
   -- and the number of a question before them
   abbrev refused-test : ℕ → Bool
@@ -261,7 +291,7 @@ module _ (ws : List ℕ) where
 
 -- ── kernel
 
-module _ (asked-values : Values) (asked-g : List ℕ) (v : Values) (g₀ n : List ℕ) where
+module _ (asked-values : Values) (asked-g : List ℕ) (v : Values) (g₀ n : List ℕ) (c : ℕ) where
   abbrev sheet : List ℕ
   sheet = kernel-words asked-values asked-g
 
@@ -274,7 +304,7 @@ module _ (asked-values : Values) (asked-g : List ℕ) (v : Values) (g₀ n : Lis
   abbrev codomain-tests : List Bool
   codomain-tests =
       asked-test Kernel sheet ∷ ltb (v .atilde) (completed .p) ∷ ltb (v .btilde) (completed .p) ∷ ltb (v .sigma) (completed .p)
-      ∷ nonsingular-test (completed .p) (v .atilde) (v .btilde) ∷ every (fill-tests completed γ₀ n v g₀) ∷ []
+      ∷ nonsingular-test (completed .p) (v .atilde) (v .btilde) ∷ every (fill-tests completed γ₀ n v g₀ c) ∷ []
 
   -- the sheet's question with any σ: the number on the certificate, and R1's
   abbrev with-sigma : Elt (completed .p) → Rules.Question (Zmod (completed .p))
@@ -288,14 +318,14 @@ module _ (asked-values : Values) (asked-g : List ℕ) (v : Values) (g₀ n : Lis
   }
 
   kernel-by-computing : Every codomain-tests → (before : List ℕ) → Room (length before)
-      → KernelRight sheet before (filled v g₀ n before) (written.Count (count v))
+      → KernelRight sheet before (filled v g₀ n c before) (written.Count (count v))
   kernel-by-computing t before room =
       let p : ℕ = completed .p in
       let pos : 0 < p = prime-pos (prime-by-computing Kernel sheet (t 0)) in
       let curve : Nonsingular (Zmod p) (mk p (v .atilde)) (mk p (v .btilde)) =
       nonsingular-by-computing pos (v .atilde) (v .btilde) (t 4)
       in
-      let fill : Every (fill-tests completed γ₀ n v g₀) = every-yes (fill-tests completed γ₀ n v g₀) (t 5) in
+      let fill : Every (fill-tests completed γ₀ n v g₀ c) = every-yes (fill-tests completed γ₀ n v g₀ c) (t 5) in
       let meets : Meets (Zmod p) (with-sigma (mk p (v .sigma))) (poly p γ₀) = meets-by-computing completed γ₀ n pos (fill 0) in (
         (
           room,
@@ -319,7 +349,7 @@ module _ (asked-values : Values) (asked-g : List ℕ) (v : Values) (g₀ n : Lis
           b̃-below = ltb→lt (v .btilde) p (t 2);
           σ-below = ltb→lt (v .sigma) p (t 3);
           nonsingular = curve;
-          certificate = fill-by-computing completed γ₀ n v g₀ pos fill before;
+          certificate = fill-by-computing completed γ₀ n v g₀ c pos fill before;
           same-g = refl;
         },
       )
@@ -357,8 +387,8 @@ module _ (v : Values) (g₀ : List ℕ) where
 
 -- ── the rows
 
-abbrev though-tests : Values → List ℕ → List ℕ → ℕ → List Bool
-though-tests v g n k = every (refused-tests (certificate v g n) k) ∷ ltb 0 (v .p) ∷ R3-test v g n ∷ []
+abbrev though-tests : Values → List ℕ → List ℕ → ℕ → ℕ → List Bool
+though-tests v g n c k = every (refused-tests (certificate v g n c) k) ∷ ltb 0 (v .p) ∷ R3-test v g n ∷ []
 
 -- a list has 2d + 2 numbers, each below p
 abbrev listed-tests : Values → List ℕ → List Bool
@@ -395,27 +425,27 @@ unnamed-by-computing p a b k t =
     )
 
 abbrev pub test : Row → Bool
-test (solves q v g n) = solve-test q v g n
+test (solves q v g n c) = solve-test q v g n c
 test (unsolved v k) = unsolved-test v k
-test (pushes v g n from to) = every (push-tests (certificate v g n) from to)
-test (kernel q h v g n) = every (codomain-tests q h v g n)
+test (pushes v g n c from to) = every (push-tests (certificate v g n c) from to)
+test (kernel q h v g n c) = every (codomain-tests q h v g n c)
 test (no-kernel v g k) = every (no-kernel-tests v g k)
-test (refused v g n k) = refused-test (certificate v g n) k
-test (refused-though v g n k) = every (though-tests v g n k)
+test (refused v g n c k) = refused-test (certificate v g n c) k
+test (refused-though v g n c k) = every (though-tests v g n c k)
 test (unnamed p a b k) = every (unnamed-tests p a b k)
 test (parts v g l m n) = every (part-tests v g l m n)
 
 pub row-holds : (r : Row) → T (test r) → Claim r
 unfolding Claim
-row-holds (solves q v g n) t = solve-by-computing q v g n t
+row-holds (solves q v g n c) t = solve-by-computing q v g n c t
 row-holds (unsolved v k) t = unsolved-by-computing v k t
-row-holds (pushes v g n from to) t = push-by-computing (certificate v g n) from to (every-yes (push-tests (certificate v g n) from to) t)
-row-holds (kernel q h v g n) t = kernel-by-computing q h v g n (every-yes (codomain-tests q h v g n) t)
+row-holds (pushes v g n c from to) t = push-by-computing (certificate v g n c) from to (every-yes (push-tests (certificate v g n c) from to) t)
+row-holds (kernel q h v g n c) t = kernel-by-computing q h v g n c (every-yes (codomain-tests q h v g n c) t)
 row-holds (no-kernel v g k) t = no-kernel-by-computing v g k (every-yes (no-kernel-tests v g k) t)
-row-holds (refused v g n k) t = refused-holds (certificate v g n) k t
-row-holds (refused-though v g n k) t =
-    let s : Every (though-tests v g n k) = every-yes (though-tests v g n k) t in (
-      refused-by-computing (certificate v g n) k (every-yes (refused-tests (certificate v g n) k) (s 0)),
+row-holds (refused v g n c k) t = refused-holds (certificate v g n c) k t
+row-holds (refused-though v g n c k) t =
+    let s : Every (though-tests v g n c k) = every-yes (though-tests v g n c k) t in (
+      refused-by-computing (certificate v g n c) k (every-yes (refused-tests (certificate v g n c) k) (s 0)),
       R3-by-computing v g n (ltb→lt 0 (v .p) (s 1)) (s 2),
     )
 row-holds (unnamed p a b k) t = unnamed-by-computing p a b k (every-yes (unnamed-tests p a b k) t)

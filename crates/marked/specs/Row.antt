@@ -29,20 +29,20 @@ Q p A B Ã B̃ ℓ σ = record { p = p; a = A; b = B; atilde = Ã; btilde = B̃;
 
 -- Polynomials are lists of coefficients, the constant term first.
 pub data Row : Type 0 where
-  -- solve answers the question of the first values with the certificate of the second, g and N
-  solves : Values → Values → List ℕ → List ℕ → Row
+  -- solve answers the question of the first values with the certificate of the second, g, N and the count of rational abscissas
+  solves : Values → Values → List ℕ → List ℕ → ℕ → Row
   -- solve refuses the question with a number
   unsolved : Values → ℕ → Row
-  -- through the certificate of g and N, a point goes to a point
-  pushes : Values → List ℕ → List ℕ → Point → Image → Row
-  -- kernel answers the sheet of the first p, A, B, ℓ and g with the certificate of the second values, g and N
-  kernel : Values → List ℕ → Values → List ℕ → List ℕ → Row
+  -- through the certificate of g, N and the count, a point goes to a point
+  pushes : Values → List ℕ → List ℕ → ℕ → Point → Image → Row
+  -- kernel answers the sheet of the first p, A, B, ℓ and g with the certificate of the second values, g, N and the count
+  kernel : Values → List ℕ → Values → List ℕ → List ℕ → ℕ → Row
   -- kernel refuses the sheet of p, A, B, ℓ and g with a number; of the values, no others are on the sheet
   no-kernel : Values → List ℕ → ℕ → Row
-  -- check refuses the certificate of g and N with a number
-  refused : Values → List ℕ → List ℕ → ℕ → Row
+  -- check refuses the certificate of g, N and the count with a number
+  refused : Values → List ℕ → List ℕ → ℕ → ℕ → Row
   -- the same, though R3 holds
-  refused-though : Values → List ℕ → List ℕ → ℕ → Row
+  refused-though : Values → List ℕ → List ℕ → ℕ → ℕ → Row
   -- name refuses p, A and B with a number
   unnamed : ℕ → ℕ → ℕ → ℕ → Row
   -- R2's N for g has these three parts, in the order of source document 001's formula (13)
@@ -61,8 +61,8 @@ kernel-words v g = word 1 (v .p) ∷ word 2 (v .a) ∷ word 3 (v .b) ∷ word 6 
 abbrev pub count : Values → ℕ
 count v = certificateWords (half v)
 
-abbrev pub filled : Values → List ℕ → List ℕ → List ℕ → List ℕ
-filled v g n before = certificate v g n ++ drop (count v) before
+abbrev pub filled : Values → List ℕ → List ℕ → ℕ → List ℕ → List ℕ
+filled v g n c before = certificate v g n c ++ drop (count v) before
 
 -- ── what a row says, for every buffer that is large enough where one is lent
 
@@ -71,16 +71,16 @@ abbrev pub Listed : (v : Values) → Seq (Zmod (v .p)) → List ℕ → Type 0
 Listed v a xs = (length xs ≡ 2 * half v + 2) × Whole (v .p) a xs
 
 unfoldable pub Claim : Row → Type 0
-Claim (solves q v g n) =
-    (before : List ℕ) → Room (length before) → SolveRight (question-words q) before (filled v g n before) (written.Count (count v))
+Claim (solves q v g n c) =
+    (before : List ℕ) → Room (length before) → SolveRight (question-words q) before (filled v g n c before) (written.Count (count v))
 Claim (unsolved v k) = (before : List ℕ) → Room (length before) → SolveRight (question-words v) before before (written.Refused k)
-Claim (pushes v g n from to) = PushRight (certificate v g n) from to
-Claim (kernel q h v g n) =
-    (before : List ℕ) → Room (length before) → KernelRight (kernel-words q h) before (filled v g n before) (written.Count (count v))
+Claim (pushes v g n c from to) = PushRight (certificate v g n c) from to
+Claim (kernel q h v g n c) =
+    (before : List ℕ) → Room (length before) → KernelRight (kernel-words q h) before (filled v g n c before) (written.Count (count v))
 Claim (no-kernel v g k) = (before : List ℕ) → Room (length before) → KernelRight (kernel-words v g) before before (written.Refused k)
-Claim (refused v g n k) = CheckRight (certificate v g n) (verdict.Refused k)
-Claim (refused-though v g n k) =
-    CheckRight (certificate v g n) (verdict.Refused k) × R3 (Zmod (v .p)) (question v) (poly (v .p) g) (poly (v .p) n)
+Claim (refused v g n c k) = CheckRight (certificate v g n c) (verdict.Refused k)
+Claim (refused-though v g n c k) =
+    CheckRight (certificate v g n c) (verdict.Refused k) × R3 (Zmod (v .p)) (question v) (poly (v .p) g) (poly (v .p) n)
 Claim (unnamed p a b k) = NameRight p a b (named.Refused k)
 Claim (parts v g l m n) =
     Listed v (linear-part (Zmod (v .p)) (question v) (poly (v .p) g)) l

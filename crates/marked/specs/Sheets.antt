@@ -1,14 +1,15 @@
 -- Questions 2 to 7 put to a sheet of any form, by computing: all are answered with yes, or the first no is 5 or 6 because of
 -- a value, or 7 because of the domain.
 -- Assumes nothing.
-use mathlib.Core.Path.{_≡_, sym, _∙_, ap, subst}
-use mathlib.Core.Bool.{Bool, true, cond, not}
+use mathlib.Core.Path.{_≡_, refl, sym, _∙_, ap, subst}
+use mathlib.Core.Bool.{Bool, true, false, cond, not}
 use mathlib.Core.List.{List, [], _∷_, map}
 use Prim.Native.Nat.{ℕ, zero, suc, _+_, _*_, _-_, _%_, _^_, _<_, _≤_}
 use native.Mathlib.Omega.{arith}
+use borrow.Author.Tests.{ltb-true, lt-ltb}
 use lib.Dec.{T, eqb, eqb→eq, leb, leb→le, ltb, ltb→lt}
-use lib.ListN.{length, getD, take, drop, length-map, length-take, length-drop}
-use lib.Seq.{getD-take, getD-drop}
+use lib.ListN.{length, getD, take, drop, length-map, length-drop, List·getD-map}
+use lib.Seq.{getD-drop}
 use Rattle.ring.specs.Test.{both, both-left, both-right}
 use Rattle.zmod.specs.Prime.{Prime, prime-pos}
 use Rattle.zmod.specs.Calculation.{primeTest, prime-yes}
@@ -17,7 +18,7 @@ use Rattle.sheet.specs.Word.{kindOf, valueOf}
 use Rattle.sheet.specs.declared.Values.{Values}
 use Rattle.sheet.specs.Form.{header, body, holds}
 use Rattle.sheet.specs.Values.{valuesOf, half, coefficientIn}
-use Rattle.sheet.specs.Reduction.{coefficient-at}
+use Rattle.sheet.specs.Reduction.{value-zero}
 use Rattle.questions.specs.Questions.{AllYes, FirstNo}
 use Rattle.questions.specs.Numbered.{first-no}
 use Rattle.sheet.specs.Asked.{asked, Asked2, PrimeAllowed, DegreeAllowed, ValuesBelow, Asked6, Curves}
@@ -53,9 +54,12 @@ module _ (form : Form) (ws : List ℕ) where
   abbrev rest : List ℕ
   rest = drop h ws
 
-  -- what is read of some words after the header
-  abbrev read : List ℕ → List ℕ
-  read us = map (coefficientIn form p) us
+  -- what is read of the words after the header; the count and the end are no coefficients
+  abbrev read-word : ℕ → ℕ
+  read-word w = cond (ltb (kindOf w) 10) (coefficientIn form p w) 0
+
+  abbrev read : List ℕ
+  read = map read-word rest
 
   abbrev values : List ℕ
   values = v .a ∷ v .b ∷ v .atilde ∷ v .btilde ∷ v .sigma ∷ []
@@ -71,7 +75,7 @@ module _ (form : Form) (ws : List ℕ) where
   abbrev second-tests : List Bool
   second-tests =
       below p values
-      ∷ same-list (map kindOf rest) (body form (half v)) ∷ below p (read rest) ∷ eqb (valueOf (getD ws (length ws - 1) 0)) 0 ∷ []
+      ∷ same-list (map kindOf rest) (body form (half v)) ∷ below p read ∷ eqb (valueOf (getD ws (length ws - 1) 0)) 0 ∷ []
 
   -- and 7
   abbrev tests : List Bool
@@ -120,11 +124,16 @@ module _ (form : Form) (ws : List ℕ) where
       let small : (i : ℕ) → getD values i 0 < p = below-yes p pos values t in
       record { a = small 0; b = small 1; atilde = small 2; btilde = small 3; sigma = small 4 }
 
-  below-at : 0 < p → T (below p (read rest)) → (i : ℕ) → h ≤ i → coefficientIn form p (getD ws i 0) < p
-  below-at pos t i l =
-      let e : getD (read rest) (i - h) 0 ≡ coefficientIn form p (getD ws i 0) =
-      coefficient-at form p rest (i - h) ∙ ap (coefficientIn form p) (getD-drop h ws (i - h) 0 ∙ ap (λ k. getD ws k 0) (omega arith)) in
-      subst (λ x. x < p) e (below-yes p pos (read rest) t (i - h))
+  read-at : (i : ℕ) → getD read i 0 ≡ read-word (getD ws (h + i) 0)
+  read-at i =
+      ap (λ z. getD read i z) (sym (value-zero form p)) ∙ List·getD-map read-word rest i 0 ∙ ap read-word (getD-drop h ws i 0)
+
+  below-at : 0 < p → T (below p read) → (i : ℕ) → h ≤ i → kindOf (getD ws i 0) < 10 → coefficientIn form p (getD ws i 0) < p
+  below-at pos t i l few =
+      let e : getD read (i - h) 0 ≡ coefficientIn form p (getD ws i 0) =
+      read-at (i - h) ∙ ap (λ k. read-word (getD ws k 0)) (omega arith)
+      ∙ ap (λ b. cond b (coefficientIn form p (getD ws i 0)) 0) (lt-ltb (kindOf (getD ws i 0)) 10 few) in
+      subst (λ x. x < p) e (below-yes p pos read t (i - h))
 
   six-yes : 0 < p → Every second-tests → Asked6 form ws
   six-yes pos s = record { kinds = same-list-yes _ _ (s 1); below = λ i l m. below-at pos (s 2) i l; end = eqb→eq _ _ (s 3) }
@@ -153,23 +162,20 @@ module _ (form : Form) (ws : List ℕ) where
       at b (suc (suc (suc (suc zero)))) = b .sigma
       at b (suc (suc (suc (suc (suc i))))) = positive (t 0)
 
-  -- the words before the end
-  abbrev inner : List ℕ
-  inner = take (length rest - 1) rest
-
   abbrev sixth-tests : List Bool
-  sixth-tests = every first-tests ∷ below p values ∷ not (below p (read inner)) ∷ []
+  sixth-tests = every first-tests ∷ below p values ∷ not (below p read) ∷ []
 
   sixth-by-computing : Every sixth-tests → FirstNo (asked form ws) 6
   sixth-by-computing t =
-      first-no (asked form ws) 6 tt (two (t 0), (three (t 0), (four (t 0), (five-yes (positive (t 0)) (t 1), tt)))) (λ a.
-      below-no p (read inner) (t 2) (λ i l. at a i (omega (arith, l, length-map inner (coefficientIn form p), length-take (length rest - 1) rest))))
+      let pos : 0 < p = positive (t 0) in
+      first-no (asked form ws) 6 tt (two (t 0), (three (t 0), (four (t 0), (five-yes pos (t 1), tt)))) (λ a.
+      below-no p read (t 2) (λ i l. subst (λ x. x < p) (sym (read-at i))
+      (at a (h + i) (omega arith) (omega (arith, l, length-map rest read-word, length-drop h ws)) (ltb (kindOf (getD ws (h + i) 0)) 10) refl)))
     where
-      at : Asked6 form ws → (i : ℕ) → i < length rest - 1 → getD (read inner) i 0 < p
-      at a i l =
-          let e : getD (read inner) i 0 ≡ coefficientIn form p (getD ws (h + i) 0) =
-          coefficient-at form p inner i ∙ ap (coefficientIn form p) (getD-take (length rest - 1) rest i 0 l ∙ getD-drop h ws i 0) in
-          subst (λ x. x < p) (sym e) (a .below (h + i) (omega arith) (omega (arith, length-drop h ws)))
+      at : Asked6 form ws → (i : ℕ) → h ≤ i → i < length ws → (b : Bool) → ltb (kindOf (getD ws i 0)) 10 ≡ b
+          → cond b (coefficientIn form p (getD ws i 0)) 0 < p
+      at a i l m true e = a .below i l m (ltb-true (kindOf (getD ws i 0)) 10 e)
+      at a i l m false e = positive (t 0)
 
   -- ── refused with 7: the domain is no curve
 

@@ -1,4 +1,4 @@
--- Document 01's marked sheets (◆ there) as one table, with one neighbour that is not marked there and document 02's cases of E2 and E5, and the one theorem
+-- Document 01's marked sheets (◆ there) as one table, with one neighbour that is not marked there and document 02's cases of E2, E5 and E6, and the one theorem
 -- that covers it: every row holds, from the rules, by computing.
 -- Assumes nothing.
 use mathlib.Core.Bool.{Bool, true}
@@ -53,35 +53,42 @@ x³+4 = 4 ∷ 0 ∷ 0 ∷ 1 ∷ []
 
 unfoldable pub rows : List Row
 rows =
-    solves first first first-g first-n
+    solves first first first-g first-n 1
     -- another σ, then another B̃: 11 each
     ∷ unsolved (Q 1009 1 3 265 877 3 48) 11
     ∷ unsolved (Q 1009 1 3 265 878 3 46) 11
-    ∷ solves ninth ninth ninth-g (numerator ninth ninth-g)
+    ∷ solves ninth ninth ninth-g (numerator ninth ninth-g) 1
     -- a point through the first certificate
-    ∷ pushes first first-g first-n (point.Affine 1008 1) (image.Affine 617 44)
-    ∷ solves eleven eleven x x³+4
+    ∷ pushes first first-g first-n 1 (point.Affine 1008 1) (image.Affine 617 44)
+    ∷ solves eleven eleven x x³+4 1
     -- two points through the last certificate, the second where g is 0
-    ∷ pushes eleven x x³+4 (point.Affine 2 3) (image.Affine 3 0)
-    ∷ pushes eleven x x³+4 (point.Affine 0 1) image.Infinity
+    ∷ pushes eleven x x³+4 1 (point.Affine 2 3) (image.Affine 3 0)
+    ∷ pushes eleven x x³+4 1 (point.Affine 0 1) image.Infinity
     -- the kernel sheet of g = x over 11 gets the codomain (0, 6)
-    ∷ kernel eleven x eleven x x³+4
+    ∷ kernel eleven x eleven x x³+4 1
     -- beside it, not marked there: the same with g = x − 1 gets 11; Ã, B̃ and σ are not on a kernel sheet
     ∷ no-kernel (Q 11 0 1 0 0 3 0) (10 ∷ 1 ∷ []) 11
     -- g = x − 1 with an N that meets R3 and not R2
-    ∷ refused-though (Q 11 0 1 0 1 3 2) (10 ∷ 1 ∷ []) (0 ∷ 1 ∷ 9 ∷ 1 ∷ []) 9
+    ∷ refused-though (Q 11 0 1 0 1 3 2) (10 ∷ 1 ∷ []) (0 ∷ 1 ∷ 9 ∷ 1 ∷ []) 1 9
     -- g = x with R2's N, to a wrong codomain
-    ∷ refused (Q 11 0 1 0 7 3 0) x x³+4 10
+    ∷ refused (Q 11 0 1 0 7 3 0) x x³+4 1 10
     -- document 02, E2: A = p is read as A = 0; all values are taken modulo p, A = 2^28 − 1 among them; 7 is asked of what they become
-    ∷ solves (Q 11 11 1 0 6 3 0) eleven x x³+4
-    ∷ solves (Q 29 268435455 30 29 31 3 58) (Q 29 0 1 0 2 3 0) x x³+4
+    ∷ solves (Q 11 11 1 0 6 3 0) eleven x x³+4 1
+    ∷ solves (Q 29 268435455 30 29 31 3 58) (Q 29 0 1 0 2 3 0) x x³+4 1
     ∷ unsolved (Q 11 11 22 0 6 3 0) 7
     -- every value of a kernel sheet, a leading coefficient p + 1 among them
-    ∷ kernel (Q 11 11 12 0 0 3 0) (268435453 ∷ 12 ∷ []) eleven x x³+4
+    ∷ kernel (Q 11 11 12 0 0 3 0) (268435453 ∷ 12 ∷ []) eleven x x³+4 1
     -- a certificate needs values below p, in the header and after it, and so does name
-    ∷ refused (Q 11 11 1 0 6 3 0) x x³+4 5
-    ∷ refused eleven (11 ∷ 1 ∷ []) x³+4 6
+    ∷ refused (Q 11 11 1 0 6 3 0) x x³+4 1 5
+    ∷ refused eleven (11 ∷ 1 ∷ []) x³+4 1 6
     ∷ unnamed 11 11 1 5
+    -- E6: a count that is wrong by one, by p, or by all that a word can hold; 9 also where R3 fails beside it
+    ∷ refused first first-g first-n 0 9
+    ∷ refused first first-g first-n 2 9
+    ∷ refused first first-g first-n 1010 9
+    ∷ refused ninth ninth-g (numerator ninth ninth-g) 4 9
+    ∷ refused eleven x x³+4 268435455 9
+    ∷ refused (Q 11 0 1 0 7 3 0) x x³+4 0 9
     -- E5: the parts of the first one's N
     ∷ parts first first-g part₁ part₂ part₃
     ∷ []

@@ -16,6 +16,7 @@ use Rattle.sheet.specs.Form.{certificateWords}
 use Rattle.sheet.specs.Values.{valuesOf, half, question, gOf, nOf}
 use Rattle.sheet.specs.Ready.{HoldsG, HoldsN}
 use Rattle.certificate.specs.Certificate.{certificate}
+use Rattle.promises.specs.Abscissas.{rational-abscissas}
 use Rattle.promises.specs.declared.Verdict.{Verdict}
 use Rattle.promises.specs.declared.Written.{Written}
 use Rattle.promises.specs.declared.Point.{Point}
@@ -30,7 +31,8 @@ use Rattle.promises.specs.Asked.{check-asks, solve-asks, kernel-asks, pu
 abbrev pub CheckRight : List ℕ → Verdict → Type 0
 CheckRight ws r = Answers (check-asks ws) (λ _. Unit {0}) (verdictOutcome r)
 
--- ── a certificate in the answer buffer: the words of a g that meets the rules for the values v, with R2's N, and behind them what stood there before
+-- ── a certificate in the answer buffer: the words of a g that meets the rules for the values v, with R2's N and the count of rational abscissas, and behind
+-- them what stood there before
 
 pub record CertificateIn (v : Values) (before after : List ℕ) (count : ℕ) : Type 0 where
   pub g : List ℕ
@@ -40,7 +42,7 @@ pub record CertificateIn (v : Values) (before after : List ℕ) (count : ℕ) : 
   pub meets : Meets (Zmod (v .p)) (question v) (poly (v .p) g)
   pub n-is : poly (v .p) n ≡ N (Zmod (v .p)) (question v) (poly (v .p) g)
   pub count-is : count ≡ certificateWords (half v)
-  pub words : after ≡ certificate v g n ++ drop count before
+  pub words : after ≡ certificate v g n (rational-abscissas v g) ++ drop count before
 
 -- ── solve: the certificate for the question's values
 

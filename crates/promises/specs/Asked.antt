@@ -16,8 +16,9 @@ use Rattle.sheet.specs.declared.Form.{Form}
 use Rattle.sheet.specs.declared.Form.the-variants.{Question, Certificate, Kernel}
 use Rattle.sheet.specs.declared.Values.{Values}
 use Rattle.sheet.specs.Form.{mostWords}
-use Rattle.sheet.specs.Values.{valuesOf, half, question, gOf, nOf}
+use Rattle.sheet.specs.Values.{valuesOf, half, question, gOf, nOf, abscissasOf}
 use Rattle.sheet.specs.Asked.{PrimeAllowed, asked}
+use Rattle.promises.specs.Abscissas.{rational-abscissas}
 use Rattle.promises.specs.declared.Point.{Point}
 use Rattle.promises.specs.declared.Point.the-variants.{Affine, Infinity}
 
@@ -25,17 +26,20 @@ use Rattle.promises.specs.declared.Point.the-variants.{Affine, Infinity}
 abbrev pub Room : ℕ → Type 0
 Room room = mostWords ≤ room
 
--- 8, 9 and 10 of a certificate: g meets R1, N is that of R2, R3 holds
-abbrev pub rules-ask : Values → List ℕ → List ℕ → Questions
-rules-ask v g n =
+-- 8, 9 and 10 of a certificate: g meets R1, N is that of R2 and c the count of rational abscissas, R3 holds
+abbrev pub rules-ask : Values → List ℕ → List ℕ → ℕ → Questions
+rules-ask v g n c =
     (8, R1 (Zmod (v .p)) (question v) (poly (v .p) g))
-    ∷ (9, (poly (v .p) n ≡ N (Zmod (v .p)) (question v) (poly (v .p) g)))
+    ∷ (9, ((poly (v .p) n ≡ N (Zmod (v .p)) (question v) (poly (v .p) g)) × (c ≡ rational-abscissas v g)))
     ∷ (10, R3 (Zmod (v .p)) (question v) (poly (v .p) g) (poly (v .p) n))
     ∷ []
 
 -- check: 2 to 10
+abbrev pub certificate-rules : List ℕ → Questions
+certificate-rules ws = rules-ask (valuesOf Certificate ws) (gOf Certificate ws) (nOf Certificate ws) (abscissasOf ws)
+
 abbrev pub check-asks : List ℕ → Questions
-check-asks ws = asked Certificate ws ++ rules-ask (valuesOf Certificate ws) (gOf Certificate ws) (nOf Certificate ws)
+check-asks ws = asked Certificate ws ++ certificate-rules ws
 
 -- 11 of a question: some g meets the rules
 pub record Solvable (v : Values) : Type 0 where

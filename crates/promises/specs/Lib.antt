@@ -1,4 +1,5 @@
 pub mod Outcome
+pub mod Abscissas
 pub mod Asked
 pub mod Answer
 pub mod Numerators

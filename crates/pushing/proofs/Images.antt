@@ -35,7 +35,7 @@ use Rattle.promises.specs.declared.Point.{Point}
 use Rattle.promises.specs.declared.Point.the-variants as point
 use Rattle.promises.specs.declared.Image.{Image}
 use Rattle.promises.specs.declared.Image.the-variants as image
-use Rattle.promises.specs.Asked.{rules-ask, check-asks, push-asks, OnDomain, Given}
+use Rattle.promises.specs.Asked.{certificate-rules, check-asks, push-asks, OnDomain, Given}
 use Rattle.promises.specs.Answer.{ToPoint, PushRight}
 use Rattle.pushing.specs.Pushed.{slopeOf, Pushed}
 use Rattle.pushing.proofs.Elements.{not-zero, same, quotient-square, quotient-cube}
@@ -159,11 +159,11 @@ module _ (ws : List ℕ) (v : Values) (e : v ≡ valuesOf Certificate ws) where
   pub ready-of : AllYes (check-asks ws) → Ready v
   ready-of all =
       subst Ready (sym e)
-      (ready Certificate ws (all-front (asked Certificate ws) (rules-ask (valuesOf Certificate ws) (gOf Certificate ws) (nOf Certificate ws)) all))
+      (ready Certificate ws (all-front (asked Certificate ws) (certificate-rules ws) all))
 
   module _ (all : AllYes (check-asks ws)) (g n : List ℕ) (g-is : g ≡ gOf Certificate ws) (n-is : n ≡ nOf Certificate ws) where
     accepted : AllYes (asked Certificate ws)
-    accepted = all-front (asked Certificate ws) (rules-ask (valuesOf Certificate ws) (gOf Certificate ws) (nOf Certificate ws)) all
+    accepted = all-front (asked Certificate ws) (certificate-rules ws) all
 
     pub g-holds : HoldsG v g
     g-holds = subst (λ v. HoldsG v g) (sym e) (subst (HoldsG (valuesOf Certificate ws)) (sym g-is) (certificate-g ws accepted))

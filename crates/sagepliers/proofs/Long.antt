@@ -12,7 +12,7 @@ use Rattle.sheet.specs.LongSheet.{front-yes, front-no, front-all}
 use Rattle.sheet.specs.declared.Form.{Form}
 use Rattle.sheet.specs.declared.Form.the-variants.{Question, Certificate, Kernel}
 use Rattle.sheet.specs.Form.{mostWords}
-use Rattle.sheet.specs.Values.{valuesOf, gOf, nOf}
+use Rattle.sheet.specs.Values.{valuesOf, gOf}
 use Rattle.sheet.specs.Asked.{asked}
 use Rattle.questions.specs.Questions.{Questions, AllYes, FirstNo}
 use Rattle.questions.specs.Joined.{no-before, no-split, all-front}
@@ -23,7 +23,7 @@ use Rattle.promises.specs.declared.Written.the-variants as written
 use Rattle.promises.specs.declared.Point.{Point}
 use Rattle.promises.specs.declared.Image.{Image}
 use Rattle.promises.specs.declared.Image.the-variants as image
-use Rattle.promises.specs.Asked.{Solvable, last-ask, Given, rules-ask, check-asks}
+use Rattle.promises.specs.Asked.{Solvable, last-ask, Given, certificate-rules, check-asks}
 use Rattle.promises.specs.Answer.{CheckRight, SolveRight, KernelRight, PushRight}
 
 -- the count of words that are kept: one more than the largest certificate has
@@ -32,7 +32,7 @@ kept = mostWords + 1
 
 -- the questions after those of the form
 abbrev certified : List ℕ → Questions
-certified us = rules-ask (valuesOf Certificate us) (gOf Certificate us) (nOf Certificate us)
+certified us = certificate-rules us
 
 abbrev pushed : Point → List ℕ → Questions
 pushed at us = certified us ++ (12, Given (valuesOf Certificate us) at) ∷ []

@@ -21,7 +21,7 @@ use Rattle.sheet.specs.declared.Form.the-variants.{Question, Certificate, Kerne
 use Rattle.sheet.specs.declared.Values.{Values}
 use Rattle.sheet.specs.Word.{kindOf, valueOf, word}
 use Rattle.sheet.specs.Form.{kindsOf, valueIn}
-use Rattle.sheet.specs.Values.{valuesOf, half, question, coefficientIn, gOf, nOf}
+use Rattle.sheet.specs.Values.{valuesOf, half, question, coefficientIn, gOf, nOf, abscissasOf}
 use Rattle.sheet.specs.Asked.{Asked2, Asked6, ValuesBelow, Curves, asked}
 use Rattle.sheet.specs.Fields.{same}
 use Rattle.sheet.specs.Reduction.{kernel-modulo, value-below, value-reduced, coefficients-below, five-always}
@@ -29,7 +29,7 @@ use Rattle.sheet.specs.Ready.{Ready, ready}
 use Rattle.sheet.specs.Leaf.{Sections}
 use Rattle.sheet.specs.Body.{last, Words6, asked6-words, words-asked6, kernel-words, certificate-words}
 use Rattle.sheet.specs.Accepted.{certificate-length, certificate-g, certificate-n}
-use Rattle.certificate.specs.Certificate.{certificate}
+use Rattle.certificate.specs.Certificate.{certificate, headerWords}
 use Rattle.promises.specs.declared.Written.{Written}
 use Rattle.promises.specs.declared.Written.the-variants as written
 use Rattle.promises.specs.Asked.{Room, Solvable, Passing, last-ask, check-asks}
@@ -38,6 +38,7 @@ use Rattle.services.specs.Solve.{solve-unique}
 use Rattle.services.specs.Kernel.{kernel-unique}
 use Rattle.services.specs.Push.{check-asked}
 use Rattle.services.specs.Source.{certificate-N, certificate-meets}
+use Rattle.services.specs.Abscissas.{certificate-abscissas}
 use Rattle.services.specs.Words.{certificate-back, g-section}
 
 -- the question sheet of a certificate: its first seven words, and the end
@@ -47,6 +48,11 @@ questionOf ws = take 7 ws ++ word 15 0 ∷ []
 -- the kernel sheet of a certificate: p, A, B, ℓ, the coefficients of g, and the end
 abbrev pub kernelOf : List ℕ → List ℕ
 kernelOf ws = take 3 ws ++ take 1 (drop 5 ws) ++ take (half (valuesOf Certificate ws) + 1) (drop 7 ws) ++ word 15 0 ∷ []
+
+-- its word behind the first seven is no coefficient
+end-only : (hs : List ℕ) (i : ℕ) → length hs ≡ 7 → 7 ≤ i → i < length (hs ++ word 15 0 ∷ []) → kindOf (getD (hs ++ word 15 0 ∷ []) i 0) < 10 → ⊥
+end-only hs i seven l m few =
+    omega (arith, ap kindOf (getD-at hs (word 15 0) [] 0 i (omega (arith, length-append hs (word 15 0 ∷ [])))), few)
 
 -- ── solve, on a sheet that puts the same values
 
@@ -63,11 +69,11 @@ module _ (ws : List ℕ) (passes : AllYes (check-asks ws)) where
   curves : Curves Certificate v
   curves = yes-to (asked Certificate ws) 7 accepted
 
-  back : ws ≡ certificate v (gOf Certificate ws) (nOf Certificate ws)
+  back : ws ≡ certificate v (gOf Certificate ws) (nOf Certificate ws) (abscissasOf ws)
   back = certificate-back ws accepted
 
   -- what holds of the certificate with these values, g and N holds of these words
-  at-words : (P : List ℕ → Type 0) → P (certificate v (gOf Certificate ws) (nOf Certificate ws)) → P ws
+  at-words : (P : List ℕ → Type 0) → P (certificate v (gOf Certificate ws) (nOf Certificate ws) (abscissasOf ws)) → P ws
   at-words P = subst P (sym back)
 
   -- the buffer, with the certificate in it
@@ -80,7 +86,9 @@ module _ (ws : List ℕ) (passes : AllYes (check-asks ws)) where
     meets = certificate-meets ws passes;
     n-is = certificate-N ws passes;
     count-is = certificate-length ws accepted;
-    words = ap (λ (us : List ℕ). us ++ drop (length ws) before) back;
+    words =
+        ap (λ (us : List ℕ). us ++ drop (length ws) before) back
+        ∙ ap (λ c. certificate v (gOf Certificate ws) (nOf Certificate ws) c ++ drop (length ws) before) (certificate-abscissas ws passes);
   }
 
   -- ── solve
@@ -98,7 +106,9 @@ module _ (ws : List ℕ) (passes : AllYes (check-asks ws)) where
   question-headed = at-words (λ us. Asked2 Certificate us → Asked2 Question (questionOf us)) (λ h. h) (yes-to (asked Certificate ws) 2 accepted)
 
   question-exact : Asked6 Question (questionOf ws)
-  question-exact = at-words (λ us. Asked6 Question (questionOf us)) (record { kinds = refl; below = λ i l m. absurd (omega arith); end = refl })
+  question-exact =
+      at-words (λ us. Asked6 Question (questionOf us))
+      (record { kinds = refl; below = λ i l m few. absurd (end-only (headerWords v) i refl l m few); end = refl })
 
   question-asked : AllYes (asked Question (questionOf ws))
   question-asked =
@@ -221,7 +231,7 @@ module _ (ws : List ℕ) (passes : AllYes (check-asks ws)) where
             let both = words .sections (i + 3) (omega arith) (omega (arith, kernel-last, certificate-words d)) in
             let eight = g-section Certificate d _ refl (i + 3) (omega arith) (omega (arith, kernel-last)) in (
               ap kindOf e ∙ both .0 ∙ eight ∙ sym (kernel-kind i l (omega (arith, kernel-last))),
-              value-reduced Kernel kernel-modulo kernel-positive (valueOf (getD us i 0)),
+              λ _. value-reduced Kernel kernel-modulo kernel-positive (valueOf (getD us i 0)),
             );
       })
 

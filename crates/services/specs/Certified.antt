@@ -1,25 +1,26 @@
 -- What stands in the answer buffer is a certificate, its words pass check; and for the same values there is one.
 -- Assumes nothing.
-use mathlib.Core.Path.{_≡_, sym, _∙_, ap, ap₂, subst}
+use mathlib.Core.Path.{_≡_, refl, sym, _∙_, ap, ap₂, subst}
 use mathlib.Core.List.{List, _++_}
-use Prim.Native.Nat.{ℕ, _*_, _-_, _<_}
+use Prim.Native.Nat.{ℕ, _^_, _<_}
 use native.Mathlib.Omega.{arith}
-use lib.ListN.{length, take, drop}
+use lib.ListN.{take, drop}
 use lib.Seq.{take-at}
 use Rattle.zmod.specs.Zmod.{Zmod}
 use Rattle.zmod.specs.Residues.{poly, residues-self, residues-same, residues-unique}
-use Rattle.isogeny.specs.Rules.{N, R3, ℓ}
+use Rattle.isogeny.specs.Rules.{N, R3}
 use Rattle.isogeny.specs.Theorems.{unique}
 use Rattle.questions.specs.Questions.{AllYes}
 use Rattle.questions.specs.Joined.{all-all}
 use Rattle.sheet.specs.declared.Form.the-variants.{Certificate}
 use Rattle.sheet.specs.declared.Values.{Values}
-use Rattle.sheet.specs.Values.{gOf, nOf, valuesOf, question}
+use Rattle.sheet.specs.Values.{gOf, nOf, abscissasOf, question}
 use Rattle.sheet.specs.Asked.{Curves, asked}
 use Rattle.sheet.specs.Ready.{Ready, HoldsG, HoldsN, half-least, degree-half}
 use Rattle.certificate.specs.Certificate.{certificate}
-use Rattle.certificate.specs.RoundTrip.{values-back, g-back, n-back, count-back, all-back}
-use Rattle.promises.specs.Asked.{check-asks, rules-ask}
+use Rattle.certificate.specs.RoundTrip.{values-back, g-back, n-back, abscissas-back, count-back, all-back}
+use Rattle.promises.specs.Abscissas.{rational-abscissas, abscissas-fit}
+use Rattle.promises.specs.Asked.{check-asks, rules-ask, certificate-rules}
 use Rattle.promises.specs.Answer.{CertificateIn}
 
 -- ── it passes check
@@ -32,28 +33,35 @@ module _ (v : Values) (ready : Ready v) (curves : Curves Certificate v) (before 
   n = held .n
 
   abbrev ws : List ℕ
-  ws = certificate v (held .g) (held .n)
+  ws = certificate v (held .g) (held .n) (rational-abscissas v (held .g))
+
+  abbrev c : ℕ
+  c = rational-abscissas v (held .g)
+
+  c-fits : c < 2 ^ 28
+  c-fits = abscissas-fit v ready g (held .g-words) (held .meets .r1)
 
   -- questions 8 to 10
-  rules : AllYes (rules-ask v g n)
-  rules = (held .meets .r1, (held .n-is, (subst (R3 (Zmod (v .p)) (question v) (poly (v .p) g)) (sym (held .n-is)) (held .meets .r3), tt)))
+  rules : AllYes (rules-ask v g n c)
+  rules = (held .meets .r1, ((held .n-is, refl), (subst (R3 (Zmod (v .p)) (question v) (poly (v .p) g)) (sym (held .n-is)) (held .meets .r3), tt)))
 
-  rules-back : AllYes (rules-ask (valuesOf Certificate ws) (gOf Certificate ws) (nOf Certificate ws))
+  rules-back : AllYes (certificate-rules ws)
   rules-back =
-      subst (λ v. AllYes (rules-ask v (gOf Certificate ws) (nOf Certificate ws))) (sym (values-back v ready g n))
-      (subst (λ g. AllYes (rules-ask v g (nOf Certificate ws))) (sym (g-back v ready g n (held .g-words) (held .n-words)))
-      (subst (λ n. AllYes (rules-ask v g n)) (sym (n-back v ready g n (held .g-words) (held .n-words))) rules))
+      subst (λ v. AllYes (rules-ask v (gOf Certificate ws) (nOf Certificate ws) (abscissasOf ws))) (sym (values-back v ready g n c))
+      (subst (λ g. AllYes (rules-ask v g (nOf Certificate ws) (abscissasOf ws))) (sym (g-back v ready g n c (held .g-words) (held .n-words) c-fits))
+      (subst (λ n. AllYes (rules-ask v g n (abscissasOf ws))) (sym (n-back v ready g n c (held .g-words) (held .n-words) c-fits))
+      (subst (λ c. AllYes (rules-ask v g n c)) (sym (abscissas-back v ready g n c (held .g-words) (held .n-words) c-fits)) rules)))
 
   pub certificate-words : take count after ≡ ws
   certificate-words =
       ap (take count) (held .words)
-      ∙ take-at ws (drop count before) count (count-back v ready g n (held .g-words) (held .n-words) ∙ sym (held .count-is))
+      ∙ take-at ws (drop count before) count (count-back v ready g n c (held .g-words) (held .n-words) c-fits ∙ sym (held .count-is))
 
   pub certified : AllYes (check-asks (take count after))
   certified =
       subst (λ ws. AllYes (check-asks ws)) (sym certificate-words)
-      (all-all (asked Certificate ws) (rules-ask (valuesOf Certificate ws) (gOf Certificate ws) (nOf Certificate ws))
-      (all-back v ready g n (held .g-words) (held .n-words) curves) rules-back)
+      (all-all (asked Certificate ws) (certificate-rules ws)
+      (all-back v ready g n c (held .g-words) (held .n-words) c-fits curves) rules-back)
 
 -- ── there is one
 
@@ -88,6 +96,6 @@ module _ (v : Values) (ready : Ready v) (before after after′ : List ℕ) (c c�
   pub one-certificate : (c ≡ c′) × (after ≡ after′)
   one-certificate = (
     one-count,
-    h .words ∙ ap (λ m. certificate v (h .g) (h .n) ++ drop m before) one-count
-        ∙ ap₂ (λ g n. certificate v g n ++ drop c′ before) one-g one-n ∙ sym (k .words),
+    h .words ∙ ap (λ m. certificate v (h .g) (h .n) (rational-abscissas v (h .g)) ++ drop m before) one-count
+        ∙ ap₂ (λ g n. certificate v g n (rational-abscissas v g) ++ drop c′ before) one-g one-n ∙ sym (k .words),
   )

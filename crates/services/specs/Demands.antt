@@ -3,7 +3,7 @@
 -- Assumes nothing.
 use mathlib.Core.Path.{_≡_, refl, ap, subst}
 use mathlib.Core.Logic.{_↔_, _≢_, inl, inr}
-use mathlib.Core.List.{List, [], _∷_, _++_}
+use mathlib.Core.List.{List, [], _∷_}
 use Prim.Native.Nat.{ℕ}
 use native.Mathlib.Omega.{arith}
 use lib.ListN.{length}
@@ -48,7 +48,7 @@ sheet-unique ws all a b h k =
     unique (known .prime .prime) (put Question ws) (half-least (valuesOf Question ws) known)
     (omega (arith, known .degree, degree-half (valuesOf Question ws) known)) a b h k
 
--- If there is one, and the buffer has room, solve answers with the count of a certificate's words, 3d + 11, and the buffer holds the certificate with that
+-- If there is one, and the buffer has room, solve answers with the count of a certificate's words, and the buffer holds the certificate with that
 -- polynomial.
 pub solved : (ws before after : List ℕ) (r : Written) → Room (length before) → AllYes (asked Question ws)
     → (a : Seq (Zmod (prime Question ws))) → Meets (Zmod (prime Question ws)) (put Question ws) a → SolveRight ws before after r

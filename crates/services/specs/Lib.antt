@@ -7,6 +7,7 @@ pub mod Name
 pub mod Words
 pub mod Demands
 pub mod Source
+pub mod Abscissas
 pub mod Again
 pub mod Names
 pub mod Reduced

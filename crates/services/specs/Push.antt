@@ -1,10 +1,9 @@
 -- What a customer can cite of push: one answer is right and no other, and an affine image is a point of the codomain.
 -- Assumes nothing.
-use mathlib.Core.Path.{_≡_, refl, sym, _∙_, ap₂}
-use mathlib.Core.List.{List, [], _∷_, _++_}
-use Prim.Native.Nat.{ℕ, suc, _+_, _*_}
+use mathlib.Core.Path.{_≡_, refl, ap₂}
+use mathlib.Core.List.{List, [], _∷_}
+use Prim.Native.Nat.{ℕ, suc}
 use native.Mathlib.Omega.{arith}
-use lib.ListN.{length}
 use Rattle.series.specs.Degree.{Below}
 use Rattle.zmod.specs.Zmod.{Zmod, mk, mk-apart}
 use Rattle.zmod.specs.Prime.{Prime, prime-pos}
@@ -25,7 +24,7 @@ use Rattle.promises.specs.declared.Point.the-variants as point
 use Rattle.promises.specs.declared.Image.{Image}
 use Rattle.promises.specs.declared.Image.the-variants as image
 use Rattle.promises.specs.Outcome.{imageOutcome, same-image}
-use Rattle.promises.specs.Asked.{prime, put, g, n, rules-ask, check-asks, push-asks, Given}
+use Rattle.promises.specs.Asked.{prime, put, g, n, certificate-rules, check-asks, push-asks, Given}
 use Rattle.promises.specs.Answer.{ToPoint, Goes, PushRight}
 
 -- the questions that check asks, and those of the form
@@ -33,7 +32,7 @@ pub push-checked : (ws : List ℕ) (at : Point) → AllYes (push-asks ws at) →
 push-checked ws at all = all-front (check-asks ws) ((12, Given (valuesOf Certificate ws) at) ∷ []) all
 
 pub check-asked : (ws : List ℕ) → AllYes (check-asks ws) → AllYes (asked Certificate ws)
-check-asked ws all = all-front (asked Certificate ws) (rules-ask (valuesOf Certificate ws) (gOf Certificate ws) (nOf Certificate ws)) all
+check-asked ws all = all-front (asked Certificate ws) (certificate-rules ws) all
 
 module _ (ws : List ℕ) (all : AllYes (check-asks ws)) where
   abbrev p : ℕ

@@ -57,7 +57,7 @@ module _ (ws : List ℕ) (passes : AllYes (check-asks ws)) where
   certificate-R1 = yes-to (check-asks ws) 8 passes
 
   pub certificate-N : n Certificate ws ≡ N (Zmod p) (put Certificate ws) (g Certificate ws)
-  certificate-N = yes-to (check-asks ws) 9 passes
+  certificate-N = yes-to (check-asks ws) 9 passes .0
 
   pub certificate-meets : Meets (Zmod p) (put Certificate ws) (g Certificate ws)
   certificate-meets =

@@ -1,5 +1,5 @@
--- The words of a sheet that passes questions 2 to 7 as a certificate: they are the words of the certificate of its values, its g and its N, and each of
--- them has 32 bits.
+-- The words of a sheet that passes questions 2 to 7 as a certificate: they are the words of the certificate of its values, its g, its N and its count
+-- of rational abscissas, and each of them has 32 bits.
 -- Assumes nothing.
 use mathlib.Core.Path.{_≡_, refl, sym, _∙_, ap, ap₂}
 use mathlib.Core.List.{List, [], _∷_, _++_, map, append-assoc}
@@ -17,13 +17,14 @@ use Rattle.questions.specs.Numbered.{yes-to}
 use Rattle.sheet.specs.declared.Form.{Form}
 use Rattle.sheet.specs.declared.Form.the-variants.{Certificate}
 use Rattle.sheet.specs.Word.{kindOf, valueOf, word}
-use Rattle.sheet.specs.Form.{header, body, kindsOf}
-use Rattle.sheet.specs.Values.{valuesOf, half, gOf, nOf}
+use Rattle.sheet.specs.Form.{header, body, kindsOf, certificateWords}
+use Rattle.sheet.specs.Values.{valuesOf, half, gOf, nOf, abscissasOf}
 use Rattle.sheet.specs.Asked.{Asked2, asked}
 use Rattle.sheet.specs.Leaf.{Stands, Sections}
 use Rattle.sheet.specs.Table.{at}
 use Rattle.sheet.specs.Header.{asked2-stands}
 use Rattle.sheet.specs.Body.{last, Words6, asked6-words, certificate-words}
+use Rattle.sheet.specs.Places.{count-place}
 use Rattle.sheet.specs.Accepted.{certificate-length}
 use Rattle.certificate.specs.Certificate.{certificate, headerWords}
 
@@ -61,10 +62,10 @@ module _ (ws : List ℕ) (all : AllYes (asked Certificate ws)) where
   words : Words6 Certificate (valuesOf Certificate ws .p) d ws
   words = asked6-words Certificate ws (yes-to (asked Certificate ws) 6 all)
 
-  word-count : length ws ≡ 3 * d + 11
+  word-count : length ws ≡ certificateWords d
   word-count = certificate-length ws all
 
-  last-is : last Certificate d ≡ 3 * d + 10
+  last-is : last Certificate d + 1 ≡ certificateWords d
   last-is = omega (arith, certificate-words d)
 
   -- ── the header
@@ -94,16 +95,17 @@ module _ (ws : List ℕ) (all : AllYes (asked Certificate ws)) where
 
   -- the kinds of the two sections
   g-kind : (i : ℕ) → 7 ≤ i → i < 7 + (d + 1) → getD (kindsOf Certificate d) i 0 ≡ 8
-  g-kind = g-section Certificate d (replicate (2 * d + 2) 9 ++ 15 ∷ []) refl
+  g-kind = g-section Certificate d (replicate (2 * d + 2) 9 ++ 10 ∷ 15 ∷ []) refl
 
   n-kind : (i : ℕ) → 7 + (d + 1) ≤ i → i < 7 + (d + 1) + (2 * d + 2) → getD (kindsOf Certificate d) i 0 ≡ 9
   n-kind i l m =
       let j : ℕ = i - (7 + (d + 1)) in
       let e : i ≡ 7 + (d + 1 + (i - (7 + (d + 1)))) = omega arith in
       ap (λ j. getD (kindsOf Certificate d) j 0) e ∙ getD-append-add (header Certificate) (body Certificate d) (d + 1 + (i - (7 + (d + 1)))) 0
-      ∙ run-past (d + 1) 8 (i - (7 + (d + 1))) (replicate (2 * d + 2) 9 ++ 15 ∷ []) ∙ run-at (2 * d + 2) 9 (i - (7 + (d + 1))) (15 ∷ []) (omega arith)
+      ∙ run-past (d + 1) 8 (i - (7 + (d + 1))) (replicate (2 * d + 2) 9 ++ 10 ∷ 15 ∷ [])
+      ∙ run-at (2 * d + 2) 9 (i - (7 + (d + 1))) (10 ∷ 15 ∷ []) (omega arith)
 
-  kind-of : (i : ℕ) → 7 ≤ i → i < 3 * d + 10 → kindOf (getD ws i 0) ≡ getD (kindsOf Certificate d) i 0
+  kind-of : (i : ℕ) → 7 ≤ i → i + 1 < certificateWords d → kindOf (getD ws i 0) ≡ getD (kindsOf Certificate d) i 0
   unfolding Sections
   kind-of i l m = words .sections i l (omega (arith, last-is)) .0
 
@@ -113,32 +115,49 @@ module _ (ws : List ℕ) (all : AllYes (asked Certificate ws)) where
   n-words : take (2 * d + 2) (drop (7 + (d + 1)) ws) ≡ map (word 9) (nOf Certificate ws)
   n-words = part-back 9 (7 + (d + 1)) (2 * d + 2) λ i l m. kind-of i (omega arith) (omega arith) ∙ n-kind i l m
 
-  -- ── the end, and all of them
+  -- ── the count, the end, and all of them
 
-  end-word : getD ws (7 + (d + 1) + (2 * d + 2)) 0 ≡ word 15 0
+  abbrev after-n : ℕ
+  after-n = 7 + (d + 1) + (2 * d + 2)
+
+  count-kind : getD (kindsOf Certificate d) after-n 0 ≡ 10
+  count-kind =
+      let e : after-n ≡ 7 + (d + 1 + (2 * d + 2 + 0)) = omega arith in
+      ap (λ j. getD (kindsOf Certificate d) j 0) e
+      ∙ getD-append-add (header Certificate) (body Certificate d) (d + 1 + (2 * d + 2 + 0)) 0
+      ∙ run-past (d + 1) 8 (2 * d + 2 + 0) (replicate (2 * d + 2) 9 ++ 10 ∷ 15 ∷ []) ∙ run-past (2 * d + 2) 9 0 (10 ∷ 15 ∷ [])
+
+  count-word : getD ws after-n 0 ≡ word 10 (abscissasOf ws)
+  count-word =
+      word-back 10 (getD ws after-n 0) (kind-of after-n (omega arith) (omega arith) ∙ count-kind)
+      ∙ ap (λ j. word 10 (valueOf (getD ws j 0))) (omega (arith, count-place d 0))
+
+  end-word : getD ws (suc after-n) 0 ≡ word 15 0
   end-word = ap (λ j. getD ws j 0) (omega (arith, last-is)) ∙ words .end
 
-  end-back : drop (7 + (d + 1) + (2 * d + 2)) ws ≡ word 15 0 ∷ []
-  end-back =
-      drop-cons ws (7 + (d + 1) + (2 * d + 2)) 0 (omega (arith, word-count))
-      ∙ ap₂ _∷_ end-word (drop-of-length-le ws {i = suc (7 + (d + 1) + (2 * d + 2))} (omega (arith, word-count)))
+  tail-back : drop after-n ws ≡ word 10 (abscissasOf ws) ∷ word 15 0 ∷ []
+  tail-back =
+      drop-cons ws after-n 0 (omega (arith, word-count))
+      ∙ ap₂ _∷_ count-word
+      (drop-cons ws (suc after-n) 0 (omega (arith, word-count))
+      ∙ ap₂ _∷_ end-word (drop-of-length-le ws {i = suc (suc after-n)} (omega (arith, word-count))))
 
-  rest-back : drop 7 ws ≡ map (word 8) (gOf Certificate ws) ++ map (word 9) (nOf Certificate ws) ++ word 15 0 ∷ []
+  rest-back : drop 7 ws ≡ map (word 8) (gOf Certificate ws) ++ map (word 9) (nOf Certificate ws) ++ word 10 (abscissasOf ws) ∷ word 15 0 ∷ []
   rest-back =
       sym (take-append-drop (d + 1) (drop 7 ws))
       ∙ ap₂ _++_ g-words
       (drop-drop (d + 1) 7 ws ∙ sym (take-append-drop (2 * d + 2) (drop (7 + (d + 1)) ws))
-      ∙ ap₂ _++_ n-words (drop-drop (2 * d + 2) (7 + (d + 1)) ws ∙ end-back))
-      ∙ sym (append-assoc (map (word 8) (gOf Certificate ws)) (map (word 9) (nOf Certificate ws)) (word 15 0 ∷ []))
+      ∙ ap₂ _++_ n-words (drop-drop (2 * d + 2) (7 + (d + 1)) ws ∙ tail-back))
+      ∙ sym (append-assoc (map (word 8) (gOf Certificate ws)) (map (word 9) (nOf Certificate ws)) (word 10 (abscissasOf ws) ∷ word 15 0 ∷ []))
 
-  pub certificate-back : ws ≡ certificate (valuesOf Certificate ws) (gOf Certificate ws) (nOf Certificate ws)
+  pub certificate-back : ws ≡ certificate (valuesOf Certificate ws) (gOf Certificate ws) (nOf Certificate ws) (abscissasOf ws)
   certificate-back = sym (take-append-drop 7 ws) ∙ ap₂ _++_ header-back rest-back
 
   -- ── 32 bits
 
   kind-small : (i : ℕ) → kindOf (getD ws i 0) < 16
   unfolding Asked2
-  kind-small i = go (decLt i 7) (decLt i (7 + (d + 1))) (decLt i (7 + (d + 1) + (2 * d + 2))) (decLt i (length ws))
+  kind-small i = go (decLt i 7) (decLt i (7 + (d + 1))) (decLt i after-n) (decLt i (suc after-n)) (decLt i (length ws))
     where
       in-header : (i : ℕ) → i < 7 → kindOf (getD ws i 0) < 16
       in-header i l =
@@ -148,14 +167,17 @@ module _ (ws : List ℕ) (all : AllYes (asked Certificate ws)) where
           let small : getD (header Certificate) i 0 < 16 = ltb→lt _ _ (at (λ i. ltb (getD (header Certificate) i 0) 16) 7 tt i l) in
           omega arith
 
-      go : Dec (i < 7) → Dec (i < 7 + (d + 1)) → Dec (i < 7 + (d + 1) + (2 * d + 2)) → Dec (i < length ws) → kindOf (getD ws i 0) < 16
-      go (yes l) second third fourth = in-header i l
-      go (no l) (yes m) third fourth = omega (arith, kind-of i (omega arith) (omega arith), g-kind i (omega arith) m)
-      go (no l) (no m) (yes k) fourth = omega (arith, kind-of i (omega arith) (omega arith), n-kind i (omega arith) k)
-      go (no l) (no m) (no k) (yes j) =
+      go : Dec (i < 7) → Dec (i < 7 + (d + 1)) → Dec (i < after-n) → Dec (i < suc after-n) → Dec (i < length ws) → kindOf (getD ws i 0) < 16
+      go (yes l) _ _ _ _ = in-header i l
+      go (no l) (yes m) _ _ _ = omega (arith, kind-of i (omega arith) (omega arith), g-kind i (omega arith) m)
+      go (no l) (no m) (yes k) _ _ = omega (arith, kind-of i (omega arith) (omega arith), n-kind i (omega arith) k)
+      go (no l) (no m) (no k) (yes h) _ =
+          let at-count : i ≡ after-n = omega arith in
+          omega (arith, kind-of i (omega arith) (omega arith), ap (λ j. getD (kindsOf Certificate d) j 0) at-count, count-kind)
+      go (no l) (no m) (no k) (no h) (yes j) =
           let e : getD ws i 0 ≡ 15 * 2 ^ 28 = ap (λ j. getD ws j 0) (omega (arith, word-count)) ∙ end-word in
           omega arith
-      go (no l) (no m) (no k) (no j) =
+      go (no l) (no m) (no k) (no h) (no j) =
           let e : getD ws i 0 ≡ 0 = List·getD-eq-default ws 0 (omega arith) in
           omega arith
 

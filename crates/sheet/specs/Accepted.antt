@@ -1,6 +1,6 @@
 -- What holds of a sheet that passes questions 2 to 7: its length, and its coefficients.
 -- Assumes nothing.
-use mathlib.Core.Path.{_≡_, _∙_, ap}
+use mathlib.Core.Path.{_≡_, sym, _∙_, ap, subst}
 use mathlib.Core.List.{List, map}
 use Prim.Native.Nat.{ℕ, _+_, _*_, _<_, _≤_}
 use native.Mathlib.Decide.{decLt}
@@ -16,7 +16,9 @@ use Rattle.sheet.specs.Form.{header, kindsOf, certificateWords}
 use Rattle.sheet.specs.Values.{valuesOf, half, coefficientIn, gOf, nOf}
 use Rattle.sheet.specs.Asked.{asked}
 use Rattle.sheet.specs.Ready.{HoldsG, HoldsN}
-use Rattle.sheet.specs.Body.{kinds-length, certificate-words, kernel-words}
+use Rattle.sheet.specs.Kinds.{below, kind-before, kinds-rise}
+use Rattle.sheet.specs.Body.{kinds-length, kinds-at, certificate-words, kernel-words}
+use Rattle.sheet.specs.Places.{coefficients-end, kernel-coefficients-end}
 use Rattle.sheet.specs.Reduction.{coefficient-at}
 
 -- ── a part of the words
@@ -49,12 +51,14 @@ module _ (form : Form) (ws : List ℕ) (all : AllYes (asked form ws)) where
   pub words-count : length ws ≡ length (kindsOf form d)
   words-count = kinds-length form d ws (yes-to (asked form ws) 6 all .kinds)
 
-  -- a section that ends before the end
-  reduced-section : (from count : ℕ) → length (header form) ≤ from → from + count < length ws
+  -- a section of coefficients: it ends before the kinds from 10 on begin
+  reduced-section : (from count : ℕ) → length (header form) ≤ from → from + count ≤ below 10 (kindsOf form d) → from + count ≤ length ws
       → Reduced (valuesOf form ws .p) (map (coefficientIn form (valuesOf form ws .p)) (take count (drop from ws)))
-  reduced-section from count l m =
-      part-reduced form (valuesOf form ws .p) ws from count (omega arith) (omega (arith, yes-to (asked form ws) 3 all .least)) (λ i a b.
-      yes-to (asked form ws) 6 all .below i (omega arith) (omega arith))
+  reduced-section from count l m n =
+      part-reduced form (valuesOf form ws .p) ws from count n (omega (arith, yes-to (asked form ws) 3 all .least)) (λ i a b.
+      let six = yes-to (asked form ws) 6 all in
+      let few : getD (kindsOf form d) i 0 < 10 = kind-before 10 0 i (kindsOf form d) (kinds-rise form d) (omega arith) in
+      six .below i (omega arith) (omega arith) (subst (λ k. k < 10) (sym (kinds-at form d ws (six .kinds) i (omega arith))) few))
 
 module _ (ws : List ℕ) (all : AllYes (asked Certificate ws)) where
   abbrev e : ℕ
@@ -67,13 +71,14 @@ module _ (ws : List ℕ) (all : AllYes (asked Certificate ws)) where
   certificate-g-length = part-length Certificate (valuesOf Certificate ws .p) ws 7 (e + 1) (omega (arith, certificate-length))
 
   certificate-g-reduced : Reduced (valuesOf Certificate ws .p) (gOf Certificate ws)
-  certificate-g-reduced = reduced-section Certificate ws all 7 (e + 1) (omega arith) (omega (arith, certificate-length))
+  certificate-g-reduced = reduced-section Certificate ws all 7 (e + 1) (omega arith) (omega (arith, coefficients-end e)) (omega (arith, certificate-length))
 
   certificate-n-length : length (nOf Certificate ws) ≡ 2 * e + 2
   certificate-n-length = part-length Certificate (valuesOf Certificate ws .p) ws (7 + (e + 1)) (2 * e + 2) (omega (arith, certificate-length))
 
   certificate-n-reduced : Reduced (valuesOf Certificate ws .p) (nOf Certificate ws)
-  certificate-n-reduced = reduced-section Certificate ws all (7 + (e + 1)) (2 * e + 2) (omega arith) (omega (arith, certificate-length))
+  certificate-n-reduced =
+      reduced-section Certificate ws all (7 + (e + 1)) (2 * e + 2) (omega arith) (omega (arith, coefficients-end e)) (omega (arith, certificate-length))
 
   -- the coefficients on it
   pub certificate-g : HoldsG (valuesOf Certificate ws) (gOf Certificate ws)
@@ -93,7 +98,7 @@ module _ (ws : List ℕ) (all : AllYes (asked Kernel ws)) where
   kernel-g-length = part-length Kernel (valuesOf Kernel ws .p) ws 4 (k + 1) (omega (arith, kernel-length))
 
   kernel-g-reduced : Reduced (valuesOf Kernel ws .p) (gOf Kernel ws)
-  kernel-g-reduced = reduced-section Kernel ws all 4 (k + 1) (omega arith) (omega (arith, kernel-length))
+  kernel-g-reduced = reduced-section Kernel ws all 4 (k + 1) (omega arith) (omega (arith, kernel-coefficients-end k)) (omega (arith, kernel-length))
 
   pub kernel-g : HoldsG (valuesOf Kernel ws) (gOf Kernel ws)
   kernel-g = record { count = kernel-g-length; reduced = kernel-g-reduced }

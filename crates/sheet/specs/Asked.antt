@@ -4,7 +4,7 @@
 use mathlib.Core.Path.{_≡_}
 use mathlib.Core.Bool.{true}
 use mathlib.Core.List.{List, [], _∷_, map}
-use Prim.Native.Nat.{ℕ, _+_, _*_, _-_, _%_, _^_, _<_, _≤_}
+use Prim.Native.Nat.{ℕ, _*_, _-_, _%_, _^_, _<_, _≤_}
 use lib.ListN.{length, getD, take, drop}
 use Rattle.zmod.specs.Zmod.{Zmod, mk}
 use Rattle.zmod.specs.Prime.{Prime}
@@ -41,10 +41,11 @@ pub record ValuesBelow (v : Values) : Type 0 where
   pub btilde : v .btilde < v .p
   pub sigma : v .sigma < v .p
 
--- 6: the words after the header are those of the form, with coefficients that are read as values below p up to the end, whose value is 0
+-- 6: the words after the header are those of the form; the coefficients, which are of the kinds 8 and 9, are read as values below p, and the end's value is 0
 pub record Asked6 (form : Form) (ws : List ℕ) : Type 0 where
   pub kinds : map kindOf (drop (length (header form)) ws) ≡ body form (half (valuesOf form ws))
-  pub below : (i : ℕ) → length (header form) ≤ i → i + 1 < length ws → coefficientIn form (valuesOf form ws .p) (getD ws i 0) < valuesOf form ws .p
+  pub below : (i : ℕ) → length (header form) ≤ i → i < length ws → kindOf (getD ws i 0) < 10
+      → coefficientIn form (valuesOf form ws .p) (getD ws i 0) < valuesOf form ws .p
   pub end : valueOf (getD ws (length ws - 1) 0) ≡ 0
 
 -- 7: the domain is a curve, and so is the codomain, if the header has it

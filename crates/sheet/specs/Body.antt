@@ -1,6 +1,6 @@
 -- Question 6 word by word: how many words there are, the end, and the kind and bound of each word between the header and the end.
 -- Assumes nothing.
-use mathlib.Core.Path.{_≡_, refl, sym, _∙_, ap}
+use mathlib.Core.Path.{_≡_, refl, sym, _∙_, ap, subst}
 use mathlib.Core.Logic.{_↔_}
 use mathlib.Core.List.{List, [], _∷_, _++_, map}
 use Prim.Native.Nat.{ℕ, _+_, _*_, _-_, _^_, _<_, _≤_}
@@ -12,7 +12,7 @@ use Rattle.sheet.specs.declared.Form.{Form}
 use Rattle.sheet.specs.declared.Form.the-variants.{Question, Certificate, Kernel}
 use Rattle.sheet.specs.Word.{kindOf, valueOf}
 use Rattle.sheet.specs.Form.{header, laid, body, kindsOf, certificateWords, mostWords}
-use Rattle.sheet.specs.Values.{valuesOf, half}
+use Rattle.sheet.specs.Values.{valuesOf, half, coefficientIn}
 use Rattle.sheet.specs.Asked.{Asked6}
 use Rattle.sheet.specs.Leaf.{Sections}
 
@@ -70,7 +70,7 @@ module _ (form : Form) (d : ℕ) where
     where
       end : (form : Form) → getD (body form d) (length (body form d) - 1) 0 ≡ 15
       end Question = laid-last []
-      end Certificate = laid-last ((8, d + 1) ∷ (9, 2 * d + 2) ∷ [])
+      end Certificate = laid-last ((8, d + 1) ∷ (9, 2 * d + 2) ∷ (10, 1) ∷ [])
       end Kernel = laid-last ((8, d + 1) ∷ [])
 
   -- ── the kinds of the words after the header
@@ -93,7 +93,7 @@ module _ (form : Form) (d : ℕ) where
     kind-of : (j : ℕ) → getD (map kindOf (drop (length (header form)) ws)) j 0 ≡ kindOf (getD ws (length (header form) + j) 0)
     kind-of j = List·getD-map kindOf (drop (length (header form)) ws) j 0 ∙ ap kindOf (getD-drop (length (header form)) ws j 0)
 
-    kinds-at : Kinds → (i : ℕ) → length (header form) ≤ i → kindOf (getD ws i 0) ≡ getD (kindsOf form d) i 0
+    pub kinds-at : Kinds → (i : ℕ) → length (header form) ≤ i → kindOf (getD ws i 0) ≡ getD (kindsOf form d) i 0
     kinds-at e i l =
         let at : length (header form) + (i - length (header form)) ≡ i = omega arith in
         sym (kind-of (i - length (header form)) ∙ ap (λ n. kindOf (getD ws n 0)) at)
@@ -134,7 +134,7 @@ module _ (form : Form) (ws : List ℕ) where
         count = count;
         end = end-word (getD ws (last form d) 0) .1
             (kinds-at form d ws (a .kinds) (last form d) (last-after form d) ∙ last-kind form d, ap (λ n. valueOf (getD ws n 0)) (omega arith) ∙ a .end);
-        sections = λ i l m. (kinds-at form d ws (a .kinds) i l, a .below i l (omega arith));
+        sections = λ i l m. let is = kinds-at form d ws (a .kinds) i l in (is, λ few. a .below i l (omega arith) (subst (λ k. k < 10) (sym is) few));
       }
 
   pub words-asked6 : Words6 form (valuesOf form ws .p) d ws → Asked6 form ws
@@ -144,10 +144,20 @@ module _ (form : Form) (ws : List ℕ) where
       let end = end-word (getD ws (last form d) 0) .0 (w .end) in
       record {
         kinds = at-kinds form d ws count (λ i l m. same end i l (decLt i (last form d)) (omega (arith, count)));
-        below = λ i l m. w .sections i l (omega (arith, count)) .1;
+        below = λ i l m few. coefficient i l few (decLt i (last form d)) (omega (arith, count)) end;
         end = ap (λ n. valueOf (getD ws n 0)) (omega (arith, count)) ∙ end .1;
       }
     where
+      coefficient : (i : ℕ) → length (header form) ≤ i → kindOf (getD ws i 0) < 10 → Dec (i < last form d) → i ≤ last form d
+          → (kindOf (getD ws (last form d) 0) ≡ 15) × (valueOf (getD ws (last form d) 0) ≡ 0)
+          → coefficientIn form (valuesOf form ws .p) (getD ws i 0) < valuesOf form ws .p
+      coefficient i l few (yes m) n end =
+          let word = w .sections i l m in
+          word .1 (subst (λ k. k < 10) (word .0) few)
+      coefficient i l few (no m) n end =
+          let e : i ≡ last form d = omega arith in
+          absurd (omega (arith, few, end .0, ap (λ n. kindOf (getD ws n 0)) e))
+
       same : (kindOf (getD ws (last form d) 0) ≡ 15) × (valueOf (getD ws (last form d) 0) ≡ 0) → (i : ℕ) → length (header form) ≤ i
           → Dec (i < last form d) → i ≤ last form d → kindOf (getD ws i 0) ≡ getD (kindsOf form d) i 0
       same end i l (yes m) n = w .sections i l m .0

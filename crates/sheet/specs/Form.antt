@@ -1,5 +1,6 @@
 -- The three forms of a sheet, each by the kinds of its words in order: a header, sections of words of one kind each, and the end. The kinds 1 to 7 are
--- those of p, A, B, Ã, B̃, ℓ and σ, 8 and 9 those of g's and N's coefficients, 15 is the end's. And how a form reads a value.
+-- those of p, A, B, Ã, B̃, ℓ and σ, 8 and 9 those of g's and N's coefficients, 10 that of the count of rational abscissas, 15 is the end's. And how a form
+-- reads a value.
 -- Assumes nothing.
 use mathlib.Core.List.{List, [], _∷_, _++_}
 use Prim.Native.Nat.{ℕ, suc, _+_, _*_, _%_}
@@ -19,7 +20,7 @@ header Kernel = 1 ∷ 2 ∷ 3 ∷ 6 ∷ []
 -- the sections after them, where ℓ = 2 d + 1: a kind, and how many words
 abbrev pub sections : Form → ℕ → List (ℕ × ℕ)
 sections Question d = []
-sections Certificate d = (8, d + 1) ∷ (9, 2 * d + 2) ∷ []
+sections Certificate d = (8, d + 1) ∷ (9, 2 * d + 2) ∷ (10, 1) ∷ []
 sections Kernel d = (8, d + 1) ∷ []
 
 -- the kinds of the words of sections, and of the end
@@ -36,7 +37,7 @@ kindsOf form d = header form ++ body form d
 
 -- how many words a certificate of degree 2 d + 1 has, and the largest one, of degree 255
 abbrev pub certificateWords : ℕ → ℕ
-certificateWords d = 3 * d + 11
+certificateWords d = 3 * d + 12
 
 abbrev pub mostWords : ℕ
 mostWords = certificateWords 127

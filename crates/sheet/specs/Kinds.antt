@@ -102,6 +102,17 @@ kind-at k low i (x ∷ xs) r l m = go (ltb x k) refl (ltb x (suc k)) refl i l m 
         later i (omega (arith, below-none k x xs (ltb-false x k q) (r .1))) (le-of-suc-le-suc m)
     go false q false u i l m later = absurd (omega (arith, below-none (suc k) x xs (ltb-false x (suc k) u) (r .1)))
 
+-- the words before where k begins are of smaller kinds
+pub kind-before : (k low i : ℕ) (xs : List ℕ) → Rising low xs → i < below k xs → getD xs i 0 < k
+kind-before k low i [] r m = absurd (not-suc-le-zero m)
+kind-before k low i (x ∷ xs) r m = go (ltb x k) refl i m (λ j. kind-before k x j xs (r .1))
+  where
+    go : (t : Bool) → ltb x k ≡ t → (i : ℕ) → i < cond t (suc (below k xs)) (below k xs) → ((j : ℕ) → j < below k xs → getD xs j 0 < k)
+        → getD (x ∷ xs) i 0 < k
+    go true q zero m later = ltb-true x k q
+    go true q (suc i) m later = later i (le-of-suc-le-suc m)
+    go false q i m later = absurd (omega (arith, below-none k x xs (ltb-false x k q) (r .1)))
+
 -- later kinds begin later
 pub below-mono : (j k : ℕ) (xs : List ℕ) → j ≤ k → below j xs ≤ below k xs
 below-mono j k [] l = omega arith
@@ -130,7 +141,7 @@ run low k n xs l r = rising-run low k n xs l r (rising-from low k xs l r)
 -- the kinds of the body are those from 8 on
 pub body-rises : (form : Form) (d : ℕ) → Rising 8 (body form d)
 body-rises Question d = (omega arith, tt)
-body-rises Certificate d = run 8 8 (d + 1) _ (omega arith) (run 8 9 (2 * d + 2) (15 ∷ []) (omega arith) (omega arith, tt))
+body-rises Certificate d = run 8 8 (d + 1) _ (omega arith) (run 8 9 (2 * d + 2) (10 ∷ 15 ∷ []) (omega arith) (omega arith, (omega arith, tt)))
 body-rises Kernel d = run 8 8 (d + 1) (15 ∷ []) (omega arith) (omega arith, tt)
 
 -- a list whose kinds are below 8 before one whose kinds are from 8 on

@@ -15,9 +15,10 @@ use Rattle.sheet.specs.Values.{coefficientIn}
 unfoldable pub Stands : Form → ℕ → List ℕ → Type 0
 Stands form k ws = holds k (header form) ≡ true → (position k (header form) < length ws) × (kindOf (getD ws (position k (header form)) 0) ≡ k)
 
--- the words from `from` up to `to` are each of the kind that the form has there, with coefficients below p
+-- the words from `from` up to `to` are each of the kind that the form has there, and the coefficients are below p
 unfoldable pub Sections : Form → ℕ → ℕ → ℕ → ℕ → List ℕ → Type 0
-Sections form d from to p ws = (i : ℕ) → from ≤ i → i < to → (kindOf (getD ws i 0) ≡ getD (kindsOf form d) i 0) × (coefficientIn form p (getD ws i 0) < p)
+Sections form d from to p ws = (i : ℕ) → from ≤ i → i < to
+    → (kindOf (getD ws i 0) ≡ getD (kindsOf form d) i 0) × (getD (kindsOf form d) i 0 < 10 → coefficientIn form p (getD ws i 0) < p)
 
 -- a word is of kind k, with a value below a bound
 abbrev pub Fits : ℕ → ℕ → ℕ → Type 0

@@ -3,14 +3,14 @@
 use mathlib.Core.Path.{_≡_, refl, sym, _∙_, ap, ap₂}
 use mathlib.Core.Bool.{Bool, true, false, cond}
 use mathlib.Core.List.{List, [], _∷_}
-use Prim.Native.Nat.{ℕ, suc, _+_, _*_, _-_, _<_, _≤_}
+use Prim.Native.Nat.{ℕ, suc, _+_, _*_, _-_, _<_}
 use native.Mathlib.Omega.{arith}
 use lib.ListN.{length}
 use Rattle.sheet.specs.declared.Form.{Form}
 use Rattle.sheet.specs.declared.Form.the-variants.{Question, Certificate, Kernel}
-use Rattle.sheet.specs.Form.{header, kindsOf, position, holds}
+use Rattle.sheet.specs.Form.{header, kindsOf, certificateWords, position, holds}
 use Rattle.sheet.specs.Place.{placeOf}
-use Rattle.sheet.specs.Kinds.{below, absent as absent-kind}
+use Rattle.sheet.specs.Kinds.{below, absent as absent-kind, place-from}
 use Rattle.sheet.specs.Body.{last, certificate-words, kernel-words}
 use Rattle.sheet.specs.Linear.{Section, section, expand, has, base, slope, holds-sections, position-sections, base-most}
 
@@ -19,8 +19,8 @@ use Rattle.sheet.specs.Linear.{Section, section, expand, has, base, slop
 abbrev sections : Form → List Section
 sections Question = section 1 0 0 ∷ section 2 0 0 ∷ section 3 0 0 ∷ section 4 0 0 ∷ section 5 0 0 ∷ section 6 0 0 ∷ section 7 0 0 ∷ section 15 0 0 ∷ []
 sections Certificate =
-    section 1 0 0 ∷ section 2 0 0 ∷ section 3 0 0 ∷ section 4 0 0 ∷ section 5 0 0 ∷ section 6 0 0 ∷ section 7 0 0 ∷ section 8 0 1 ∷ section 9 1 2 ∷ section 15 0
-    0 ∷ []
+    section 1 0 0 ∷ section 2 0 0 ∷ section 3 0 0 ∷ section 4 0 0 ∷ section 5 0 0 ∷ section 6 0 0 ∷ section 7 0 0 ∷ section 8 0 1 ∷ section 9 1 2
+    ∷ section 10 0 0 ∷ section 15 0 0 ∷ []
 sections Kernel = section 1 0 0 ∷ section 2 0 0 ∷ section 3 0 0 ∷ section 6 0 0 ∷ section 8 0 1 ∷ section 15 0 0 ∷ []
 
 -- how many words follow the first one of a section
@@ -38,23 +38,23 @@ in-sections Question d = simp no-more
 in-sections Certificate d = simp (no-more, g-more, n-more)
 in-sections Kernel d = simp (no-more, g-more)
 
--- no form has a kind from 10 to 14, so the words of kind 9, or where they would stand, are the last before the end
+-- no form has a kind from 11 to 14, so the word of kind 10, or where it would stand, is the last before the end
 abbrev Lacks : Form → ℕ → Type 0
 Lacks form k = has k (sections form) ≡ false
 
-lacking : (form : Form) → Lacks form 10 × Lacks form 11 × Lacks form 12 × Lacks form 13 × Lacks form 14
-lacking Question = (refl, refl, refl, refl, refl)
-lacking Certificate = (refl, refl, refl, refl, refl)
-lacking Kernel = (refl, refl, refl, refl, refl)
+lacking : (form : Form) → Lacks form 11 × Lacks form 12 × Lacks form 13 × Lacks form 14
+lacking Question = (refl, refl, refl, refl)
+lacking Certificate = (refl, refl, refl, refl)
+lacking Kernel = (refl, refl, refl, refl)
 
 module _ (form : Form) (d : ℕ) where
   skipped : (k : ℕ) → Lacks form k → below (suc k) (kindsOf form d) ≡ below k (kindsOf form d)
   skipped k e = absent-kind k (kindsOf form d) (ap (holds k) (in-sections form d) ∙ holds-sections k d (sections form) ∙ e)
 
-  pub nine-last : below 15 (kindsOf form d) ≡ below 10 (kindsOf form d)
-  nine-last =
+  pub count-last : below 15 (kindsOf form d) ≡ below 11 (kindsOf form d)
+  count-last =
       let lacks = lacking form in
-      skipped 14 (lacks .4) ∙ skipped 13 (lacks .3) ∙ skipped 12 (lacks .2) ∙ skipped 11 (lacks .1) ∙ skipped 10 (lacks .0)
+      skipped 14 (lacks .3) ∙ skipped 13 (lacks .2) ∙ skipped 12 (lacks .1) ∙ skipped 11 (lacks .0)
 
 -- a number + a number · d
 module _ (form : Form) (k : ℕ) where
@@ -117,7 +117,23 @@ module _ (d none : ℕ) where
   pub n-place : placeOf Certificate 9 d none ≡ d + 8
   n-place = place-is Certificate 9 d none ∙ omega arith
 
-pub end-small : (d : ℕ) (form : Form) → last form d ≤ 3 * d + 10
+  pub count-place : placeOf Certificate 10 d none + 2 ≡ certificateWords d
+  count-place = omega (arith, place-is Certificate 10 d none)
+
+pub end-small : (d : ℕ) (form : Form) → last form d < certificateWords d
 end-small d Question = omega arith
 end-small d Certificate = omega (arith, certificate-words d)
 end-small d Kernel = omega (arith, kernel-words d)
+
+-- the kinds from 10 on begin after all coefficients
+module _ (d : ℕ) where
+  pub coefficients-end : below 10 (kindsOf Certificate d) + 2 ≡ certificateWords d
+  coefficients-end =
+      let next = below 11 (kindsOf Certificate d) in
+      omega (arith, place-from Certificate d 10 next refl, count-place d next)
+
+  pub kernel-coefficients-end : below 10 (kindsOf Kernel d) ≡ d + 5
+  kernel-coefficients-end =
+      let kinds = kindsOf Kernel d in
+      sym (skipped Kernel d 10 refl) ∙ sym (count-last Kernel d) ∙ sym (place-from Kernel d 15 (below 16 kinds) refl) ∙ end-place d (below 16 kinds) Kernel
+      ∙ omega (arith, kernel-words d)

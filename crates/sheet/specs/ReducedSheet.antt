@@ -204,12 +204,12 @@ module _ (form : Form) (modulo : Modulo form) (ws : List ℕ) where
       λ r. record {
         count = sym (length-map ws (reduceWord p)) ∙ r .count;
         end = end-kept (last form (half v)) .0 (r .end);
-        sections = λ i l m. (sym (kind-at i) ∙ r .sections i l m .0, subst (λ x. x < v .p) (coefficient-same i) (r .sections i l m .1));
+        sections = λ i l m. (sym (kind-at i) ∙ r .sections i l m .0, λ few. subst (λ x. x < v .p) (coefficient-same i) (r .sections i l m .1 few));
       },
       λ r. record {
         count = length-map ws (reduceWord p) ∙ r .count;
         end = end-kept (last form (half v)) .1 (r .end);
-        sections = λ i l m. (kind-at i ∙ r .sections i l m .0, subst (λ x. x < v .p) (sym (coefficient-same i)) (r .sections i l m .1));
+        sections = λ i l m. (kind-at i ∙ r .sections i l m .0, λ few. subst (λ x. x < v .p) (sym (coefficient-same i)) (r .sections i l m .1 few));
       },
     )
 

@@ -74,5 +74,5 @@ module _ (form : Form) (modulo : Modulo form) (ws : List ℕ) (positive : 0 < va
       ↔ ((map kindOf (drop (length (header form)) ws) ≡ body form (half (valuesOf form ws))) × (valueOf (getD ws (length ws - 1) 0) ≡ 0))
   six-kinds = (
     λ a. (a .kinds, a .end),
-    λ h. record { kinds = h .0; below = λ i _ _. value-reduced form modulo positive (valueOf (getD ws i 0)); end = h .1 },
+    λ h. record { kinds = h .0; below = λ i _ _ _. value-reduced form modulo positive (valueOf (getD ws i 0)); end = h .1 },
   )

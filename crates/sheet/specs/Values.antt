@@ -1,14 +1,17 @@
--- What a sheet says: its values, the question that they put over ℤ/p, and the coefficients of g and N. All but p and ℓ are read by the form (`valueIn`).
+-- What a sheet says: its values, the question that they put over ℤ/p, the coefficients of g and N, and the count of rational abscissas. All but p, ℓ and
+-- the count are read by the form (`valueIn`).
 -- Assumes nothing.
 use mathlib.Core.List.{List, map}
 use Prim.Native.Nat.{ℕ, _+_, _*_, _-_, _/_}
-use lib.ListN.{length, take, drop}
+use lib.ListN.{length, getD, take, drop}
 use Rattle.zmod.specs.Zmod.{Zmod, mk}
 use Rattle.isogeny.specs.Rules.{Question}
 use Rattle.sheet.specs.declared.Form.{Form}
+use Rattle.sheet.specs.declared.Form.the-variants.{Certificate}
 use Rattle.sheet.specs.declared.Values.{Values}
 use Rattle.sheet.specs.Word.{valueOf}
 use Rattle.sheet.specs.Form.{header, entry, valueIn}
+use Rattle.sheet.specs.Place.{placeOf}
 
 -- the value of a kind in the header, those of p and ℓ apart
 abbrev pub valueAt : Form → ℕ → List ℕ → ℕ
@@ -52,3 +55,7 @@ gOf form ws = map (coefficientIn form (valuesOf form ws .p)) (take (half (values
 abbrev pub nOf : Form → List ℕ → List ℕ
 nOf form ws =
     map (coefficientIn form (valuesOf form ws .p)) (take (2 * half (valuesOf form ws) + 2) (drop (length (header form) + (half (valuesOf form ws) + 1)) ws))
+
+-- the count of rational abscissas on a certificate
+abbrev pub abscissasOf : List ℕ → ℕ
+abscissasOf ws = valueOf (getD ws (placeOf Certificate 10 (half (valuesOf Certificate ws)) 0) 0)

@@ -4,13 +4,13 @@ ghost use mathlib.Core.Logic.{_↔_};
 ghost use mathlib.Core.Bool.{true};
 ghost use Prim.Native.Nat.{_+_, _-_, _*_, _^_, _<_, _≤_};
 ghost use mathlib.Core.List.{map};
-ghost use lib.ListN.{length, take, drop};
+ghost use lib.ListN.{length, getD, take, drop};
 ghost use Rattle.zmod.specs.Zmod.{Zmod, mk};
 ghost use Rattle.zmod.specs.Residues.{Residue};
 ghost use Rattle.isogeny.specs.Curve.{discriminant, Nonsingular};
 ghost use Rattle.sheet.specs.declared.Form.the-variants.{Certificate};
 ghost use Rattle.sheet.specs.Word.{kindOf, valueOf, wordAt, wordsOf};
-ghost use Rattle.sheet.specs.Form.{header, entry, valueIn};
+ghost use Rattle.sheet.specs.Form.{header, entry, valueIn, certificateWords};
 ghost use Rattle.sheet.specs.Place.{placeOf, PlacesOf};
 ghost use Rattle.sheet.specs.Values.{valuesOf, half, coefficientIn};
 ghost use Rattle.sheet.specs.Asked.{PrimeAllowed, DegreeAllowed, ValuesBelow, Curves, Asked2, Asked6};
@@ -19,7 +19,7 @@ ghost use Rattle.sheet.specs.Leaf.{Stands, Fits, Section, Sections, Boun
 ghost use Rattle.sheet.specs.Body.{last};
 
 // The words of the largest certificate, that of degree 255.
-pub const MOST_WORDS: usize = 392;
+pub const MOST_WORDS: usize = 393;
 
 // The form in which a sheet is read.
 pub enum Form {
@@ -56,8 +56,8 @@ const PLACES: [[[u8; 16]; 2]; 3] = [
         [0, 0, 0, 0, 0, 0, 0, 0, 0, 0, 0, 0, 0, 0, 0, 0],
     ],
     [
-        [NO, 0, 1, 2, 3, 4, 5, 6, 7, 8, NO, NO, NO, NO, NO, 10],
-        [0, 0, 0, 0, 0, 0, 0, 0, 0, 1, 0, 0, 0, 0, 0, 3],
+        [NO, 0, 1, 2, 3, 4, 5, 6, 7, 8, 10, NO, NO, NO, NO, 11],
+        [0, 0, 0, 0, 0, 0, 0, 0, 0, 1, 3, 0, 0, 0, 0, 3],
     ],
     [
         [NO, 0, 1, 2, NO, NO, 3, NO, 4, NO, NO, NO, NO, NO, NO, 5],
@@ -271,18 +271,22 @@ fn section(ws: &[u32], from: usize, to: usize, k: u32, bound: u32) -> bool
 }
 
 // Whether the words between the header and the end are of their kinds, with coefficients that are read as values below p. Where the form has no such words,
-// N's would begin at the end, and g's where N's begin.
+// the count would stand at the end, N's would begin where the count stands, and g's where N's begin. The count may have any value.
 fn sections(form: Form, ws: &[u32], d: usize, end: usize, p: u32) -> bool
     requires { ⌜ (d ≤ 2 ^ 28) × (end ≡ last form d) × (end < length (now ws)) × (0 < p) × (p ≤ 2 ^ 28) ⌝ }
     ensures { λ r. ⌜ (r ≡ true) ↔ Sections form d (length (header form)) end p (now (ws .entry)) ⌝ }
 {
     let bound = coefficient_bound(form, p);
-    let n = place(form, 9, d, end);
+    let count = place(form, 10, d, end);
+    let n = place(form, 9, d, count);
     let g = place(form, 8, d, n);
     if !section(ws, g, n, 8, bound) {
         return false;
     }
-    section(ws, n, end, 9, bound)
+    if !section(ws, n, count, 9, bound) {
+        return false;
+    }
+    section(ws, count, end, 10, 268435456)
 }
 
 // Question 6.
@@ -387,6 +391,14 @@ pub fn n_coefficients(p: u32, ws: &[u32], d: usize, out: &mut [u32])
 {
     let from = place(Form::Certificate, 9, d, 0);
     coefficients(Form::Certificate, p, ws, from, out);
+}
+
+// The count of rational abscissas on a certificate of degree 2 d + 1.
+pub fn rational_abscissas(ws: &[u32], d: usize) -> u32
+    requires { ⌜ (d ≤ 2 ^ 28) × (length (now ws) ≡ certificateWords d) ⌝ }
+    ensures { λ r. ⌜ (r ≡ valueOf (getD (now (ws .entry)) (placeOf Certificate 10 d 0) 0)) × (r < 2 ^ 28) ⌝ }
+{
+    value(ws[place(Form::Certificate, 10, d, 0)])
 }
 
 fn byte(x: u8) -> u32

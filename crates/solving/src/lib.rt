@@ -37,7 +37,7 @@ fn solve_in(
     let d = g.len() - 1;
     let k = table.len() - 3;
     let holds = equation::rule_three_from(v, m, g, n, e, acc, s, h, &mut table[..k], d);
-    certifying::finish(v, g, n, holds, answer)
+    certifying::finish(v, m, g, n, holds, answer)
 }
 
 // The same, with room of its own, in three sizes.

@@ -43,7 +43,7 @@ finish-requires c κs =
     let at-rule-three = c .before .before in
     let at-numerator = at-rule-three .before .before .before .before in
     let s = start at-numerator in
-    (s .pre .0 .0, (s .pre .1 .0, ((words at-numerator, whole at-numerator), (at-rule-three .rule-three .ensures, s .pre .1 .1 .1))))
+    (s .pre .0, (s .pre .1 .0, ((words at-numerator, whole at-numerator), (at-rule-three .rule-three .ensures, s .pre .1 .1 .1))))
 
 same-length : tie.Need-same-length
 same-length c = search needs

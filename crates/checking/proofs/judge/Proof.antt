@@ -7,13 +7,13 @@ use Prim.Native.Nat.{ℕ}
 use lib.ListN.{length}
 use Rattle.questions.specs.Judged.{Judged}
 use Rattle.sheet.specs.declared.Form.the-variants.{Certificate}
-use Rattle.sheet.specs.Values.{gOf, nOf}
+use Rattle.sheet.specs.Values.{gOf, nOf, abscissasOf}
 use Rattle.promises.specs.Asked.{rules-ask}
-use Rattle.checking.proofs.Coefficients.{ready, long, g-words, g-holds, n-words, n-holds}
+use Rattle.checking.proofs.Coefficients.{ready, long, g-words, g-holds, n-words, n-holds, abscissas-read}
 use Rattle.checking.proofs.judge.Statement.{statement}
 use Rattle.checking.proofs.judge.Tie as tie
 
--- ── the places: behind the coefficients of g, and behind those of N
+-- ── the places: behind the coefficients of g, behind those of N, and behind the count
 
 abbrev start : tie.After-g-coefficients → tie.Start
 start c = c .before .before .before .before .before
@@ -60,9 +60,19 @@ n-coefficients-requires c κs =
     let l = long (a .ws .now) (s .pre .0) (a .v) (a .d) (s .pre .1 .0 .0) (s .pre .1 .0 .1) in
     (omega (arith, r .prime .least), omega (arith, r .degree, s .pre .1 .0 .1), omega (arith, l, s .pre .1 .1 .1))
 
+rational-abscissas-requires : tie.Need-rational-abscissas-requires
+rational-abscissas-requires c κs =
+    let s = start (with-g (c .before .before)) in
+    let a = s .args in
+    let r = ready (a .ws .now) (s .pre .0) (a .v) (a .d) (s .pre .1 .0 .0) (s .pre .1 .0 .1) in
+    (omega (arith, r .degree, s .pre .1 .0 .1), long (a .ws .now) (s .pre .0) (a .v) (a .d) (s .pre .1 .0 .0) (s .pre .1 .0 .1))
+
+abbrev with-n : tie.After-rational-abscissas → tie.After-n-coefficients
+with-n c = c .before .before .before
+
 rules-number-requires : tie.Need-rules-number-requires
 rules-number-requires c κs =
-    let second = c .before .before .before .before in
+    let second = with-n (c .before .before) in
     let first = with-g second in
     let s = start first in
     let a = s .args in
@@ -81,17 +91,22 @@ same-length-2 c = search needs
 
 returns : tie.Need-returns
 returns c =
-    let second = c .before .before .before .before .before in
+    let count = c .before .before .before in
+    let second = with-n count in
     let first = with-g second in
     let s = start first in
-    let ws = s .args .ws .now in
+    let a = s .args in
+    let ws = a .ws .now in
+    let abscissas = count .rational-abscissas .result in
+    let count-is = abscissas-read ws (s .pre .0) (a .v) (a .d) (s .pre .1 .0 .0) (s .pre .1 .0 .1) abscissas (count .rational-abscissas .ensures .0) in
     let k = c .rules-number .result in
     record {
       g-is = g-is first;
       n-is = n-is second;
-      judged = subst (λ v. Judged (rules-ask v (gOf Certificate ws) (nOf Certificate ws)) k) (s .pre .1 .0 .0)
-          (subst (λ g. Judged (rules-ask (s .args .v) g (nOf Certificate ws)) k) (g-is first)
-          (subst (λ n. Judged (rules-ask (s .args .v) (g-read first) n) k) (n-is second) (c .rules-number .ensures)));
+      judged = subst (λ v. Judged (rules-ask v (gOf Certificate ws) (nOf Certificate ws) (abscissasOf ws)) k) (s .pre .1 .0 .0)
+          (subst (λ g. Judged (rules-ask (a .v) g (nOf Certificate ws) (abscissasOf ws)) k) (g-is first)
+          (subst (λ n. Judged (rules-ask (a .v) (g-read first) n (abscissasOf ws)) k) (n-is second)
+          (subst (λ m. Judged (rules-ask (a .v) (g-read first) (n-read second) m) k) count-is (c .rules-number .ensures))));
     }
 
 pub judge-spec : {M : Type 1} → statement M
@@ -100,6 +115,7 @@ judge-spec =
     (tie.spec
     g-coefficients-requires
     n-coefficients-requires
+    rational-abscissas-requires
     rules-number-requires
     same-length
     same-length-2

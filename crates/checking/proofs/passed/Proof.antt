@@ -9,12 +9,11 @@ use Rattle.questions.specs.Joined.{no-before, no-after, all-all}
 use Rattle.questions.specs.Judged.{judged-yes, judged-no}
 use Rattle.sheet.specs.declared.Form.the-variants.{Certificate}
 use Rattle.sheet.specs.declared.Reading.the-variants.{Accepted}
-use Rattle.sheet.specs.Values.{valuesOf, gOf, nOf}
 use Rattle.sheet.specs.Asked.{asked}
 use Rattle.sheet.specs.Ready.{Ready}
 use Rattle.sheet.specs.Ready as R
 use Rattle.sheet.specs.Reading.{Right}
-use Rattle.promises.specs.Asked.{rules-ask}
+use Rattle.promises.specs.Asked.{certificate-rules}
 use Rattle.checking.proofs.Coefficients.{front-g, front-n}
 use Rattle.checking.proofs.passed.Statement.{statement}
 use Rattle.checking.proofs.passed.Tie as tie
@@ -95,7 +94,7 @@ returns c =
     let told = c .before .read2 .given in
     let read = c .before .before .before in
     let ws = read .before .before .before .before .args .ws .now in
-    no-before (asked Certificate ws) (rules-ask (valuesOf Certificate ws) (gOf Certificate ws) (nOf Certificate ws)) (told .0 .0)
+    no-before (asked Certificate ws) (certificate-rules ws) (told .0 .0)
     (subst (Right Certificate ws) (told .1) (read .read .ensures))
 
 same-length : tie.Need-same-length
@@ -113,7 +112,7 @@ returns-2 c =
     let a = start known .args in
     let ws = a .ws .now in
     let d = known .half-degree .result in
-    let asks = rules-ask (valuesOf Certificate ws) (gOf Certificate ws) (nOf Certificate ws) in
+    let asks = certificate-rules ws in
     record {
       all = all-all (asked Certificate ws) asks (right .0) (judged-yes asks (judge .judge .result) (judge .judge .ensures .judged) (c .if1 .taken));
       values = right .1;
@@ -132,7 +131,7 @@ returns-3 c =
     let judge = judged (c .before) in
     let known = half-known judge in
     let ws = start known .args .ws .now in
-    let asks = rules-ask (valuesOf Certificate ws) (gOf Certificate ws) (nOf Certificate ws) in
+    let asks = certificate-rules ws in
     no-after (asked Certificate ws) asks (judge .judge .result) (accepted known .0)
     (judged-no asks (judge .judge .result) (judge .judge .ensures .judged) (c .if1 .left))
 

@@ -135,9 +135,11 @@ finish-requires : tie.Need-finish-requires
 finish-requires c κs =
     let at-rule-three-from = c .before .before .before .before .before .before .before .before .before .before .before .before .before in
     let at-numerator = at-rule-three-from .before .before .before .before .before .before .before .before .before .before in
-    let at-candidate = at-numerator .before .before .before .before .before .before .before .before .before .before .before .before .before .before in
-    let s = start at-candidate in (
-      s .pre .0,
+    let at-modulus = at-numerator .before .before .before in
+    let at-candidate = at-modulus .before .before .before .before .before .before .before .before .before .before .before in
+    let s = start at-candidate in
+    let m = at-modulus .modulus .ensures in (
+      (s .pre .0, record { prepared = m .1; same = m .0 }),
       (
         (g-words at-candidate, at-candidate .candidate .ensures .r1),
         ((n-words at-numerator, n-is at-numerator), (at-rule-three-from .rule-three-from .ensures, s .pre .1 .1 .1 .2)),
@@ -196,8 +198,7 @@ returns c =
     let s = start at-candidate in
     let made = at-candidate .candidate in
     solved (s .args .v) (made .last .1 .1 .0) (made .last .1 .1 .1 .0) (made .last .1 .1 .1 .1 .1 .0) (s .args .answer .now)
-    (at-finish .finish .last .1 .1 .1 .1 .0)
-    (made .ensures) (at-finish .finish .result) (at-finish .finish .ensures)
+    (at-finish .finish .last .1 .1 .1 .1 .1 .0) (made .ensures) (at-finish .finish .result) (at-finish .finish .ensures)
 
 pub solve-in-spec : {M : Type 1} → statement M
 solve-in-spec = tie.close (tie.spec candidate-requires modulus-requires numerator-requires sub-d sub-k slice-relend-prefix-rule-three-from
