@@ -43,10 +43,12 @@ for fault in $faults; do must_find "$fault" --quick; done
 # What the quick form leaves out.
 must_find divisors-below-root --only 'every p'
 # Where every answer is taken for right, the watch on certificates has to do without expectations.
-watched=$(printf '%s\n' "$faults" | grep '^factor-') || fail "there is no fault for the watch on certificates"
-for fault in $watched; do
-    must_find "$fault" --quick --watch-only
-    grep -q '^  certificate: gcd(g, ' "$log" || fail "$fault: it was not the watch that found it"
+for watched in 'factor- gcd(g, ' 'counted- [0-9]* abscissas are rational, and not '; do
+    named=$(printf '%s\n' "$faults" | grep "^${watched%% *}") || fail "there is no fault ${watched%% *} for the watch on certificates"
+    for fault in $named; do
+        must_find "$fault" --quick --watch-only
+        grep -q "^  certificate: ${watched#* }" "$log" || fail "$fault: it was not the watch that found it"
+    done
 done
 SAGEPLIERS_FAULT=push-negative "$compare" --quick --watch-only >"$log" 2>&1 || fail "--watch-only compares points"
 # A library that refuses everything leaves nothing to watch.

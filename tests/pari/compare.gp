@@ -33,8 +33,11 @@ free(F, G, N, l) = {
   if (reduced(N / G^2) != [N, G^2] || poldegree(N) != l, differs(["lowest terms", here]));
 };
 
-\\ The domain (a, b), the codomain (at, bt), sigma, g and N over p: codomain, numerators of both coordinates and kernel polynomial.
-isogeny(p, a, b, at, bt, l, sigma, g, n) = {
+\\ Request E6: polrootsmod lists each root once.
+counted(G, p, count) = if (#polrootsmod(G, p) != count, differs(["rational abscissas", here, count]));
+
+\\ The domain (a, b), the codomain (at, bt), sigma, g, N and the count over p: codomain, numerators of both coordinates, kernel polynomial and its roots.
+isogeny(p, a, b, at, bt, l, sigma, g, n, count) = {
   my(one = Mod(1, p), G = Polrev(g) * one, N = Polrev(n) * one, E = ellinit([a, b], p), R = ellisogeny(E, G), W);
   isogenies++;
   here = [p, a, b, l];
@@ -47,6 +50,7 @@ isogeny(p, a, b, at, bt, l, sigma, g, n) = {
   if (map[2] != y * W, differs(["numerator of y", here]));
   if (-2 * polcoef(G, (l - 3) / 2) != sigma * one, differs(["sigma", here]));
   free((x^3 + a * x + b) * one, G, N, l);
+  counted(G, p, count);
 };
 
 \\ The point P must go to Q through the last isogeny.
@@ -59,7 +63,7 @@ goes(P, Q) = {
 
 \\ A certificate with l = p + 2: R1 to R3 hold, and g is a power of a factor x - r of f. The map is PARI's isogeny of degree 2 with the kernel polynomial
 \\ x - r, and these are the greatest common divisors.
-beyond(p, a, b, at, bt, l, sigma, g, n) = {
+beyond(p, a, b, at, bt, l, sigma, g, n, count) = {
   my(one = Mod(1, p), G = Polrev(g) * one, N = Polrev(n) * one, F = (x^3 + a * x + b) * one, d = (l - 1) / 2, W, H, R);
   refused++;
   here = [p, a, b, l];
@@ -70,17 +74,20 @@ beyond(p, a, b, at, bt, l, sigma, g, n) = {
   H = gcd(G, F) / pollead(gcd(G, F));
   R = ellisogeny(ellinit([a, b], p), H);
   if (poldegree(H) != 1 || G != H^d || issquarefree(G), differs(["a power of x - r", here]));
+  counted(G, p, count);
   if (gcd(G, deriv(G)) % H^(d - 1) != 0 || poldegree(gcd(G, deriv(G))) != d - 1 || N % G != 0, differs(["common factors", here]));
   if (coprime(G, deriv(G)) || coprime(G, F) || coprime(G, N), differs(["coprime beyond question 4", here]));
   if (R[1] != [0, 0, 0, at, bt] * one || R[2][1] / R[2][3]^2 != N / G^2, differs(["isogeny of degree 2", here]));
   if (apply(poldegree, reduced(N / G^2)) != [2, 1], differs(["lowest terms beyond question 4", here]));
 };
 
-\\ The parts of N, for a g that may be anything.
-parts(p, a, b, l, sigma, g, list) = {
-  my(one = Mod(1, p));
+\\ The parts of N and the count, for a g that may be anything.
+parts(p, a, b, l, sigma, g, list, count) = {
+  my(one = Mod(1, p), G = Polrev(g) * one);
   sums++;
-  if (terms(a, b, l, sigma, Polrev(g) * one) != apply(part -> Polrev(part) * one, list), differs(["parts", p, a, b, l, g]));
+  here = [p, a, b, l, g];
+  if (terms(a, b, l, sigma, G) != apply(part -> Polrev(part) * one, list), differs(["parts", here]));
+  counted(G, p, count);
 };
 
 name(p, a, b, j) = {

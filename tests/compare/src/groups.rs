@@ -10,6 +10,7 @@ pub mod limits;
 pub mod numerator;
 pub mod points;
 pub mod primes;
+pub mod rational;
 pub mod reduction;
 pub mod repetition;
 pub mod search;
@@ -57,6 +58,10 @@ fn by_document(quick: bool) -> Vec<Group> {
         group("points", points::run),
         group("numerator", move |judge| numerator::run(judge, quick)),
         group("repetition", move |judge| repetition::run(judge, quick)),
+        group("rational", move |judge| rational::run(judge, quick)),
+        group("rational, every g", move |judge| {
+            rational::every(judge, quick)
+        }),
     ]
 }
 

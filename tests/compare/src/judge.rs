@@ -1,7 +1,7 @@
 //! Puts calls to the library and compares everything it may touch: the
 //! returned number, every word of the answer buffer, the words around it, and
 //! the sheet, which must stay as it was. Certificates that it writes or lets pass
-//! are watched as request E12 wants.
+//! are watched as requests E12 and E6 want.
 
 use std::sync::atomic::{AtomicBool, AtomicU64, Ordering};
 use std::time::{Duration, Instant};

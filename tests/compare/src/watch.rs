@@ -1,11 +1,13 @@
-//! Request E12, watched on every certificate that the library writes or lets pass,
-//! whatever was expected: g is prime to its derivative, to f and to N. It is read from
-//! the words with any odd degree, so that a wrong question 4 shows here too.
+//! Requests E12 and E6, watched on every certificate that the library writes or lets
+//! pass, whatever was expected: g is prime to its derivative, to f and to N, and the
+//! count of rational abscissas is that of g. It is read from the words with any odd
+//! degree, so that a wrong question 4 shows here too.
 
 use std::collections::{BTreeSet, HashSet};
 
+use reference::rational;
 use reference::repetition::{common_factors, read_any_degree};
-use reference::sheet::{Certificate, Refusal};
+use reference::sheet::{half, value, Certificate, Refusal};
 
 /// The entries that write certificates or let them pass.
 pub const ENTRIES: [&str; 4] = ["check", "push", "solve", "kernel"];
@@ -15,7 +17,7 @@ pub struct Watch {
     /// How often each entry wrote a certificate or let one pass.
     counts: [u64; ENTRIES.len()],
     /// The words of those that were found in order, to be worked out once for a group.
-    free: HashSet<Vec<u32>>,
+    sound: HashSet<Vec<u32>>,
     degrees: BTreeSet<u64>,
 }
 
@@ -25,7 +27,7 @@ impl Watch {
     pub fn look(&mut self, entry: &str, words: Result<&[u32], &Refusal>) -> Vec<String> {
         let place = ENTRIES.iter().position(|&name| name == entry);
         self.counts[place.expect("an entry with certificates")] += 1;
-        if words.is_ok_and(|words| self.free.contains(words)) {
+        if words.is_ok_and(|words| self.sound.contains(words)) {
             return Vec::new();
         }
         let mut found = match words.map_err(|&number| number).and_then(read_any_degree) {
@@ -41,11 +43,18 @@ impl Watch {
     fn look_at(&mut self, certificate: &Certificate) -> Vec<String> {
         let common = common_factors(certificate);
         let not_one = common.iter().filter(|(_, gcd)| gcd.coefficients() != [1]);
-        let found: Vec<String> = not_one
+        let mut found: Vec<String> = not_one
             .map(|(other, gcd)| format!("gcd(g, {other}) is {:x?}", gcd.coefficients()))
             .collect();
+        let (claimed, (g, _)) = (certificate.rational, certificate.polynomials());
+        let rational = rational::count(&g);
+        if claimed != rational {
+            found.push(format!(
+                "{rational} abscissas are rational, and not {claimed}"
+            ));
+        }
         if found.is_empty() {
-            self.free.insert(certificate.words());
+            self.sound.insert(certificate.words());
             self.degrees.insert(certificate.question.l);
         }
         found
@@ -54,11 +63,27 @@ impl Watch {
     pub fn merge(&mut self, other: Watch) {
         let counts = self.counts.iter_mut().zip(other.counts);
         counts.for_each(|(sum, count)| *sum += count);
-        self.free.extend(other.free);
+        self.sound.extend(other.sound);
         self.degrees.extend(other.degrees);
     }
 
-    /// One line: how many there were, and which degrees they have.
+    /// Of how many different ones none, some and all abscissas are rational.
+    fn shares(&self) -> [usize; 3] {
+        let mut shares = [0; 3];
+        for words in &self.sound {
+            let d = half(value(words[5])) as u64;
+            let place = match value(words[words.len() - 2]) {
+                0 => 0,
+                rational if rational < d => 1,
+                _ => 2,
+            };
+            shares[place] += 1;
+        }
+        shares
+    }
+
+    /// One line: how many there were, which degrees they have, and of how many none, some
+    /// and all abscissas are rational.
     pub fn line(&self) -> String {
         let by_entry = ENTRIES.iter().zip(self.counts);
         let by_entry: Vec<String> = by_entry.map(|(name, n)| format!("{name} {n}")).collect();
@@ -67,16 +92,20 @@ impl Watch {
             Some((first, last)) => format!("{} degrees from {first} to {last}", self.degrees.len()),
             None => "no degree".to_string(),
         };
+        let [none, some, all] = self.shares();
         format!(
-            "certificates: {}; {} different ones looked at, of {degrees}",
+            "certificates: {}; {} different ones looked at, of {degrees}; \
+            no abscissa rational in {none}, some in {some}, all in {all}",
             by_entry.join(", "),
-            self.free.len()
+            self.sound.len()
         )
     }
 
-    /// Whether every entry had certificates, and in the full form every odd degree.
+    /// Whether every entry had certificates, with none, some and all abscissas rational,
+    /// and in the full form every odd degree.
     pub fn is_complete(&self, quick: bool) -> bool {
         let all = (3..=255).step_by(2).all(|l| self.degrees.contains(&l));
-        self.counts.iter().all(|&count| count > 0) && (quick || all) && !self.free.is_empty()
+        let shares = self.shares().iter().all(|&count| count > 0);
+        self.counts.iter().all(|&count| count > 0) && (quick || all) && shares
     }
 }

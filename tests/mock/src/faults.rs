@@ -3,6 +3,7 @@
 
 mod numerator;
 mod primes;
+mod rational;
 mod reduction;
 mod repetition;
 
@@ -123,7 +124,8 @@ pub const FAULTS: &[(&str, Fault)] = &[
     ("degree-bound", Fault::Output(degree_bound)),
     ("degree-255", Fault::Output(degree_255)),
     ("room-ignored", Fault::Input(room_ignored)),
-    ("room-above-392", Fault::Input(room_above_392)),
+    ("room-above-393", Fault::Input(room_above_393)),
+    ("room-392", Fault::Input(room_392)),
     ("sigma-once", Fault::Output(sigma_once)),
     ("r2-not-asked", Fault::Output(r2_not_asked)),
     ("second-part-plus", Fault::Output(numerator::second_plus)),
@@ -174,6 +176,71 @@ pub const FAULTS: &[(&str, Fault)] = &[
         Fault::Output(repetition::of_n_written),
     ),
     ("factor-beyond-4", Fault::Output(repetition::beyond_4)),
+    ("counted-one-more", Fault::Output(rational::one_more)),
+    ("counted-one-less", Fault::Output(rational::one_less)),
+    ("counted-none", Fault::Output(rational::none)),
+    ("counted-all", Fault::Output(rational::all)),
+    ("counted-no-roots", Fault::Output(rational::not_roots)),
+    ("counted-without-0", Fault::Output(rational::without_zero)),
+    ("counted-squares", Fault::Output(rational::squares)),
+    (
+        "counted-square-values",
+        Fault::Output(rational::square_values),
+    ),
+    ("counted-with-plus", Fault::Output(rational::with_plus)),
+    ("counted-half-power", Fault::Output(rational::half_power)),
+    (
+        "counted-with-27-bits",
+        Fault::Output(rational::power_of_27_bits),
+    ),
+    (
+        "counted-power-less-1",
+        Fault::Output(rational::power_less_1),
+    ),
+    (
+        "counted-to-a-constant",
+        Fault::Output(rational::stopped_at_constant),
+    ),
+    (
+        "counted-half-way",
+        Fault::Output(rational::stopped_half_way),
+    ),
+    (
+        "multiplicities-counted",
+        Fault::Output(rational::with_multiplicity),
+    ),
+    (
+        "rational-written-wrong",
+        Fault::Output(rational::written_wrong),
+    ),
+    ("rational-unasked", Fault::Output(rational::unasked)),
+    (
+        "rational-bounded-by-p",
+        Fault::Output(rational::bounded_by_p),
+    ),
+    (
+        "rational-bounded-by-d",
+        Fault::Output(rational::bounded_by_d),
+    ),
+    ("rational-reduced", Fault::Output(rational::reduced)),
+    ("rational-in-8-bits", Fault::Output(rational::in_8_bits)),
+    ("rational-in-16-bits", Fault::Output(rational::in_16_bits)),
+    (
+        "rational-unasked-by-push",
+        Fault::Output(rational::unasked_by_push),
+    ),
+    ("rational-without-n", Fault::Output(rational::without_n)),
+    ("rational-after-10", Fault::Output(rational::after_10)),
+    ("rational-before-8", Fault::Output(rational::before_8)),
+    ("rational-below-p", Fault::Output(rational::below_p)),
+    ("rational-number-10", Fault::Output(rational::number_10)),
+    ("rational-missing", Fault::Input(rational::missing)),
+    ("rational-twice", Fault::Input(rational::twice)),
+    ("rational-before-n", Fault::Input(rational::before_n)),
+    ("rational-of-any-kind", Fault::Input(rational::of_any_kind)),
+    ("rational-not-written", Fault::Output(rational::not_written)),
+    ("words-after-393", Fault::Input(words_after_393)),
+    ("words-to-392", Fault::Output(words_to_392)),
     ("r3-not-asked", Fault::Output(r3_not_asked)),
     ("r3-to-degree-2l", Fault::Output(r3_to_degree_2l)),
     ("r3-highest-only", Fault::Output(r3_highest_only)),
@@ -325,7 +392,7 @@ fn order_5_6(call: &Call, reply: Reply) -> Reply {
     let count = words(call).len();
     let also = match call {
         Call::Solve { .. } => count != 8,
-        Call::Check { .. } => count != 3 * (first(call, L) as usize / 2) + 11,
+        Call::Check { .. } => count != 3 * (first(call, L) as usize / 2) + 12,
         _ => false,
     };
     instead(call, reply, 5, 6, also)
@@ -372,6 +439,28 @@ fn words_after_end(call: Call) -> Call {
             words.truncate(end + 1);
         }
     })
+}
+
+/// The entries that take bytes look at no more words than the longest certificate has.
+fn words_after_393(call: Call) -> Call {
+    match call {
+        Call::Check { .. } | Call::Push { .. } => {
+            with_words(call, |words| words.truncate(sheet::LARGEST_CERTIFICATE))
+        }
+        _ => call,
+    }
+}
+
+/// They take a certificate for too long that was so before request E6.
+fn words_to_392(call: &Call, reply: Reply) -> Reply {
+    let long = words(call).len() == sheet::LARGEST_CERTIFICATE;
+    let bytes = matches!(call, Call::Check { .. } | Call::Push { .. });
+    let earlier = (1..6).contains(&refusal(call, &reply));
+    if long && bytes && !earlier {
+        call.refusal(6)
+    } else {
+        reply
+    }
 }
 
 fn end_value(call: Call) -> Call {
@@ -451,8 +540,13 @@ fn room_ignored(call: Call) -> Call {
     with_room(call, |_| sheet::LARGEST_CERTIFICATE)
 }
 
-fn room_above_392(call: Call) -> Call {
-    with_room(call, |room| if room == 392 { 391 } else { room })
+fn room_above_393(call: Call) -> Call {
+    with_room(call, |room| if room == 393 { 392 } else { room })
+}
+
+/// The room of before request E6.
+fn room_392(call: Call) -> Call {
+    with_room(call, |room| if room == 392 { 393 } else { room })
 }
 
 // Rules R1 to R3.
@@ -473,7 +567,8 @@ fn sigma_once(call: &Call, reply: Reply) -> Reply {
 }
 
 fn r2_not_asked(call: &Call, reply: Reply) -> Reply {
-    let Some(c) = certificate(call).filter(|_| refusal(call, &reply) == 9) else {
+    let refused = certificate(call).filter(|_| refusal(call, &reply) == 9);
+    let Some(c) = refused.filter(rational::is_right) else {
         return reply;
     };
     let holds = R3::of(&c).holds(c.question.a_t, c.question.b_t);

@@ -4,7 +4,8 @@
 //! a point, multiplications by m, and duals. Half of the sheets have values of any
 //! size, which PARI is given as they stand and reduces by its own means too. N is
 //! also put for any g, in the parts of the reference, and with l = p + 2 certificates
-//! that question 4 alone refuses. Usage: pari SCRIPT
+//! that question 4 alone refuses. With each g goes the count of its rational abscissas.
+//! Usage: pari SCRIPT
 
 #[path = "../../compare/src/entries.rs"]
 mod entries;
@@ -20,7 +21,7 @@ use reference::marked;
 use reference::poly::Poly;
 use reference::primes::{next_prime, previous_prime, sieve};
 use reference::random::Random;
-use reference::repetition::{curve_with_root, power_of_root};
+use reference::repetition::{curve_with_root, power_of_root, with_repeated_factor};
 use reference::rules;
 use reference::services::{self, Point};
 use reference::sheet::{self, value, Certificate, KernelSheet, Question};
@@ -115,6 +116,8 @@ struct Script {
     /// Numbers of which question 3 was asked.
     numbers: u64,
     solved: usize,
+    /// Isogenies with none, some and all abscissas in the field.
+    shares: [usize; 3],
     degrees: std::collections::BTreeSet<u64>,
     primes: std::collections::BTreeSet<u64>,
     /// Differences that show without PARI.
@@ -174,21 +177,28 @@ impl Script {
     }
 
     /// A line that calls PARI's function with what a certificate has.
-    fn certified(&mut self, function: &str, q: &Question, g: &[u64], n: &[u64]) {
-        let (g, n) = (list(g), list(n));
+    fn certified(&mut self, function: &str, certificate: &Certificate) {
+        let q = &certificate.question;
+        let (g, n) = (list(&certificate.g), list(&certificate.n));
         self.line(format!(
-            "{function}({},{},{},{},{},{},{},{g},{n});",
-            q.p, q.a, q.b, q.a_t, q.b_t, q.l, q.sigma
+            "{function}({},{},{},{},{},{},{},{g},{n},{});",
+            q.p, q.a, q.b, q.a_t, q.b_t, q.l, q.sigma, certificate.rational
         ));
     }
 
     /// What PARI is to find for the domain and the kernel polynomial. What was asked
     /// stands as on its sheet, what was answered as in the certificate.
-    fn isogeny(&mut self, q: &Question, g: &[u64], n: &[u64]) {
-        self.certified("isogeny", q, g, n);
+    fn isogeny(&mut self, certificate: &Certificate) {
+        self.certified("isogeny", certificate);
         self.isogenies += 1;
-        self.degrees.insert(q.l);
-        self.primes.insert(q.p);
+        self.degrees.insert(certificate.question.l);
+        self.primes.insert(certificate.question.p);
+        let d = certificate.question.d() as u64;
+        self.shares[match certificate.rational {
+            0 => 0,
+            rational if rational < d => 1,
+            _ => 2,
+        }] += 1;
     }
 
     fn push(&mut self, words: &[u32], point: Point) {
@@ -223,49 +233,54 @@ impl Script {
             if numbers != [4; 4] {
                 self.difference(format!("{numbers:?} and not 4 for {certificate:?}"));
             }
-            let (g, n) = (&certificate.g, &certificate.n);
-            self.certified("beyond", &certificate.question, g, n);
+            self.certified("beyond", &certificate);
             self.beyond += 1;
         }
     }
 
-    /// What PARI is to find for the terms of formula (13).
-    fn parts(&mut self, q: &Question, g: &[u64], parts: &[Vec<u64>; 3]) {
+    /// What PARI is to find for the terms of formula (13), and for the roots of g.
+    fn parts(&mut self, certificate: &Certificate, parts: &[Vec<u64>; 3]) {
         let parts = parts.each_ref().map(|part| list(part)).join(",");
         let Question {
             p, a, b, l, sigma, ..
-        } = q;
-        let g = list(g);
-        self.line(format!("parts({p},{a},{b},{l},{sigma},{g},[{parts}]);"));
+        } = certificate.question;
+        let (g, rational) = (list(&certificate.g), certificate.rational);
+        self.line(format!(
+            "parts({p},{a},{b},{l},{sigma},{g},[{parts}],{rational});"
+        ));
         self.sums += 1;
     }
 
-    /// Document 02's parts; then those of any g of every degree, whose sum the
-    /// library must let pass question 9, though R3 fails for nearly all of them.
+    /// Document 02's parts; then those of any g of every degree, and of some with a
+    /// repeated factor. Their sum and the count of their roots the library must let pass
+    /// question 9, though R3 fails for nearly all of them.
     fn numerators(&mut self, random: &mut Random) {
         let first = marked::first();
-        self.parts(&first.question, &first.g, &marked::PARTS.map(Vec::from));
+        self.parts(&first, &marked::PARTS.map(Vec::from));
         for p in [11, 13, 1009, 65_521, 268_435_399] {
             for l in (3..=255).filter(|&l| sheet::ask_degree(l, p).is_ok()) {
-                self.numerator(random, p, l);
+                let (field, d) = (Field::new(p), sheet::half(l));
+                let any = random_monic(random, field, d);
+                self.numerator(random, l, &any);
+                for g in with_repeated_factor(random, field, d) {
+                    self.numerator(random, l, &g);
+                }
             }
         }
     }
 
-    fn numerator(&mut self, random: &mut Random, p: u64, l: u64) {
-        let d = sheet::half(l);
-        let mut question = generate::random_question(random, p, l);
-        let g = random_monic(random, question.field(), d);
-        question.sigma = rules::sigma(&g, d);
-        let parts = rules::parts(question.a, question.b, l, question.sigma, &g);
+    fn numerator(&mut self, random: &mut Random, l: u64, g: &Poly) {
+        let mut question = generate::random_question(random, g.field().p(), l);
+        question.sigma = rules::sigma(g, sheet::half(l));
+        let parts = rules::parts(question.a, question.b, l, question.sigma, g);
         let sum = parts[0].add(&parts[1]).add(&parts[2]);
-        let certificate = services::certificate(question, &g, &sum);
+        let certificate = services::certificate(question, g, &sum);
         let checked = entries::check(&certificate.bytes());
         if checked != 10 && checked != 0 {
             self.difference(format!("check gives {checked} to {certificate:?}"));
         }
         let parts = parts.map(|part| part.padded(certificate.n.len()));
-        self.parts(&certificate.question, &certificate.g, &parts);
+        self.parts(&certificate, &parts);
     }
 
     fn name(&mut self, p: u64, a: u64, b: u64) {
@@ -320,12 +335,12 @@ impl Script {
         let Some(words) = self.answer("solve", |answer| entries::solve(&asked, answer)) else {
             return;
         };
-        if let Some(dual) = self.certificate("solve", &words) {
+        if let Some(mut dual) = self.certificate("solve", &words) {
             if dual.question != question {
                 self.difference(format!("solve answers another question than {asked:08x?}"));
             }
-            let values = std::array::from_fn(|i| value(asked[i]));
-            self.isogeny(&Question::of(values), &dual.g, &dual.n);
+            dual.question = Question::of(std::array::from_fn(|i| value(asked[i])));
+            self.isogeny(&dual);
             self.solved += 1;
         }
     }
@@ -354,13 +369,13 @@ impl Script {
         if checked != 0 {
             self.difference(format!("check refuses what kernel wrote with {checked}"));
         }
-        let mut question = certificate.question.clone();
-        (question.a, question.b) = (value(asked[1]), value(asked[2]));
-        let g: Vec<u64> = asked[4..asked.len() - 1]
+        let mut as_asked = certificate.clone();
+        (as_asked.question.a, as_asked.question.b) = (value(asked[1]), value(asked[2]));
+        as_asked.g = asked[4..asked.len() - 1]
             .iter()
             .map(|&w| value(w))
             .collect();
-        self.isogeny(&question, &g, &certificate.n);
+        self.isogeny(&as_asked);
         for _ in 0..POINTS {
             let on_domain = curve.random_point(random);
             self.push(&words, on_domain);
@@ -413,11 +428,13 @@ fn main() -> ExitCode {
     writeln!(script.text, "finish({counts});").expect("a string takes any text");
     std::fs::write(&path, &script.text).unwrap_or_else(|e| panic!("{path}: {e}"));
     let (degrees, primes) = (script.degrees.len(), script.primes.len());
+    let [none, some, all] = script.shares;
     println!(
-        "{isogenies} kernels of {degrees} degrees over {primes} primes, {} questions solved",
+        "{isogenies} kernels of {degrees} degrees over {primes} primes, {none} with no, {some} with \
+        some and {all} with all abscissas rational, {} questions solved",
         script.solved
     );
-    if degrees != 127 || script.differences != 0 {
+    if degrees != 127 || script.shares.contains(&0) || script.differences != 0 {
         eprintln!(
             "{} differences before PARI, {degrees} of 127 degrees",
             script.differences

@@ -219,6 +219,8 @@ pub fn rescale(certificate: &Certificate, c: u64) -> Certificate {
         },
         g: scale_all(&certificate.g),
         n: scale_all(&certificate.n),
+        // The roots are multiplied by c^2.
+        rational: certificate.rational,
     }
 }
 

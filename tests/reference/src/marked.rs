@@ -1,14 +1,15 @@
 //! The rows of "The marked sheets and their neighbours" in document 01, and
 //! the output that it prints. Every expectation is copied from there; where it
 //! prints a g but no N, N is taken from R2. The parts of N are document 02's, and so
-//! is what became of A = p.
+//! are what became of A = p, the room of 393 words and the first sheet's count of
+//! rational abscissas; the other counts are those that PARI/GP gives.
 
 use crate::call::{point_number, Call, Reply};
 use crate::field::Field;
 use crate::poly::Poly;
 use crate::rules;
-use crate::services::{self, Point};
-use crate::sheet::{word, Certificate, KernelSheet, Question, B, END, P};
+use crate::services::Point;
+use crate::sheet::{word, Certificate, KernelSheet, Question, B, END, P, RATIONAL};
 
 pub struct Row {
     pub name: &'static str,
@@ -16,20 +17,26 @@ pub struct Row {
     pub reply: Reply,
 }
 
-/// What the answer program prints for the first question.
-pub const PRINTED: [&str; 14] = [
+/// What the answer program prints for the first question, with the word of request E6.
+pub const PRINTED: [&str; 15] = [
     "100003f1", "20000001", "30000003", "40000109", "5000036d", "60000003", "7000002e", "800003da",
-    "80000001", "900003b5", "900002a6", "900003c3", "90000001", "f0000000",
+    "80000001", "900003b5", "900002a6", "900003c3", "90000001", "a0000001", "f0000000",
 ];
 
 /// Request E5: the parts of N for the first question.
 pub const PARTS: [[u64; 4]; 3] = [[891, 676, 825, 3], [46, 1007, 138, 1003], [12, 4, 0, 4]];
 
-/// Coefficients from the constant term up, of any sign.
+/// Coefficients from the constant term up, of any sign; one rational abscissa, as
+/// every g has that is printed.
 fn certificate(values: [u64; 7], g: &[i64], n: &[i64]) -> Certificate {
     let question = Question::of(values);
-    let field = question.field();
-    services::certificate(question, &Poly::of(field, g), &Poly::of(field, n))
+    let (field, d) = (question.field(), question.d());
+    Certificate {
+        question,
+        g: Poly::of(field, g).padded(d + 1),
+        n: Poly::of(field, n).padded(2 * d + 2),
+        rational: 1,
+    }
 }
 
 pub fn first() -> Certificate {
@@ -39,10 +46,10 @@ pub fn first() -> Certificate {
 
 /// Degree 9; its kernel is not cyclic.
 pub fn not_cyclic() -> Certificate {
-    let question = Question::of([1009, 1, 3, 81, 169, 9, 0]);
-    let g = Poly::of(Field::new(1009), &[336, 12, 2, 0, 1]);
-    let n = rules::r2(1, 3, 9, 0, &g);
-    services::certificate(question, &g, &n)
+    let g = [336, 12, 2, 0, 1];
+    let n = rules::r2(1, 3, 9, 0, &Poly::of(Field::new(1009), &g));
+    let n: Vec<i64> = n.coefficients().iter().map(|&c| c as i64).collect();
+    certificate([1009, 1, 3, 81, 169, 9, 0], &g, &n)
 }
 
 pub fn smallest() -> Certificate {
@@ -58,6 +65,7 @@ pub fn rows() -> Vec<Row> {
     let mut rows = marked();
     rows.extend(neighbours());
     rows.extend(unreduced());
+    rows.extend(rational());
     rows
 }
 
@@ -134,13 +142,13 @@ fn neighbours() -> Vec<Row> {
         &[-23, 2],
         &[949, 678, 963, 1],
     );
-    let tight = Call::Solve {
+    let tight = |room: usize| Call::Solve {
         sheet: first().question.words(),
-        room: 391,
+        room,
     };
-    let tight_kernel = Call::Kernel {
+    let tight_kernel = |room: usize| Call::Kernel {
         sheet: first().kernel_sheet().words(),
-        room: 391,
+        room,
     };
     vec![
         unsolved("p = 1001", [1001, 1, 3, 265, 877, 3, 46], 3),
@@ -167,10 +175,16 @@ fn neighbours() -> Vec<Row> {
             Call::kernel(&kernel_sheet(1009, 1, 3, 3, &[-23, 2])),
             Reply::refused(8),
         ),
-        row("a buffer of 391", tight, Reply::refused(1)),
+        row("a buffer of 391", tight(391), Reply::refused(1)),
+        row("a buffer of 392", tight(392), Reply::refused(1)),
         row(
-            "a buffer of 391 for kernel",
-            tight_kernel,
+            "a buffer of 393",
+            tight(393),
+            Reply::written(first().words()),
+        ),
+        row(
+            "a buffer of 392 for kernel",
+            tight_kernel(392),
             Reply::refused(1),
         ),
         row(
@@ -218,5 +232,57 @@ fn unreduced() -> Vec<Row> {
         ),
         checked("a = p on a certificate", &large, 5),
         row("a = p for name", large_name, Reply::refused(5)),
+    ]
+}
+
+/// Request E6: a count of any size that is not the right one gets 9, the word in
+/// another place, or another number of times, gets 6.
+fn rational() -> Vec<Row> {
+    let changed = |change: fn(&mut Vec<u32>)| {
+        let mut words = first().words();
+        change(&mut words);
+        Call::check(&words)
+    };
+    let claims = |rational: u64| {
+        let certificate = Certificate {
+            rational,
+            ..first()
+        };
+        Call::check(&certificate.words())
+    };
+    let mut wrong_n = first();
+    (wrong_n.n[0], wrong_n.rational) = (950, 0);
+    let mut wrong_codomain = first();
+    (wrong_codomain.question.b_t, wrong_codomain.rational) = (878, 2);
+    vec![
+        row("count 0", claims(0), Reply::number(9)),
+        row("count 2", claims(2), Reply::number(9)),
+        row("count p", claims(1009), Reply::number(9)),
+        row("count p + 1", claims(1010), Reply::number(9)),
+        row("count 2^28 - 1", claims((1 << 28) - 1), Reply::number(9)),
+        checked("N and count wrong", &wrong_n, 9),
+        checked("codomain and count wrong", &wrong_codomain, 9),
+        row(
+            "without the count",
+            changed(|words| {
+                words.remove(13);
+            }),
+            Reply::number(6),
+        ),
+        row(
+            "the count twice",
+            changed(|words| words.insert(13, word(RATIONAL, 1))),
+            Reply::number(6),
+        ),
+        row(
+            "the count before N",
+            changed(|words| words[9..14].rotate_right(1)),
+            Reply::number(6),
+        ),
+        row(
+            "the count after the end",
+            changed(|words| words.swap(13, 14)),
+            Reply::number(6),
+        ),
     ]
 }

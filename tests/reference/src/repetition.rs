@@ -9,7 +9,7 @@ use crate::poly::Poly;
 use crate::random::Random;
 use crate::rules;
 use crate::services;
-use crate::sheet::{self, Certificate, Question, Reading, Refusal, G, N, QUESTION_HEAD};
+use crate::sheet::{self, Certificate, Question, Reading, Refusal, QUESTION_HEAD};
 
 /// What g is held against, each with the greatest common divisor.
 pub type CommonFactors = [(&'static str, Poly); 3];
@@ -44,9 +44,7 @@ pub fn read_any_degree(words: &[u32]) -> Result<Certificate, Refusal> {
     let reading = Reading::Strict;
     let [a, b, a_t, b_t, sigma] = sheet::ask_values([a, b, a_t, b_t, sigma], p, reading)?;
     let question = Question::of([p, a, b, a_t, b_t, l, sigma]);
-    let runs = [(G, question.d() + 1), (N, 2 * question.d() + 2)];
-    let [g, n] = sheet::ask_rest(&words[QUESTION_HEAD.len()..], runs, p, reading)?;
-    Ok(Certificate { question, g, n })
+    Certificate::read_rest(words, question, reading)
 }
 
 /// Over p with l = p + 2, which question 4 refuses. For a root r of f the power
@@ -64,12 +62,6 @@ pub fn power_of_root(curve: &Curve, root: u64) -> Certificate {
     let (l, sigma) = (k.p() + 2, rules::sigma(&g, exponent));
     let n = rules::r2(a, b, l, sigma, &g);
     services::certificate(Question::of([k.p(), a, b, a_t, b_t, l, sigma]), &g, &n)
-}
-
-/// The roots of a polynomial in a small field, by trying each element.
-pub fn roots(poly: &Poly) -> Vec<u64> {
-    let all = 0..poly.field().p();
-    all.filter(|&u| poly.value(u) == 0).collect()
 }
 
 /// A curve for which f has this root.

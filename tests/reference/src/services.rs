@@ -3,6 +3,7 @@
 
 use crate::field::Field;
 use crate::poly::Poly;
+use crate::rational;
 use crate::rules::{self, R3};
 use crate::sheet::{self, Certificate, KernelSheet, Question, Reading, Refusal};
 
@@ -37,7 +38,8 @@ pub enum Named {
     Refused(Refusal),
 }
 
-/// Questions 2 to 7 read the certificate; 8, 9 and 10 are R1, R2 and R3.
+/// Questions 2 to 7 read the certificate; 8, 9 and 10 are R1, R2 and R3, and since
+/// request E6 question 9 asks for the count of rational abscissas as well.
 pub fn read_valid(words: &[u32]) -> Result<Certificate, Refusal> {
     let certificate = Certificate::read(words)?;
     let q = &certificate.question;
@@ -45,7 +47,8 @@ pub fn read_valid(words: &[u32]) -> Result<Certificate, Refusal> {
     if !rules::r1(&g, q.d(), q.sigma) {
         return Err(8);
     }
-    if n != rules::r2(q.a, q.b, q.l, q.sigma, &g) {
+    let numerator = rules::r2(q.a, q.b, q.l, q.sigma, &g);
+    if n != numerator || certificate.rational != rational::count(&g) {
         return Err(9);
     }
     if !R3::of(&certificate).holds(q.a_t, q.b_t) {
@@ -150,12 +153,13 @@ pub fn from_kernel(p: u64, a: u64, b: u64, l: u64, g: &Poly) -> Option<Certifica
     meets.then(|| certificate(question, g, &n))
 }
 
-/// The certificate of these values, this g and this N.
+/// The certificate of these values, this g and this N, with the count for g.
 pub fn certificate(question: Question, g: &Poly, n: &Poly) -> Certificate {
     let d = question.d();
     Certificate {
         g: g.padded(d + 1),
         n: n.padded(2 * d + 2),
+        rational: rational::count(g),
         question,
     }
 }

@@ -1,7 +1,7 @@
 //! Sheets of 32-bit words: their three forms, how they are written, and
 //! questions 2 to 7 of document 01, each as one function, with the values of
-//! question and kernel sheets read as request E2 wants. A refusal is the number of
-//! the question that got the "no".
+//! question and kernel sheets read as request E2 wants, and the word that request E6
+//! adds to certificates. A refusal is the number of the question that got the "no".
 
 use crate::field::Field;
 use crate::poly::Poly;
@@ -16,11 +16,12 @@ pub const L: u32 = 6;
 pub const SIGMA: u32 = 7;
 pub const G: u32 = 8;
 pub const N: u32 = 9;
+pub const RATIONAL: u32 = 10;
 pub const END: u32 = 15;
 
 pub const VALUE_BITS: u32 = 28;
 pub const VALUE_LIMIT: u64 = 1 << VALUE_BITS;
-pub const LARGEST_CERTIFICATE: usize = 392;
+pub const LARGEST_CERTIFICATE: usize = 393;
 
 /// The kinds before any coefficients, for questions and certificates.
 pub const QUESTION_HEAD: [u32; 7] = [P, A, B, A_T, B_T, L, SIGMA];
@@ -80,12 +81,14 @@ impl Reading {
     }
 }
 
-/// g has d + 1 coefficients, n has 2d + 2, both from the constant term up.
+/// g has d + 1 coefficients, n has 2d + 2, both from the constant term up; rational is
+/// the count that is claimed of the u from 0 to p - 1 with g(u) = 0 (request E6).
 #[derive(Clone, Debug, PartialEq, Eq)]
 pub struct Certificate {
     pub question: Question,
     pub g: Vec<u64>,
     pub n: Vec<u64>,
+    pub rational: u64,
 }
 
 #[derive(Clone, Debug, PartialEq, Eq)]
@@ -157,8 +160,8 @@ pub fn ask_values<const COUNT: usize>(
     Ok(elements)
 }
 
-/// Question 6: the runs of coefficients (kind and count), then the end, whose
-/// value is 0 whatever the reading.
+/// Question 6: the runs of words (kind and count), then the end, whose value is 0
+/// whatever the reading. A count is no coefficient, and may have any value.
 pub fn ask_rest<const RUNS: usize>(
     rest: &[u32],
     runs: [(u32, usize); RUNS],
@@ -172,7 +175,10 @@ pub fn ask_rest<const RUNS: usize>(
     for (list, (run_kind, count)) in values.iter_mut().zip(runs) {
         for &w in &rest[start..start + count] {
             no_unless(kind(w) == run_kind, 6)?;
-            list.push(reading.value(value(w), p, 6)?);
+            list.push(match run_kind {
+                RATIONAL => value(w),
+                _ => reading.value(value(w), p, 6)?,
+            });
         }
         start += count;
     }
@@ -265,7 +271,7 @@ impl Certificate {
         let mut words = self.question.head();
         words.extend(self.g.iter().map(|&c| word(G, c)));
         words.extend(self.n.iter().map(|&c| word(N, c)));
-        words.push(word(END, 0));
+        words.extend([word(RATIONAL, self.rational), word(END, 0)]);
         words
     }
 
@@ -277,15 +283,26 @@ impl Certificate {
     pub fn read(words: &[u32]) -> Result<Certificate, Refusal> {
         let reading = Reading::Strict;
         let question = Question::read_head(words, reading)?;
-        let d = question.d();
-        let [g, n] = ask_rest(
-            &words[QUESTION_HEAD.len()..],
-            [(G, d + 1), (N, 2 * d + 2)],
-            question.p,
-            reading,
-        )?;
-        question.ask_curves()?;
-        Ok(Certificate { question, g, n })
+        let certificate = Certificate::read_rest(words, question, reading)?;
+        certificate.question.ask_curves()?;
+        Ok(certificate)
+    }
+
+    /// Question 6, of the words behind those of the question.
+    pub fn read_rest(
+        words: &[u32],
+        question: Question,
+        reading: Reading,
+    ) -> Result<Certificate, Refusal> {
+        let (d, rest) = (question.d(), &words[QUESTION_HEAD.len()..]);
+        let runs = [(G, d + 1), (N, 2 * d + 2), (RATIONAL, 1)];
+        let [g, n, counts] = ask_rest(rest, runs, question.p, reading)?;
+        Ok(Certificate {
+            question,
+            g,
+            n,
+            rational: counts[0],
+        })
     }
 
     /// g and N.

@@ -5,7 +5,7 @@
 
 use crate::call::{Call, INFINITY};
 use crate::sheet::{self, kind, value, word, Certificate, Refusal};
-use crate::sheet::{A, A_T, B, B_T, END, G, L, N, P, SIGMA};
+use crate::sheet::{A, A_T, B, B_T, END, G, L, N, P, RATIONAL, SIGMA};
 use crate::unreduced;
 
 #[derive(Clone, Copy, Debug, PartialEq, Eq)]
@@ -165,7 +165,19 @@ fn late(service: Service) -> Vec<Spoiler> {
     }
     if service.is_strict() {
         all.extend(list(10, &[|s| s.next(A_T), |s| s.next(B_T)]));
-        all.extend(list(9, &[|s| s.next(N), |s| s.set_last(N, 0)]));
+        all.extend(list(
+            9,
+            &[
+                |s| s.next(N),
+                |s| s.set_last(N, 0),
+                |s| s.next(RATIONAL),
+                |s| s.set(RATIONAL, sheet::VALUE_LIMIT - 1),
+                |s| {
+                    s.next(N);
+                    s.set(RATIONAL, s.p);
+                },
+            ],
+        ));
         all.extend(list(8, &r1));
     }
     all
@@ -230,6 +242,16 @@ fn common(service: Service) -> Vec<Spoiler> {
                 |s| s.set_last(G, s.p + 1),
                 |s| s.set(G, sheet::VALUE_LIMIT - 1),
                 |s| s.set_last(N, s.p + 1),
+                // The count's word is missing, is there twice, or stands before N.
+                |s| {
+                    let i = s.position(RATIONAL);
+                    s.words.remove(i);
+                },
+                |s| s.words.insert(s.position(END), word(RATIONAL, 1)),
+                |s| {
+                    let count = s.words.remove(s.position(RATIONAL));
+                    s.words.insert(s.position(N), count);
+                },
             ],
         ));
         all.extend(list(
@@ -290,7 +312,10 @@ fn early(service: Service) -> Vec<Spoiler> {
             &[|s| s.stray = vec![0], |s| s.stray = vec![1, 2, 3]],
         ));
     } else {
-        all.extend(list(1, &[|s| s.room = 391, |s| s.room = 0]));
+        all.extend(list(
+            1,
+            &[|s| s.room = 392, |s| s.room = 391, |s| s.room = 0],
+        ));
     }
     all
 }

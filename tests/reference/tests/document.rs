@@ -19,12 +19,12 @@ fn every_marked_row_and_neighbour() {
 
 #[test]
 fn printed_answer() {
-    let Written::Words(words) = services::solve(&marked::first().question.words(), 392) else {
+    let Written::Words(words) = services::solve(&marked::first().question.words(), 393) else {
         panic!("the first question has an answer");
     };
     let lines: Vec<String> = words.iter().map(|w| format!("{w:08x}")).collect();
     assert_eq!(lines, marked::PRINTED);
-    assert_eq!(words.len(), 14);
+    assert_eq!(words.len(), 15);
 }
 
 #[test]

@@ -12,7 +12,7 @@ use reference::marked;
 use reference::random::Random;
 use reference::sheet::{self, kind, value, with_value, word};
 use reference::sheet::{Certificate, KernelSheet, Question, Reading};
-use reference::sheet::{A, A_T, B, B_T, END, G, L, P, SIGMA, VALUE_LIMIT};
+use reference::sheet::{A, A_T, B, B_T, END, G, L, P, RATIONAL, SIGMA, VALUE_LIMIT};
 use reference::spoil::{self, Service};
 use reference::unreduced::{alike, any, greatest, limits, places, raised, reduced};
 
@@ -207,14 +207,19 @@ fn singular_after_reduction() {
     }
 }
 
-/// On a certificate the same values get 5 in the header and 6 behind it.
+/// On a certificate the same values get 5 in the header and 6 behind it, and for the
+/// count of rational abscissas, of which R2 is worked out first, 9.
 #[test]
 fn certificates_stay_strict() {
     for certificate in certificates() {
         let (p, words) = (certificate.question.p, certificate.words());
         for i in (1..words.len() - 1).filter(|&i| i != 5) {
-            let number = if i < 7 { 5 } else { 6 };
-            let from_p = many_alike(value(words[i]), p).into_iter();
+            let (number, step) = match kind(words[i]) {
+                RATIONAL => (9, 20),
+                _ if i < 7 => (5, 1),
+                _ => (6, 1),
+            };
+            let from_p = many_alike(value(words[i]), p).into_iter().step_by(step);
             for new in from_p.filter(|&v| v >= p).chain(limits(p)) {
                 let changed = with_value(&words, i, new);
                 for call in [Call::check(&changed), Call::push(&changed, INFINITY)] {

@@ -109,7 +109,7 @@ fn case(random: &mut Random, pool: &[Certificate], kind: u64) -> Call {
 
 fn room(random: &mut Random) -> usize {
     if random.once_in(10) {
-        *random.pick(&[0, 1, 13, 391, 393, 1000])
+        *random.pick(&[0, 1, 14, 392, 394, 1000])
     } else {
         sheet::LARGEST_CERTIFICATE
     }

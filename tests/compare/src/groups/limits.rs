@@ -11,13 +11,13 @@ use crate::groups::certificates::LARGEST_PRIME;
 use crate::groups::document;
 use crate::judge::Judge;
 
-/// Rooms around 392, with sheets that pass and sheets that do not.
+/// Rooms around 393, with sheets that pass and sheets that do not.
 pub fn rooms(judge: &mut Judge) {
     for certificate in document::samples() {
         let answer = Reply::written(certificate.words());
         let question = certificate.question.words();
         let kernel = certificate.kernel_sheet().words();
-        for room in [0, 1, 14, 100, 390, 391, 392, 393, 1000, 8000] {
+        for room in [0, 1, 15, 100, 391, 392, 393, 394, 1000, 8000] {
             let calls = |sheet: &[u32], other: &[u32]| {
                 let (sheet, other) = (sheet.to_vec(), other.to_vec());
                 [
@@ -27,7 +27,7 @@ pub fn rooms(judge: &mut Judge) {
             };
             // Twice, for both ways to lay out the answer.
             for call in [calls(&question, &kernel), calls(&question, &kernel)].concat() {
-                if room < 392 {
+                if room < 393 {
                     judge.refuses(&call, 1);
                 } else {
                     judge.expect(&call, &answer);
@@ -35,7 +35,7 @@ pub fn rooms(judge: &mut Judge) {
             }
             for (sheet, number) in [(&question[..6], 2), (&kernel[..3], 2), (&[][..], 2)] {
                 for call in calls(sheet, sheet) {
-                    let number = if room < 392 { 1 } else { number };
+                    let number = if room < 393 { 1 } else { number };
                     judge.refuses(&call, number);
                 }
             }

@@ -9,6 +9,7 @@ use reference::marked;
 use reference::mistakes::{self, Worked};
 use reference::poly::Poly;
 use reference::random::Random;
+use reference::rational;
 use reference::rules;
 use reference::sheet::{self, Certificate, Question};
 
@@ -87,11 +88,13 @@ fn question(random: &mut Random, curve: &Curve, l: u64, g: &Poly) -> Question {
 fn claims(judge: &mut Judge, random: &mut Random, question: &Question, g: &Poly, met: &mut Met) {
     let worked = Worked::new(question, g);
     let right = worked.right();
+    let rational = rational::count(g);
     let words = |n: &[u64]| {
         let certificate = Certificate {
             question: question.clone(),
             g: g.padded(question.d() + 1),
             n: n.to_vec(),
+            rational,
         };
         certificate.words()
     };

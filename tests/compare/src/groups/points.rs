@@ -72,12 +72,17 @@ fn limits(judge: &mut Judge, certificate: &Certificate) {
         u64::MAX - 1,
         u64::MAX,
     ];
-    let mut damaged = words.clone();
-    let last = damaged.len() - 2;
-    damaged[last] ^= 2;
+    // The count, and the highest coefficient of N.
+    let damaged = [2, 3].map(|from_end| {
+        let mut damaged = words.clone();
+        damaged[words.len() - from_end] ^= 2;
+        damaged
+    });
     for point in points {
         judge.agrees(&Call::push(&words, point));
-        judge.agrees(&Call::push(&damaged, point));
+        for words in &damaged {
+            judge.agrees(&Call::push(words, point));
+        }
         judge.agrees(&Call::push(&words[1..], point));
         judge.agrees(&Call::push(&[], point));
     }

@@ -1,6 +1,6 @@
 //! Request E2: on question and kernel sheets a value at or above p is read modulo p;
-//! on certificates and for name it gets 5 or 6 as before; p, l and the end are never
-//! reduced. Where certificates are known from how they were made, the expectation is
+//! on certificates and for name it gets 5 or 6 as before; p, l, the count of rational
+//! abscissas and the end are never reduced. Where certificates are known from how they were made, the expectation is
 //! the certificate; else it is what the reduced sheet gets, which is put too.
 
 use reference::call::{answered, Call, Put, Reply, INFINITY};
@@ -10,7 +10,7 @@ use reference::generate::{self, multiplication, singular};
 use reference::primes::previous_prime;
 use reference::random::Random;
 use reference::sheet::{ask_degree, kind, value, with_value};
-use reference::sheet::{Certificate, KernelSheet, Question, END, L, P, VALUE_LIMIT};
+use reference::sheet::{Certificate, KernelSheet, Question, END, L, P, RATIONAL, VALUE_LIMIT};
 use reference::unreduced::{alike, any, greatest, limits, places, raised, reduced, with_values};
 
 use crate::groups::certificates::LARGEST_PRIME;
@@ -158,6 +158,7 @@ fn never_reduced(judge: &mut Judge, random: &mut Random, put: Put, words: &[u32]
             P => 3,
             L => 4,
             END => 6,
+            RATIONAL => 9,
             _ => continue,
         };
         for new in others(random, value(w), value(words[0])) {
@@ -166,12 +167,13 @@ fn never_reduced(judge: &mut Judge, random: &mut Random, put: Put, words: &[u32]
     }
 }
 
-/// Every place of a certificate with a value from p on.
+/// Every place of a certificate with a value from p on. That of the count is among what
+/// is never reduced.
 fn strict(judge: &mut Judge, random: &mut Random, certificate: &Certificate) {
     let (words, p) = (certificate.words(), certificate.question.p);
     let few = if words.len() > 40 { 7 } else { 1 };
-    let coefficients = (7..words.len() - 1).step_by(few);
-    for i in [1, 2, 3, 4, 6, words.len() - 2]
+    let coefficients = (7..words.len() - 2).step_by(few);
+    for i in [1, 2, 3, 4, 6, words.len() - 3]
         .into_iter()
         .chain(coefficients)
     {

@@ -7,7 +7,7 @@ use reference::poly::Poly;
 use reference::rules::{self, R3};
 use reference::sheet::Certificate;
 
-use super::{certificate, refusal};
+use super::{certificate, rational, refusal};
 
 /// The N that a mistake gives for a certificate's values and g.
 fn mistaken(certificate: &Certificate, mistake: Mistake) -> Vec<u64> {
@@ -18,7 +18,7 @@ fn mistaken(certificate: &Certificate, mistake: Mistake) -> Vec<u64> {
 /// The number after question 8, if question 9 wants this N.
 fn number(certificate: &Certificate, wanted: &[u64]) -> u32 {
     let q = &certificate.question;
-    if certificate.n != wanted {
+    if certificate.n != wanted || !rational::is_right(certificate) {
         9
     } else if R3::of(certificate).holds(q.a_t, q.b_t) {
         0

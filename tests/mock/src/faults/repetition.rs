@@ -7,12 +7,13 @@ use reference::call::{point_number, point_of, Call, Reply};
 use reference::curve::Curve;
 use reference::generate;
 use reference::poly::Poly;
-use reference::repetition::{common_factors, read_any_degree, roots};
+use reference::rational::roots;
+use reference::repetition::{common_factors, read_any_degree};
 use reference::rules::{self, R3};
 use reference::services;
 use reference::sheet::{Certificate, KernelSheet, Question};
 
-use super::{certificate, refusal, with_answer, words};
+use super::{certificate, rational, refusal, with_answer, words};
 
 /// Whether g has a repeated factor, one of f and one of N.
 fn common(certificate: &Certificate) -> [bool; 3] {
@@ -58,7 +59,7 @@ pub fn of_f_passes(call: &Call, reply: Reply) -> Reply {
 /// Document 01's first misreading.
 pub fn of_n_passes(call: &Call, reply: Reply) -> Reply {
     match (call, refused_with(call, &reply, 9)) {
-        (Call::Check { .. }, Some(c)) if is_of_n(&c) => {
+        (Call::Check { .. }, Some(c)) if is_of_n(&c) && rational::is_right(&c) => {
             let holds = R3::of(&c).holds(c.question.a_t, c.question.b_t);
             call.refusal(if holds { 0 } else { 10 })
         }
@@ -94,6 +95,7 @@ fn meets_rules(certificate: &Certificate) -> bool {
     let (q, (g, n)) = (&certificate.question, certificate.polynomials());
     rules::r1(&g, q.d(), q.sigma)
         && n == rules::r2(q.a, q.b, q.l, q.sigma, &g)
+        && rational::is_right(certificate)
         && R3::of(certificate).holds(q.a_t, q.b_t)
 }
 
