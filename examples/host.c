@@ -2,8 +2,9 @@
  *
  *     host FILE [POINT ..]        POINT is two numbers u v, or the word infinity
  *
- * Prints one line for the certificate and one for each point. Exit status: 0 if the certificate passes and every point was pushed, 1 if the
- * certificate or a point is refused, 2 if the arguments are wrong, the file cannot be read as a certificate, or the lines cannot be written.
+ * Prints one line for the certificate, with how many abscissas of its kernel lie in the field, and one for each point. Exit status: 0 if the certificate
+ * passes and every point was pushed, 1 if the certificate or a point is refused, 2 if the arguments are wrong, the file cannot be read as a certificate, or
+ * the lines cannot be written.
  *
  * Strict C11. Nothing is assumed of the order of bytes of the machine: the bytes of the file are handed on as they are.
  */
@@ -86,6 +87,13 @@ static int read_point(char **arguments, int count, uint64_t *point)
     return 2;
 }
 
+/* The value of the word at a place: the low 28 bits of its four bytes, the lowest of which comes first. */
+static uint32_t value_at(const uint8_t *bytes, size_t place)
+{
+    const uint8_t *word = bytes + 4 * place;
+    return (uint32_t)word[0] | (uint32_t)word[1] << 8 | (uint32_t)word[2] << 16 | (uint32_t)(word[3] & 15) << 24;
+}
+
 /* Prints an affine point or infinity. */
 static void print_point(uint64_t point)
 {
@@ -122,7 +130,9 @@ int main(int argc, char **argv)
     int status = ALL_PASSED;
     uint32_t verdict = sagepliers_check(bytes, count);
     if (verdict == 0) {
-        printf("the certificate passes\n");
+        /* The degree is the sixth word, the count of rational abscissas the last but one: both are as the check has found them. */
+        uint32_t degree = value_at(bytes, 5), rational = value_at(bytes, count / 4 - 2);
+        printf("the certificate passes; rational abscissas: %" PRIu32 " of %" PRIu32 "\n", rational, (degree - 1) / 2);
     } else {
         printf("the certificate is refused with %" PRIu32 ": %s\n", verdict, sagepliers_meaning(verdict));
         status = REFUSED;

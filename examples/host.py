@@ -23,7 +23,7 @@ def include_directory():
     return subprocess.run(["pkg-config", "--variable=includedir", "sagepliers"], check=True, capture_output=True, text=True).stdout.strip()
 
 
-ROOM = 392  # SAGEPLIERS_ROOM, SAGEPLIERS_INFINITY and SAGEPLIERS_REFUSED: macros do not come through cffi
+ROOM = 393  # SAGEPLIERS_ROOM, SAGEPLIERS_INFINITY and SAGEPLIERS_REFUSED: macros do not come through cffi
 INFINITY = 1 << 56
 REFUSED = 1 << 57
 
@@ -42,7 +42,7 @@ def main(arguments):
     ffi, library = load(header, arguments[1] if len(arguments) > 1 else "libsagepliers.so.0")
     values = [1009, 1, 3, 265, 877, 3, 46]
     certificate = answer(ffi, library, library.sagepliers_solve, [(i + 1) << 28 | v for i, v in enumerate(values)] + [15 << 28])
-    print(f"solve: {len(certificate)} words")
+    print(f"solve: {len(certificate)} words, rational abscissas: {certificate[-2] & 0xfffffff}")
     kernel = [1 << 28 | 1009, 2 << 28 | 1, 3 << 28 | 3, 6 << 28 | 3, 8 << 28 | 986, 8 << 28 | 1, 15 << 28]
     print(f"kernel: {len(answer(ffi, library, library.sagepliers_kernel, kernel))} words")
     sheet = b"".join(word.to_bytes(4, "little") for word in certificate)

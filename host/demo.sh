@@ -32,6 +32,6 @@ echo "With the kernel polynomial g known, the codomain is found (here again the 
 run 0 'sagepliers kernel 1009 1 3 3 -23 1'
 run 1 'sagepliers kernel 1009 1 3 3 -22 1'
 echo
-echo "PARI/GP's ellisogeny answers for x - 22 all the same, with the curve (606, 295). As a certificate its answer is refused:"
-run 0 'sagepliers show 1009 1 3 606 295 3 44 -22 1 958 363 -44 1 -o pari.bin'
+echo "PARI/GP's ellisogeny answers for x - 22 all the same, with the curve (606, 295). As a certificate, with the one root of g counted, its answer is refused:"
+run 0 'sagepliers show 1009 1 3 606 295 3 44 -22 1 958 363 -44 1 1 -o pari.bin'
 run 1 'sagepliers check pari.bin'

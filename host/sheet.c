@@ -7,7 +7,7 @@
 
 #include "arguments.h"
 
-enum { KIND_G = 8, KIND_N = 9, KIND_END = 15 };
+enum { KIND_G = 8, KIND_N = 9, KIND_RATIONAL = 10, KIND_END = 15 };
 
 uint32_t word_at(const struct sheet *sheet, size_t place)
 {
@@ -59,7 +59,9 @@ static uint32_t kind_at(enum form form, size_t place, uint32_t degree)
         return place < 4 ? kernel_kinds[place] : KIND_G;
     if (place < 7)
         return (uint32_t)place + 1;
-    return form == QUESTION || place - 7 <= half(degree) ? KIND_G : KIND_N;
+    if (form == QUESTION || place - 7 <= half(degree))
+        return KIND_G;
+    return place - 7 < 3 * half(degree) + 3 ? KIND_N : KIND_RATIONAL;
 }
 
 bool sheet_of_numbers(enum form form, const int64_t *numbers, size_t count, struct sheet *sheet, int64_t *stray)
@@ -69,8 +71,8 @@ bool sheet_of_numbers(enum form form, const int64_t *numbers, size_t count, stru
     sheet->count = 0;
     for (size_t i = 0; i < count; i++) {
         uint32_t kind = kind_at(form, i, degree), value = 0;
-        /* p and l stand for themselves. */
-        if (!reduce(numbers[i], kind == 1 || kind == 6 ? 0 : numbers[0], bound, &value)) {
+        /* p, l and the count stand for themselves. */
+        if (!reduce(numbers[i], kind == 1 || kind == 6 || kind == KIND_RATIONAL ? 0 : numbers[0], bound, &value)) {
             *stray = numbers[i];
             return false;
         }
@@ -89,8 +91,9 @@ static bool has_form(const struct sheet *sheet, enum form form)
     if (sheet->count % 4 != 0 || sheet->count < 4 * (header + 1))
         return false;
     uint32_t degree = value_of(word_at(sheet, form == KERNEL_SHEET ? 3 : 5));
-    size_t coefficients = form == QUESTION ? 0 : form == KERNEL_SHEET ? half(degree) + 1 : 3 * half(degree) + 3;
-    size_t words = header + coefficients + 1;
+    /* Coefficients, and on a certificate the count. */
+    size_t between = form == QUESTION ? 0 : form == KERNEL_SHEET ? half(degree) + 1 : 3 * half(degree) + 4;
+    size_t words = header + between + 1;
     if (sheet->count != 4 * words)
         return false;
     for (size_t i = 0; i + 1 < words; i++)

@@ -33,8 +33,9 @@ void set_words(struct sheet *sheet, const uint32_t *words, size_t count);
 /* The words into `words`, which has room for MOST_WORDS, and how many whole ones there are. */
 size_t get_words(const struct sheet *sheet, uint32_t *words);
 
-/* The sheet of a form whose values in their order are the numbers; p is the first. A negative number stands for itself plus p. Too few and too many
- * numbers make a sheet that the library refuses. Returns false if a number has no place in a word; `stray` is then the first such number. */
+/* The sheet of a form whose values in their order are the numbers; p is the first. A negative number stands for itself plus p where
+ * the value is an element of the field. Too few and too many numbers make a sheet that the library refuses. Returns false if a number has no place in a
+ * word; `stray` is then the first such number. */
 bool sheet_of_numbers(enum form form, const int64_t *numbers, size_t count, struct sheet *sheet, int64_t *stray);
 
 /* The form whose kinds and length the sheet has. */

@@ -69,7 +69,8 @@ enum status command_show(int argc, char **argv)
 {
     struct call call = {.sheet = need(malloc(sizeof *call.sheet))};
     const struct argp argp = {option_table, parse, "[FILE]\nNUMBER...",
-                              "Shows what is on a sheet: the field, the curves, the degree and the polynomials. Judges nothing.\v"
+                              "Shows what is on a sheet: the field, the curves, the degree, the polynomials and, of a certificate, how many abscissas of the "
+                              "kernel it says are rational. Judges nothing.\v"
                               "The sheet is in FILE or, without arguments, in standard input, or is given by its values in their order. With -o it is written "
                               "as bytes, whatever it was written as. Status 1 means that it is neither question nor certificate nor kernel sheet.",
                               NULL, NULL, NULL};

@@ -51,16 +51,19 @@ struct parts {
     const char *title, *name;
     size_t degree; /* the place of l */
     size_t g, g_count, n, n_count;
+    size_t rational; /* the place of the count of rational abscissas; 0 if there is none */
 };
 
 static struct parts parts_of(const struct sheet *sheet, enum form form)
 {
-    struct parts parts = {"question", "question", 5, 7, 0, 7, 0};
+    struct parts parts = {"question", "question", 5, 7, 0, 7, 0, 0};
     size_t words = sheet->count / 4;
     if (form == KERNEL_SHEET)
-        parts = (struct parts){"kernel sheet", "kernel", 3, 4, words - 5, 0, 0};
-    else if (form == CERTIFICATE)
-        parts = (struct parts){"certificate", "certificate", 5, 7, (words - 8) / 3, 7 + (words - 8) / 3, 2 * ((words - 8) / 3)};
+        parts = (struct parts){"kernel sheet", "kernel", 3, 4, words - 5, 0, 0, 0};
+    if (form == CERTIFICATE) {
+        size_t g_count = (words - 9) / 3;
+        parts = (struct parts){"certificate", "certificate", 5, 7, g_count, 7 + g_count, 2 * g_count, words - 2};
+    }
     return parts;
 }
 
@@ -84,6 +87,8 @@ static void put_text(const struct sheet *sheet, enum form form)
         put_polynomial(sheet, parts.n, parts.n_count);
         putchar('\n');
     }
+    if (parts.rational > 0)
+        printf("rational abscissas: %" PRIu32 "\n", value_of(word_at(sheet, parts.rational)));
 }
 
 static void put_json(const struct sheet *sheet, enum form form)
@@ -113,13 +118,15 @@ static void put_json(const struct sheet *sheet, enum form form)
         printf(",\"N\":");
         put_values(sheet, parts.n, parts.n_count);
     }
+    if (parts.rational > 0)
+        printf(",\"rational\":%" PRIu32, value_of(word_at(sheet, parts.rational)));
     printf("}\n");
 }
 
 /* The name of a kind, as the header of the library has it. */
 static const char *name_of(uint32_t kind)
 {
-    static const char *const names[16] = {"-", "p", "A", "B", "A~", "B~", "l", "sigma", "g", "N", "-", "-", "-", "-", "-", "end"};
+    static const char *const names[16] = {"-", "p", "A", "B", "A~", "B~", "l", "sigma", "g", "N", "count", "-", "-", "-", "-", "end"};
     return names[kind];
 }
 

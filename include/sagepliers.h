@@ -7,13 +7,14 @@
  * x^3 + A x + B and to N: no root is counted too often, and N/g^2 is in lowest terms.
  *
  * Words and sheets. A word has 32 bits, four of kind above 28 of value. Kinds: 1 p, 2 A, 3 B, 4 A~, 5 B~, 6 l, 7 sigma, 8 a coefficient
- * of g, 9 a coefficient of N, 15 the end, with value 0. A sheet is a run of words:
- *    question      kinds 1 to 7, end                                              8 words
- *    certificate   kinds 1 to 7, d + 1 words of kind 8, 2 d + 2 of kind 9, end    3 d + 11 words, at most SAGEPLIERS_ROOM
- *    kernel sheet  kinds 1, 2, 3, 6, d + 1 words of kind 8, end                   d + 6 words, at most 133
+ * of g, 9 a coefficient of N, 10 the count of rational abscissas, which is how many u from 0 to p - 1 have g(u) = 0, 15 the end, with value 0.
+ * A sheet is a run of words:
+ *    question      kinds 1 to 7, end                                                              8 words
+ *    certificate   kinds 1 to 7, d + 1 words of kind 8, 2 d + 2 of kind 9, one of kind 10, end    3 d + 12 words, at most SAGEPLIERS_ROOM
+ *    kernel sheet  kinds 1, 2, 3, 6, d + 1 words of kind 8, end                                   d + 6 words, at most 133
  * Coefficients go from the constant term up. A sheet in bytes has four bytes to a word, lowest first, whatever the order of bytes of the machine.
  * On a question and a kernel sheet A, B, A~, B~, sigma and the coefficients of g may have any value of 28 bits: it is taken modulo p, and what is
- * left stands in the certificate. On a certificate they are below p. p and l are never reduced.
+ * left stands in the certificate. On a certificate they are below p. p, l and the count are never reduced.
  *
  * Refusals. Each entry puts its questions to the sheet in a fixed order, and a sheet that does not pass is refused with the number of the first
  * question that is answered with no:
@@ -22,10 +23,10 @@
  *    3  p is a prime from 11 to 2^28 - 1
  *    4  the degree l is odd, from 3 to 255, with 2 l - 1 < p
  *    5  the curve values, and on a certificate sigma, are below p (check, push and name; other sheets are reduced)
- *    6  behind these words is what the form has and nothing else: coefficients, on a certificate below p, then an end with value 0
+ *    6  behind these words is what the form has and nothing else: coefficients, on a certificate below p and the count, then an end with value 0
  *    7  no curve on the sheet is singular
  *    8  g is monic of degree d, and sigma is that of g (rule R1); of a kernel sheet only the leading coefficient is asked
- *    9  N is that of g: N = (l x - sigma) g^2 - 2 (3 x^2 + A) g g' - 4 f (g g'' - g'^2), where f = x^3 + A x + B (rule R2)
+ *    9  N is that of g: N = (l x - sigma) g^2 - 2 (3 x^2 + A) g g' - 4 f (g g'' - g'^2), where f = x^3 + A x + B (rule R2); and so is the count
  *   10  f (N' g - 2 N g')^2 = N^3 + A~ N g^4 + B~ g^6 (rule R3)
  *   11  there is an answer: a g that meets the rules (solve), a codomain that is not singular and meets rule R3 (kernel)
  *   12  the point has coordinates below p and is on the domain, or is infinity (push)
@@ -59,7 +60,7 @@ extern "C" {
 #define SAGEPLIERS_VERSION "0.1.0"
 
 /* The words that an answer of solve and kernel must have room for; no certificate has more. */
-#define SAGEPLIERS_ROOM 392
+#define SAGEPLIERS_ROOM 393
 
 /* The number of the point at infinity. Smaller numbers are those of affine points: u + 2^28 v. */
 #define SAGEPLIERS_INFINITY (UINT64_C(1) << 56)
@@ -90,7 +91,7 @@ uint64_t sagepliers_kernel(const uint32_t *sheet, size_t words, uint32_t *answer
  * Returns the j-value, below p, or SAGEPLIERS_REFUSED plus the number of the refusal. */
 uint64_t sagepliers_name(uint32_t p, uint32_t a, uint32_t b);
 
-/* Meaning: the refusal with a number in words, as "N is not the one that rule R2 gives"; for any other number it says that there is no such refusal.
+/* Meaning: the refusal with a number in words, as "rule R3 does not hold"; for any other number it says that there is no such refusal.
  * The text is constant, never NULL, and without a full stop. This function is plain C and not proved; the five above are. */
 const char *sagepliers_meaning(uint32_t number);
 

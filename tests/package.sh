@@ -6,7 +6,8 @@
 #
 # Any step that fails, or cannot be run here, ends the script with status 1 and says which. Needs a C and a C++ compiler (CC, CXX) with the address,
 # undefined and thread sanitizers, pkg-config (PKG_CONFIG), make, nm, readelf, /dev/full, and for root setpriv; needs.sh installs them. Expectations
-# come from documents 01 and 02 alone: printed words and rows, the order of the questions, and what request E2 reduces.
+# come from documents 01 and 02: printed words and rows, the order of the questions, what request E2 reduces and what request E6 counts; two counts of
+# roots are PARI/GP's.
 set -eu
 here=$(pwd)
 cd "$(dirname "$0")"
@@ -242,28 +243,29 @@ refused_file() {
 }
 
 step "host: document 01's certificates and points"
-runs 0 'the certificate passes' first.bin
-runs 0 'the certificate passes
+passes='the certificate passes; rational abscissas: 1 of 1'
+runs 0 "$passes" first.bin
+runs 0 "$passes
 (1008, 1) goes to (617, 44)
-infinity goes to infinity' first.bin 1008 1 infinity
-runs 0 'the certificate passes
+infinity goes to infinity" first.bin 1008 1 infinity
+runs 0 "$passes
 (2, 3) goes to (3, 0)
-(0, 1) goes to infinity' over_11.bin 2 3 0 1
+(0, 1) goes to infinity" over_11.bin 2 3 0 1
 # 12: (1008, 2) is not on the curve, and 1009 is not below p.
-runs 1 'the certificate passes
+runs 1 "$passes
 (1008, 2) is refused with 12: the point is not one of the domain
 (1009, 1) is refused with 12: the point is not one of the domain
-(1008, 1) goes to (617, 44)' first.bin 1008 2 1009 1 1008 1
+(1008, 1) goes to (617, 44)" first.bin 1008 2 1009 1 1008 1
 
 step "host, verify and push: refused certificates, by document 01's questions"
 each_refused refused
 # shellcheck disable=SC2086
-sheet $first | dd bs=1 count=55 of=damaged.bin 2>/dev/null # a byte count that is no multiple of four
+sheet $first | dd bs=1 count=59 of=damaged.bin 2>/dev/null # a byte count that is no multiple of four
 refused_file 2 damaged.bin
 
 step "host: files and arguments that it cannot take"
 : >empty.bin
-dd if=/dev/zero of=long.bin bs=1 count=1569 2>/dev/null
+dd if=/dev/zero of=long.bin bs=1 count=1573 2>/dev/null
 mkdir directory
 runs 2 'usage: host FILE'
 runs 2 'cannot open missing.bin' missing.bin
@@ -283,7 +285,7 @@ if [ "$(id -u)" -eq 0 ]; then
     as='setpriv --reuid=65534 --regid=65534 --clear-groups'
     chmod 711 "$work"
 fi
-runs 0 'the certificate passes' first.bin
+runs 0 "$passes" first.bin
 runs 2 'cannot open unreadable.bin' unreadable.bin
 as=
 got=0
@@ -304,9 +306,9 @@ int main() {
     const uint32_t question[8] = {0x100003f1, 0x20000001, 0x30000003, 0x40000109, 0x5000036d, 0x60000003, 0x7000002e, 0xf0000000};
     const uint32_t kernel[7] = {0x1000000b, 0x20000000, 0x30000001, 0x60000003, 0x80000000, 0x80000001, 0xf0000000};
     uint32_t answer[SAGEPLIERS_ROOM];
-    uint8_t bytes[4 * 14];
-    if (sagepliers_kernel(kernel, 7, answer, SAGEPLIERS_ROOM) != 14 || answer[4] != 0x50000006) return 1;
-    if (sagepliers_solve(question, 8, answer, SAGEPLIERS_ROOM) != 14 || answer[7] != 0x800003da) return 2;
+    uint8_t bytes[4 * 15];
+    if (sagepliers_kernel(kernel, 7, answer, SAGEPLIERS_ROOM) != 15 || answer[4] != 0x50000006) return 1;
+    if (sagepliers_solve(question, 8, answer, SAGEPLIERS_ROOM) != 15 || answer[7] != 0x800003da || answer[13] != 0xa0000001) return 2;
     for (unsigned i = 0; i < sizeof bytes; i++) bytes[i] = static_cast<uint8_t>(answer[i / 4] >> (8 * (i % 4)) & 255);
     if (sagepliers_check(bytes, sizeof bytes) != 0) return 3;
     if (sagepliers_push(bytes, sizeof bytes, 1008 + (UINT64_C(1) << 28)) != 617 + (UINT64_C(44) << 28)) return 4;
@@ -416,17 +418,18 @@ prints verify passes over_11.bin
     says push 'refused 12' ffffffff ffffffff $first
 }
 
-# agree COUNT LINE G QUESTION..: answer prints COUNT words, and from the line LINE on the words G, which end the coefficients of g; verify passes them,
-# kernel finds them again from p, A, B, l and g, and push takes infinity to infinity.
+# agree COUNT LINE G RATIONAL QUESTION..: answer prints COUNT words, from the line LINE on the words G, which end the coefficients of g, and RATIONAL last
+# but one; verify passes them, kernel finds them again from p, A, B, l and g, and push takes infinity to infinity.
 agree() {
     count=$1
     line=$2
     coefficients=$3
-    shift 3
+    roots=$4
+    shift 4
     sheet "$@" >sheet.bin
     "$prefix/bin/sagepliers-answer" <sheet.bin >words || fail "answer ended with $?"
     [ "$(wc -l <words)" -eq "$count" ] || { cat words; fail "answer did not print $count words"; }
-    case $(tail -n "+$line" words | tr '\n' ' ') in "$coefficients 9"*) ;; *) cat words && fail "answer printed another g" ;; esac
+    case $(tail -n "+$line" words | tr '\n' ' ') in "$coefficients 9"*" $roots f0000000 ") ;; *) cat words && fail "answer printed another g or count" ;; esac
     "$prefix/bin/sagepliers-sheets" bytes <words >certificate.bin || fail "what answer printed is no certificate"
     prints verify passes certificate.bin
     # shellcheck disable=SC2046
@@ -436,12 +439,14 @@ agree() {
 }
 
 step "the programs agree: the kernel that is not cyclic, and multiplication by 15, over two primes"
-agree 23 8 '80000150 8000000c 80000002 80000000 80000001' 100003f1 20000001 30000003 40000051 500000a9 60000009 70000000 f0000000
-# By 15 on y^2 = x^3 + x + 3, as threads.c says: degree 225, codomain (15^4, 3 * 15^6), sigma 0, so the last coefficients of g are 0 and 1.
-for p in 268435399 457; do
+agree 24 8 '80000150 8000000c 80000002 80000000 80000001' a0000001 100003f1 20000001 30000003 40000051 500000a9 60000009 70000000 f0000000
+# By 15 on y^2 = x^3 + x + 3, as threads.c says: degree 225, codomain (15^4, 3 * 15^6), sigma 0, so the last coefficients of g are 0 and 1. PARI/GP finds one
+# and two roots of elldivpol(ellinit([1, 3]), 15).
+for rational_over in 'a0000001 268435399' 'a0000002 457'; do
+    p=${rational_over#* }
     # shellcheck disable=SC2046
-    agree 347 119 '80000000 80000001' $(printf '%x ' $((0x10000000 + p)) 0x20000001 0x30000003 $((0x40000000 + 50625 % p)) $((0x50000000 + 34171875 % p))) \
-        600000e1 70000000 f0000000
+    agree 348 119 '80000000 80000001' "${rational_over% *}" \
+        $(printf '%x ' $((0x10000000 + p)) 0x20000001 0x30000003 $((0x40000000 + 50625 % p)) $((0x50000000 + 34171875 % p))) 600000e1 70000000 f0000000
 done
 
 step "the programs: sheets that are cut or go on"
@@ -465,7 +470,7 @@ for program in answer kernel verify push; do
         prints $program "refused $number" sheet.bin
         cut=$((cut + 1))
     done
-    # All lengths about the programs' room, 1572 bytes and eight more, and about the first piece behind it; 4001 and 5000 bytes more; and millions.
+    # All lengths about the programs' room, 1576 bytes and eight more, and about the first piece behind it; 4001 and 5000 bytes more; and millions.
     for whole in $(seq 1560 1590) $(seq 5660 5690) $((size + 1)) $((size + 2)) $((size + 3)) $((size + 4)) $((size + 4001)) $((size + 5000)) \
         8000000 8000001 8000002 8000003; do
         number=2
@@ -476,11 +481,11 @@ for program in answer kernel verify push; do
 done
 
 step "verify and push: the longest certificate"
-# Degree 255, 392 words: g = x^127 meets R1 with sigma 0, and N = 0 is not that of R2, whose highest coefficient is 1.
+# Degree 255, 393 words: g = x^127 meets R1 with sigma 0 and has one root, and N = 0 is not that of R2, whose highest coefficient is 1.
 # shellcheck disable=SC2046
 sheet 100003f1 20000001 30000003 40000109 5000036d 600000ff 70000000 \
-    $(yes 80000000 | head -n 127) 80000001 $(yes 90000000 | head -n 256) f0000000 >longest.bin
-[ "$(wc -c <longest.bin)" -eq 1568 ] || fail "the longest certificate has 392 words"
+    $(yes 80000000 | head -n 127) 80000001 $(yes 90000000 | head -n 256) a0000001 f0000000 >longest.bin
+[ "$(wc -c <longest.bin)" -eq 1572 ] || fail "the longest certificate has 393 words"
 refused_file 9 longest.bin
 for more in 1 2 3 4; do
     { cat longest.bin && head -c $more /dev/zero; } >sheet.bin

@@ -1,8 +1,8 @@
 #!/usr/bin/env python3
 """Tests of tools/sheets.py, run as a program as its users run it.
 
-Expectations are document 01's: the words that it prints for the first question, its rows, its layout of words and bytes; and request E2's, where values of p
-or more are lawful. The sheets in crates/ that the programs are run on are made anew and compared.
+Expectations are document 01's: the words that it prints for the first question, its rows, its layout of words and bytes; request E2's, where values of p or
+more are lawful; and request E6's for the count of rational abscissas. The sheets in crates/ that the programs are run on are made anew and compared.
 """
 
 import os
@@ -16,12 +16,13 @@ import unittest
 ROOT = os.path.dirname(os.path.dirname(os.path.abspath(__file__)))
 TOOL = os.path.join(ROOT, "tools", "sheets.py")
 
-# Document 01's printed answer to its first question, 1009, 1, 3, 265, 877, 3, 46.
-PRINTED = "100003f1 20000001 30000003 40000109 5000036d 60000003 7000002e 800003da 80000001 900003b5 900002a6 900003c3 90000001 f0000000".split()
-HEADER, END = PRINTED[:7], PRINTED[13]
+# Document 01's printed answer to its first question, 1009, 1, 3, 265, 877, 3, 46, with the word of request E6 before its end.
+PRINTED = "100003f1 20000001 30000003 40000109 5000036d 60000003 7000002e 800003da 80000001 900003b5 900002a6 900003c3 90000001 a0000001 f0000000".split()
+HEADER, END = PRINTED[:7], PRINTED[14]
 QUESTION = ["1009", "1", "3", "265", "877", "3", "46"]
 G = ["-23", "1"]  # x - 23
 N = ["949", "678", "963", "1"]  # x^3 + 963x^2 + 678x + 949
+COUNT = "1"  # 23 is in the field
 
 
 def in_bytes(words):
@@ -50,11 +51,16 @@ class Making(unittest.TestCase):
         self.assertEqual(self.made("question", *QUESTION), stored("answer"))
 
     def test_first_certificate(self):
-        self.assertEqual(self.made("certificate", *QUESTION, *G, *N), in_bytes(PRINTED))
-        self.assertEqual(self.made("certificate", *QUESTION, *G, *N), stored("verify"))
+        self.assertEqual(self.made("certificate", *QUESTION, *G, *N, COUNT), in_bytes(PRINTED))
+        self.assertEqual(self.made("certificate", *QUESTION, *G, *N, COUNT), stored("verify"))
 
     def test_a_negative_value_is_p_more(self):
-        self.assertEqual(self.made("certificate", *QUESTION, "986", "1", *N), self.made("certificate", *QUESTION, *G, *N))
+        self.assertEqual(self.made("certificate", *QUESTION, "986", "1", *N, COUNT), self.made("certificate", *QUESTION, *G, *N, COUNT))
+
+    def test_a_count_is_written_as_it_is(self):
+        for count in (0, 2, 1009, 2**28 - 1):
+            out = self.made("certificate", *QUESTION, *G, *N, str(count))
+            self.assertEqual(out, in_bytes(PRINTED[:13] + [f"{0xa0000000 + count:08x}", END]))
 
     def test_degree_9(self):
         # Q 1009, 1, 3, 81, 169, 9, 0 has g = x^4 + 2x^2 + 12x + 336; as a kernel sheet it has kinds 1, 2, 3, 6, five of kind 8, end.
@@ -76,7 +82,7 @@ class Making(unittest.TestCase):
         # p = 1001, l = 6, on a certificate A = p: neighbours that document 01 has refused by the library, so they must be possible.
         self.assertEqual(self.made("question", "1001", *QUESTION[1:])[:4], in_bytes(["100003e9"]))
         self.assertEqual(self.made("question", *QUESTION[:5], "6", "46")[20:24], in_bytes(["60000006"]))
-        self.assertEqual(self.made("certificate", "1009", "1009", *QUESTION[2:], *G, *N)[4:8], in_bytes(["200003f1"]))
+        self.assertEqual(self.made("certificate", "1009", "1009", *QUESTION[2:], *G, *N, COUNT)[4:8], in_bytes(["200003f1"]))
 
     def test_values_from_p_on_are_written(self):
         # It is for the library to reduce them.
@@ -108,10 +114,10 @@ class Reading(unittest.TestCase):
 
     def test_show_certificate(self):
         lines = self.shown(in_bytes(PRINTED))
-        self.assertEqual(lines[0], "certificate, 14 words")
-        names = "p A B A~ B~ l sigma g_0 g_1 N_0 N_1 N_2 N_3 end".split()
-        kinds = [1, 2, 3, 4, 5, 6, 7, 8, 8, 9, 9, 9, 9, 15]
-        values = [1009, 1, 3, 265, 877, 3, 46, 1009 - 23, 1, 949, 678, 963, 1, 0]
+        self.assertEqual(lines[0], "certificate, 15 words")
+        names = "p A B A~ B~ l sigma g_0 g_1 N_0 N_1 N_2 N_3 count end".split()
+        kinds = [1, 2, 3, 4, 5, 6, 7, 8, 8, 9, 9, 9, 9, 10, 15]
+        values = [1009, 1, 3, 265, 877, 3, 46, 1009 - 23, 1, 949, 678, 963, 1, 1, 0]
         wanted = [[str(i), w, n, "kind", str(k), str(v)] for i, (w, n, k, v) in enumerate(zip(PRINTED, names, kinds, values))]
         self.assertEqual([line.split() for line in lines[1:]], wanted)
 
@@ -151,13 +157,16 @@ class Reading(unittest.TestCase):
         self.remarked(self.changed(1, "30000001"), 2, "kind 2 (A) expected")
         self.remarked(self.changed(8, "90000001"), 9, "kind 8 (g_1) expected")
         self.remarked(self.changed(9, "80000001"), 10, "kind 9 (N_0) expected")
-        self.remarked(self.changed(13, "f0000001"), 14, "the end has value 0")
-        self.remarked(self.changed(13, "00000000"), 14, "kind 15 (end) expected")
+        self.remarked(self.changed(13, "90000001"), 14, "kind 10 (count) expected")
+        self.remarked(self.changed(14, "f0000001"), 15, "the end has value 0")
+        self.remarked(self.changed(14, "00000000"), 15, "kind 15 (end) expected")
         for place, word in ((1, "200003f2"), (2, "300003f1"), (6, "7fffffff"), (7, "800003f1"), (12, "900003f1")):
             self.remarked(self.changed(place, word), place + 1, "not below p")
-        self.remarked(PRINTED + [END], 15, "after the end")
-        self.remarked(PRINTED + [END], -1, "15 words, where the certificate has 14")
-        self.remarked(PRINTED[:-1], -1, "13 words, where the certificate has 14")
+        self.remarked(PRINTED + [END], 16, "after the end")
+        self.remarked(PRINTED + [END], -1, "16 words, where the certificate has 15")
+        self.remarked(PRINTED[:-1], -1, "14 words, where the certificate has 15")
+        # The form of before request E6.
+        self.remarked(PRINTED[:13] + [END], 14, "kind 10 (count) expected")
         self.remarked(HEADER[:3], -1, "3 words, where the question has 8")
         self.remarked(self.changed(5, "60000006"), -1, "not odd")
         self.remarked(PRINTED, -1, "1 byte left over", b"x")
@@ -165,6 +174,11 @@ class Reading(unittest.TestCase):
         # A remark is on its own line or word and on no other.
         self.assertEqual(sum("<-" in line or "remark" in line for line in self.shown(in_bytes(self.changed(2, "300003f1")), 1)), 1)
 
+
+    def test_no_remark_on_the_size_of_a_count(self):
+        # It is no coefficient; whether it is right is for the library to say.
+        for word in ("a0000000", "a00003f1", "afffffff"):
+            self.shown(in_bytes(self.changed(13, word)))
 
     def test_no_remark_where_values_are_reduced(self):
         question = ["1000000b", "2000000b", "3000000c", "4fffffff", "50000011", "60000003", "70000016", "f0000000"]
@@ -179,7 +193,7 @@ class Reading(unittest.TestCase):
 class RoundTrips(unittest.TestCase):
     def test_words_and_bytes(self):
         drawn = random.Random(1)
-        for count in (1, 2, 8, 14, 23, 392):
+        for count in (1, 2, 8, 15, 24, 393):
             data = drawn.randbytes(4 * count)
             self.assertEqual(run("bytes", given=run("words", given=data)[1])[1], data)
 
@@ -192,7 +206,7 @@ class RoundTrips(unittest.TestCase):
             rest = [drawn.randrange(268435399) for _ in range(3 * d + 3)]
             for command, values in (
                 ("question", header),
-                ("certificate", header + rest),
+                ("certificate", header + rest + [drawn.randrange(2**28)]),
                 ("kernel", [header[0], header[1], header[2], degree] + rest[: d + 1]),
             ):
                 arguments = [str(v) for v in values]
@@ -201,7 +215,7 @@ class RoundTrips(unittest.TestCase):
                 status, shown, _ = run("show", given=data)
                 self.assertEqual(status, 0)
                 self.assertEqual([line.split()[5] for line in shown.decode().splitlines()[1:]], arguments + ["0"])
-                wanted = {"question": 8, "certificate": 3 * d + 11, "kernel": d + 6}[command]
+                wanted = {"question": 8, "certificate": 3 * d + 12, "kernel": d + 6}[command]
                 self.assertEqual(len(data), 4 * wanted)
 
     def test_points(self):
@@ -236,7 +250,9 @@ class Errors(unittest.TestCase):
         self.wrong("7 values", "question", *QUESTION, "1")
         self.wrong("takes 2 coefficients of g, and 1 were given", "kernel", "11", "0", "1", "3", "0")
         self.wrong("takes 2 coefficients of g, and 3 were given", "kernel", "11", "0", "1", "3", "0", "0", "1")
-        self.wrong("2 coefficients of g and 4 of N, 6 in all, and 5 were given", "certificate", *QUESTION, *G, *N[:3])
+        self.wrong("2 coefficients of g, 4 of N and the count, 7 in all, and 5 were given", "certificate", *QUESTION, *G, *N[:3])
+        self.wrong("7 in all, and 6 were given", "certificate", *QUESTION, *G, *N)
+        self.wrong("7 in all, and 8 were given", "certificate", *QUESTION, *G, *N, COUNT, COUNT)
         self.wrong("even", "kernel", "11", "0", "1", "4", "0", "1")
         self.wrong("two numbers", "point", "1")
         self.wrong("two numbers", "point", "1", "2", "3")
@@ -253,6 +269,7 @@ class Errors(unittest.TestCase):
         self.wrong("does not fit", "question", "268435456", *QUESTION[1:])
         self.wrong("does not fit", "question", "-1", *QUESTION[1:])
         self.wrong("does not fit", "question", "1009", "-1009", *QUESTION[2:])
+        self.wrong("count = -1 does not fit", "certificate", *QUESTION, *G, *N, "-1")
         self.wrong("does not fit", "point", "268435456", "0")
         self.wrong("does not fit", "point", "1", "9" * 6000)
         self.wrong("no word of 8", "bytes", "100003f")

@@ -24,7 +24,7 @@ enum { THREADS = 2, MOST_WORDS = 16, GUARD = 8 };
 #define POINT(u, v) (UINT64_C(u) + (UINT64_C(v) << 28))
 #define NO(number) (SAGEPLIERS_REFUSED + UINT64_C(number))
 
-/* A call and what document 01 says of it: the result, and the words from `from` on that it prints of the answer. */
+/* A call and what document 01 says of it, with the count of request E6: the result, and the words from `from` on that it prints of the answer. */
 struct row {
     const char *name;
     enum service service;
@@ -38,35 +38,38 @@ struct row {
 };
 
 #define FIRST_HEADER 0x100003f1, 0x20000001, 0x30000003, 0x40000109, 0x5000036d, 0x60000003, 0x7000002e
-#define FIRST FIRST_HEADER, 0x800003da, 0x80000001, 0x900003b5, 0x900002a6, 0x900003c3, 0x90000001, 0xf0000000
+#define FIRST_BUT_COUNT FIRST_HEADER, 0x800003da, 0x80000001, 0x900003b5, 0x900002a6, 0x900003c3, 0x90000001
+#define FIRST FIRST_BUT_COUNT, 0xa0000001, 0xf0000000
 #define OVER_11_HEADER 0x1000000b, 0x20000000, 0x30000001, 0x40000000, 0x50000006, 0x60000003, 0x70000000
-#define OVER_11 OVER_11_HEADER, 0x80000000, 0x80000001, 0x90000004, 0x90000000, 0x90000000, 0x90000001, 0xf0000000
+#define OVER_11 OVER_11_HEADER, 0x80000000, 0x80000001, 0x90000004, 0x90000000, 0x90000000, 0x90000001, 0xa0000001, 0xf0000000
 
 static const struct row rows[] = {
-    {"solve the first question", SOLVE, {FIRST_HEADER, 0xf0000000}, 8, SAGEPLIERS_ROOM, 0, 14, {FIRST}, 0, 14},
+    {"solve the first question", SOLVE, {FIRST_HEADER, 0xf0000000}, 8, SAGEPLIERS_ROOM, 0, 15, {FIRST}, 0, 15},
     {"solve with sigma = 48", SOLVE, {0x100003f1, 0x20000001, 0x30000003, 0x40000109, 0x5000036d, 0x60000003, 0x70000030, 0xf0000000}, 8,
      SAGEPLIERS_ROOM, 0, NO(11), {0}, 0, 0},
     {"solve with B~ = 878", SOLVE, {0x100003f1, 0x20000001, 0x30000003, 0x40000109, 0x5000036e, 0x60000003, 0x7000002e, 0xf0000000}, 8,
      SAGEPLIERS_ROOM, 0, NO(11), {0}, 0, 0},
     {"solve degree 9", SOLVE, {0x100003f1, 0x20000001, 0x30000003, 0x40000051, 0x500000a9, 0x60000009, 0x70000000, 0xf0000000}, 8, SAGEPLIERS_ROOM,
-     0, 23, {0x80000150, 0x8000000c, 0x80000002, 0x80000000, 0x80000001}, 7, 5},
-    {"solve over 11", SOLVE, {OVER_11_HEADER, 0xf0000000}, 8, SAGEPLIERS_ROOM, 0, 14, {OVER_11}, 0, 14},
-    {"solve with a buffer of 391", SOLVE, {FIRST_HEADER, 0xf0000000}, 8, SAGEPLIERS_ROOM - 1, 0, NO(1), {0}, 0, 0},
+     0, 24, {0x80000150, 0x8000000c, 0x80000002, 0x80000000, 0x80000001}, 7, 5},
+    {"solve over 11", SOLVE, {OVER_11_HEADER, 0xf0000000}, 8, SAGEPLIERS_ROOM, 0, 15, {OVER_11}, 0, 15},
+    {"solve with a buffer of 392", SOLVE, {FIRST_HEADER, 0xf0000000}, 8, SAGEPLIERS_ROOM - 1, 0, NO(1), {0}, 0, 0},
     {"solve with a ninth word", SOLVE, {FIRST_HEADER, 0xf0000000, 0xf0000000}, 9, SAGEPLIERS_ROOM, 0, NO(6), {0}, 0, 0},
     {"kernel over 11 with g = x", KERNEL, {0x1000000b, 0x20000000, 0x30000001, 0x60000003, 0x80000000, 0x80000001, 0xf0000000}, 7, SAGEPLIERS_ROOM,
-     0, 14, {OVER_11}, 0, 14},
+     0, 15, {OVER_11}, 0, 15},
     {"kernel over 11 with g = x - 1", KERNEL, {0x1000000b, 0x20000000, 0x30000001, 0x60000003, 0x8000000a, 0x80000001, 0xf0000000}, 7,
      SAGEPLIERS_ROOM, 0, NO(11), {0}, 0, 0},
-    {"check the first certificate", CHECK, {FIRST}, 14, 0, 0, 0, {0}, 0, 0},
+    {"check the first certificate", CHECK, {FIRST}, 15, 0, 0, 0, {0}, 0, 0},
     {"check N that is not that of g", CHECK, {0x1000000b, 0x20000000, 0x30000001, 0x40000000, 0x50000001, 0x60000003, 0x70000002, 0x8000000a, 0x80000001,
-     0x90000000, 0x90000001, 0x90000009, 0x90000001, 0xf0000000}, 14, 0, 0, 9, {0}, 0, 0},
+     0x90000000, 0x90000001, 0x90000009, 0x90000001, 0xa0000001, 0xf0000000}, 15, 0, 0, 9, {0}, 0, 0},
     {"check a codomain with B~ = 7", CHECK, {0x1000000b, 0x20000000, 0x30000001, 0x40000000, 0x50000007, 0x60000003, 0x70000000, 0x80000000, 0x80000001,
-     0x90000004, 0x90000000, 0x90000000, 0x90000001, 0xf0000000}, 14, 0, 0, 10, {0}, 0, 0},
-    {"push (1008, 1) through the first", PUSH, {FIRST}, 14, 0, POINT(1008, 1), POINT(617, 44), {0}, 0, 0},
-    {"push (2, 3) over 11", PUSH, {OVER_11}, 14, 0, POINT(2, 3), POINT(3, 0), {0}, 0, 0},
-    {"push (0, 1) over 11", PUSH, {OVER_11}, 14, 0, POINT(0, 1), SAGEPLIERS_INFINITY, {0}, 0, 0},
-    {"push infinity through the first", PUSH, {FIRST}, 14, 0, SAGEPLIERS_INFINITY, SAGEPLIERS_INFINITY, {0}, 0, 0},
-    {"push a number above 2^56", PUSH, {FIRST}, 14, 0, SAGEPLIERS_INFINITY + 1, NO(12), {0}, 0, 0},
+     0x90000004, 0x90000000, 0x90000000, 0x90000001, 0xa0000001, 0xf0000000}, 15, 0, 0, 10, {0}, 0, 0},
+    {"check a count of two", CHECK, {FIRST_BUT_COUNT, 0xa0000002, 0xf0000000}, 15, 0, 0, 9, {0}, 0, 0},
+    {"check without a count", CHECK, {FIRST_BUT_COUNT, 0xf0000000}, 14, 0, 0, 6, {0}, 0, 0},
+    {"push (1008, 1) through the first", PUSH, {FIRST}, 15, 0, POINT(1008, 1), POINT(617, 44), {0}, 0, 0},
+    {"push (2, 3) over 11", PUSH, {OVER_11}, 15, 0, POINT(2, 3), POINT(3, 0), {0}, 0, 0},
+    {"push (0, 1) over 11", PUSH, {OVER_11}, 15, 0, POINT(0, 1), SAGEPLIERS_INFINITY, {0}, 0, 0},
+    {"push infinity through the first", PUSH, {FIRST}, 15, 0, SAGEPLIERS_INFINITY, SAGEPLIERS_INFINITY, {0}, 0, 0},
+    {"push a number above 2^56", PUSH, {FIRST}, 15, 0, SAGEPLIERS_INFINITY + 1, NO(12), {0}, 0, 0},
     {"name (1, 3) over 1009", NAME, {1009, 1, 3}, 3, 0, 0, 269, {0}, 0, 0},
     {"name (1, 3) over 1001", NAME, {1001, 1, 3}, 3, 0, 0, NO(3), {0}, 0, 0},
 };
@@ -74,13 +77,13 @@ static const struct row rows[] = {
 enum { ROWS = sizeof rows / sizeof rows[0] };
 
 /* Long ones, called once by each thread for the sake of the stack: multiplication by 15 on y^2 = x^3 + x + 3 has degree 225, codomain (15^4, 3 * 15^6)
- * once it is normalized, and sigma 0, as the division polynomial has no second term; so there is an answer, of 3 * 112 + 11 words. Over 268435399 the
+ * once it is normalized, and sigma 0, as the division polynomial has no second term; so there is an answer, of 3 * 112 + 12 words. Over 268435399 the
  * library decides rule R3 by the expansion at infinity, over 457, which is below 3 * 225 - 3, by comparing coefficients. */
 enum { M4 = 15 * 15 * 15 * 15 };
 #define BY_15(p) \
     SOLVE, \
     {0x10000000 + p, 0x20000001, 0x30000003, 0x40000000 + M4 % p, 0x50000000 + (uint32_t)(UINT64_C(3) * 225 * M4 % p), 0x60000000 + 225, 0x70000000, 0xf0000000}, \
-    8, SAGEPLIERS_ROOM, 0, 347, {0x80000000, 0x80000001}, 118, 2
+    8, SAGEPLIERS_ROOM, 0, 348, {0x80000000, 0x80000001}, 118, 2
 static const struct row large[] = {
     {"solve degree 225 over 268435399", BY_15(268435399)},
     {"solve degree 225 over 457", BY_15(457)},

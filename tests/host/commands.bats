@@ -12,7 +12,7 @@ load common
 @test "solve: the other marked questions" {
     run --separate-stderr sagepliers solve --json 1009 1 3 81 169 9 0
     [ "$status" -eq 0 ]
-    [[ $output == *'"g":[336,12,2,0,1]'* ]]
+    [[ $output == *'"g":[336,12,2,0,1]'*'"rational":1}' ]]
     gives 0 "$over_11_text" solve 11 0 1 0 6 3 0
 }
 
@@ -33,13 +33,16 @@ load common
 }
 
 @test "check and push: a certificate's values are not reduced" {
-    echo '1009 1010 3 265 877 3 46 -23 1 949 678 963 1' >header.txt
+    echo '1009 1010 3 265 877 3 46 -23 1 949 678 963 1 1' >header.txt
     gives 1 "header.txt: $(refusal 5)" check header.txt
     gives 1 "$(refusal 5)" push header.txt 1008 1
-    echo '1009 1 3 265 877 3 46 -23 1010 949 678 963 1' >g.txt
+    echo '1009 1 3 265 877 3 46 -23 1010 949 678 963 1 1' >g.txt
     gives 1 "g.txt: $(refusal 6)" check g.txt
-    echo '1009 1 3 265 877 3 46 -23 1 949 678 963 1010' >n.txt
+    echo '1009 1 3 265 877 3 46 -23 1 949 678 963 1010 1' >n.txt
     gives 1 "n.txt: $(refusal 6)" check n.txt
+    echo '1009 1 3 265 877 3 46 -23 1 949 678 963 1 1010' >count.txt
+    gives 1 "count.txt: $(refusal 9)" check count.txt
+    gives 1 "$(refusal 9)" push count.txt 1008 1
 }
 
 @test "solve: -o writes the bytes, and a refusal leaves the file as it was" {
@@ -76,7 +79,7 @@ load common
     printf '1009 1 3 3 -23 1' >kernel.txt
     gives 0 "$first_text" kernel kernel.txt
     gives 0 "$first_json" kernel --json kernel.txt
-    [ "$(sagepliers kernel --json <kernel.bin)" = '{"form":"certificate","p":11,"domain":[0,1],"codomain":[0,6],"degree":3,"sigma":0,"g":[0,1],"N":[4,0,0,1]}' ]
+    [ "$(sagepliers kernel --json <kernel.bin)" = '{"form":"certificate","p":11,"domain":[0,1],"codomain":[0,6],"degree":3,"sigma":0,"g":[0,1],"N":[4,0,0,1],"rational":1}' ]
 }
 
 @test "kernel: numbers, and the marked refusals" {
@@ -145,7 +148,7 @@ question.bin: $(refusal 6)
 @test "check: hexadecimal and decimal certificates are told apart" {
     # shellcheck disable=SC2086
     printf '%s\n' $first >first.hex
-    echo '1009 1 3 265 877 3 46 -23 1 949 678 -46 1' >first.txt
+    echo '1009 1 3 265 877 3 46 -23 1 949 678 -46 1 1' >first.txt
     gives 0 '3 files: 3 pass, 0 refused' check first.bin first.hex first.txt
     gives 0 '1 file: 1 pass, 0 refused' check --match '*.hex' .
     gives 0 'first.hex: passes' check --input=hex first.hex
@@ -205,7 +208,7 @@ codomain: y^2 = x^3 + 2*x' show 1001 0 0 2 0 6 5000 -o question.out
     words 100003e9 20000000 30000000 40000002 50000000 60000006 70001388 f0000000 | cmp - question.out
     sagepliers show --hex first.bin >first.hex
     sagepliers show -o - first.hex | cmp - first.bin
-    gives 0 '' show -q -o again.bin 1009 1 3 265 877 3 46 -23 1 949 678 963 1
+    gives 0 '' show -q -o again.bin 1009 1 3 265 877 3 46 -23 1 949 678 963 1 1
     cmp again.bin first.bin
     gives 0 '' show -q -o again.bin --form=kernel 11 0 1 3 0 1
     cmp again.bin kernel.bin
@@ -213,6 +216,42 @@ codomain: y^2 = x^3 + 2*x' show 1001 0 0 2 0 6 5000 -o question.out
     gives 0 'kernel sheet: p = 1009, degree 5
 domain: y^2 = x^3 + x + 3
 g = x^2 + 7*x + 6' show --form=kernel 1009 1 3 5 6 7 1
+}
+
+@test "the count of rational abscissas: a line of its own, whatever it is, and nothing that a negative number may stand for" {
+    # The count is not judged here.
+    gives 0 "${first_text%1}1009" show 1009 1 3 265 877 3 46 -23 1 949 678 963 1 1009
+    gives 0 '  0  1000000b  kind  1  p      11
+  1  20000000  kind  2  A      0
+  2  30000001  kind  3  B      1
+  3  40000000  kind  4  A~     0
+  4  50000006  kind  5  B~     6
+  5  60000003  kind  6  l      3
+  6  70000000  kind  7  sigma  0
+  7  80000000  kind  8  g      0
+  8  80000001  kind  8  g      1
+  9  90000004  kind  9  N      4
+ 10  90000000  kind  9  N      0
+ 11  90000000  kind  9  N      0
+ 12  90000001  kind  9  N      1
+ 13  a0000001  kind 10  count  1
+ 14  f0000000  kind 15  end    0' show --words 11 0 1 0 6 3 0 0 1 4 0 0 1 1
+    fails '-1 has no place in a word' show 1009 1 3 265 877 3 46 -23 1 949 678 963 1 -1
+    # Multiplication by 3 on y^2 = x^3 + x + 3: some of its four abscissas or none, by PARI/GP's polrootsmod(3*x^4 + 6*x^2 + 36*x - 1, p).
+    for given in '1009 169 1' '1013 161 0' '1019 149 2'; do
+        read -r p b rational <<<"$given"
+        sagepliers solve "$p" 1 3 81 "$b" 9 0 >answer.txt
+        [ "$(tail -n 1 answer.txt)" = "rational abscissas: $rational" ] || say "$given: $(cat answer.txt)"
+        [ "$(echo "print(#polrootsmod(3*x^4 + 6*x^2 + 36*x - 1, $p))" | gp -q -f)" = "$rational" ]
+    done
+    # Sheets of before, without the count or with it twice, are no certificates.
+    echo '1009 1 3 265 877 3 46 -23 1 949 678 963 1' >without.txt
+    gives 1 "without.txt: $(refusal 6)" check without.txt
+    echo '1009 1 3 265 877 3 46 -23 1 949 678 963 1 1 1' >twice.txt
+    gives 1 "twice.txt: $(refusal 6)" check twice.txt
+    run --separate-stderr sagepliers show without.txt
+    [ "$status" -eq 1 ]
+    [[ $stderr == *'no question, certificate or kernel sheet'* ]]
 }
 
 @test "show: what is no sheet is shown word by word, with status 1" {

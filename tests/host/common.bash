@@ -19,19 +19,21 @@ first_text='certificate: p = 1009, degree 3, kernel sum 46
 domain: y^2 = x^3 + x + 3
 codomain: y^2 = x^3 + 265*x + 877
 g = x + 986
-N = x^3 + 963*x^2 + 678*x + 949'
-first_json='{"form":"certificate","p":1009,"domain":[1,3],"codomain":[265,877],"degree":3,"sigma":46,"g":[986,1],"N":[949,678,963,1]}'
+N = x^3 + 963*x^2 + 678*x + 949
+rational abscissas: 1'
+first_json='{"form":"certificate","p":1009,"domain":[1,3],"codomain":[265,877],"degree":3,"sigma":46,"g":[986,1],"N":[949,678,963,1],"rational":1}'
 
 over_11_text='certificate: p = 11, degree 3, kernel sum 0
 domain: y^2 = x^3 + 1
 codomain: y^2 = x^3 + 6
 g = x
-N = x^3 + 4'
+N = x^3 + 4
+rational abscissas: 1'
 
 # The refusals in words, by their numbers.
 meaning() {
     case $1 in
-    1) echo 'the answer has room for fewer than 392 words' ;;
+    1) echo 'the answer has room for fewer than 393 words' ;;
     2) echo 'the words before the coefficients are not all there, each of its kind, or the bytes are no whole words' ;;
     3) echo 'p is not a prime from 11 to 2^28 - 1' ;;
     4) echo 'the degree l is not odd, from 3 to 255, with 2 l - 1 below p' ;;
@@ -39,7 +41,7 @@ meaning() {
     6) echo 'the remaining words are not exactly those of the sheet' ;;
     7) echo 'a curve is singular' ;;
     8) echo 'g does not meet rule R1' ;;
-    9) echo 'N is not the one that rule R2 gives' ;;
+    9) echo 'N is not the one that rule R2 gives, or the count of rational abscissas is not that of g' ;;
     10) echo 'rule R3 does not hold' ;;
     11) echo 'there is no answer: nothing meets the rules' ;;
     12) echo 'the point is not one of the domain' ;;

@@ -135,7 +135,7 @@ sagepliers: tree/zero: neither a file nor a folder' ] || say "$stderr"
     gives 1 "tail.bin: $(refusal 6)" check tail.bin
     truncate -s 21474836481 tail.bin
     gives 1 "tail.bin: $(refusal 2)" check tail.bin
-    for size in 1568 1572 16380 16384 16388 65536; do
+    for size in 1568 1572 1576 16380 16384 16388 65536; do
         cp first.bin tail.bin
         truncate -s $size tail.bin
         gives 1 "tail.bin: $(refusal 6)" check tail.bin
@@ -155,7 +155,7 @@ import os, time
 sheet = open("first.bin", "rb").read()
 end = time.monotonic() + 3
 while time.monotonic() < end and not os.path.exists("stop"):
-    for size in (56, 20, 60, 0, 40000, 56, 55):
+    for size in (60, 20, 64, 0, 40000, 60, 59):
         with open("moving.bin", "r+b" if os.path.exists("moving.bin") else "w+b") as file:
             file.write(sheet)
             file.truncate(size)

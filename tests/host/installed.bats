@@ -63,7 +63,7 @@ strict='-std=c11 -Wall -Wextra -Wpedantic -Wconversion -Werror'
         # shellcheck disable=SC2086
         [ "$(./kernel_$link)" = "$(printf '%s\n' $over_11)" ]
         [ "$(./name_$link)" = 269 ]
-        [ "$(./host_$link first.bin 1008 1)" = 'the certificate passes
+        [ "$(./host_$link first.bin 1008 1)" = 'the certificate passes; rational abscissas: 1 of 1
 (1008, 1) goes to (617, 44)' ]
         run "./host_$link" question.bin
         [ "$status" -eq 1 ]
@@ -74,8 +74,8 @@ strict='-std=c11 -Wall -Wextra -Wpedantic -Wconversion -Werror'
 @test "Python takes the header by cffi, and every entry by it" {
     run "$CFFI_PYTHON" "$PREFIX/share/doc/sagepliers/examples/host.py" "$PREFIX/include/sagepliers.h" "$PREFIX/lib/libsagepliers.so.0"
     [ "$status" -eq 0 ] || say "$output"
-    [ "$output" = "solve: 14 words
-kernel: 14 words
+    [ "$output" = "solve: 15 words, rational abscissas: 1
+kernel: 15 words
 check: 0
 push: (617, 44)
 name: 269

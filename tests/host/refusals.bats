@@ -25,12 +25,12 @@ sheet_refused() {
 # pari_sheet U: the certificate of what PARI/GP computes for the kernel polynomial x - U of (1, 3) over 1009, in decimal.
 pari_sheet() {
     echo "v = ellisogeny(ellinit([1, 3], 1009), x - $1); c = lift(v[1]); n = Vecrev(lift(v[2][1]));
-          print(strjoin([1009, 1, 3, c[4], c[5], 3, $((2 * $1)), -$1, 1, n[1], n[2], n[3], n[4]], \" \"))" | gp -q -f
+          print(strjoin([1009, 1, 3, c[4], c[5], 3, $((2 * $1)), -$1, 1, n[1], n[2], n[3], n[4], #polrootsmod(x - $1, 1009)], \" \"))" | gp -q -f
 }
 
 @test "check: what PARI/GP gives for x - 22, which is no kernel polynomial, gets 10; for x - 23 it passes" {
     pari_sheet 22 >pari.txt
-    [ "$(cat pari.txt)" = '1009 1 3 606 295 3 44 -22 1 958 363 -44 1' ] || say "$(cat pari.txt)"
+    [ "$(cat pari.txt)" = '1009 1 3 606 295 3 44 -22 1 958 363 -44 1 1' ] || say "$(cat pari.txt)"
     gives 1 "pari.txt: $(refusal 10)" check pari.txt
     gives 1 "$(refusal 11)" kernel 1009 1 3 3 -22 1
     pari_sheet 23 >pari.txt
@@ -38,7 +38,7 @@ pari_sheet() {
 }
 
 @test "bytes that are no whole words get 2, and so does nothing at all" {
-    head -c 55 first.bin >short.bin
+    head -c 59 first.bin >short.bin
     gives 1 "short.bin: $(refusal 2)" check short.bin
     { cat first.bin && printf '\0'; } >long.bin
     gives 1 "long.bin: $(refusal 2)" check long.bin
