@@ -1,6 +1,6 @@
 -- The arithmetic of one remainder, a section for each of its steps: fold, the quotient by multiplication, the last subtraction, the shift back.
 -- Assumes nothing.
-use mathlib.Core.Path.{_≡_, sym, _∙_, ap}
+use mathlib.Core.Path.{_≡_, sym, _∙_, ap, subst}
 use Prim.Native.Nat.{ℕ, _+_, _-_, _*_, _/_, _%_, _^_, _<_, _≤_}
 use native.Mathlib.Nat as N
 use native.Mathlib.Decide.{decLt}
@@ -8,8 +8,10 @@ use native.Mathlib.Omega.{arith}
 use lib.Arith.{digits-mod}
 use lib.Pow.{pow-pos}
 use Rattle.zmod.specs.Remainder.{mul-mod-right}
+use Rattle.zmod.specs.Zmod.{mk}
+use Rattle.zmod.specs.Residues.{Residue, residue-mod}
 use Rattle.barrett.specs.declared.prepared.Modulus.{Modulus}
-use Rattle.barrett.specs.Modulus.{Prepared, prepared-positive}
+use Rattle.barrett.specs.Modulus.{Prepared, prepared-positive, prepared-below}
 
 -- 2^36 may be replaced by its remainder
 module _ {m : Modulus} (h : Prepared m) (x : ℕ) where
@@ -108,16 +110,32 @@ shifted-mod x p s pos = ap (λ n. n / 2 ^ s) whole ∙ N.mul-div-cancel (x % p) 
     whole : x * 2 ^ s % (p * 2 ^ s) ≡ x % p * 2 ^ s
     whole = ap (λ n. n % (p * 2 ^ s)) split ∙ digits-mod (x / p) (N.mul-lt-mul-of-pos-right (N.mod-lt x pos) (pow-pos s))
 
-module _ {m : Modulus} (h : Prepared m) (x : ℕ) (fits : x < 2 ^ 36 * m .p) where
+module _ {m : Modulus} (h : Prepared m) (x : ℕ) where
   abbrev s : ℕ
   s = m .shift
 
-  shifted-fits : x * 2 ^ s < 2 ^ 64
-  shifted-fits =
-      let a : x * 2 ^ s < 2 ^ 36 * m .p * 2 ^ s = N.mul-lt-mul-of-pos-right fits (pow-pos s) in
-      omega (arith, N.mul-assoc (2 ^ 36) (m .p) (2 ^ s), h .shifted)
+  shifted-below : (w : ℕ) → x < w * m .p → x * 2 ^ s < w * 2 ^ 28
+  shifted-below w fits =
+      let a : x * 2 ^ s < w * m .p * 2 ^ s = N.mul-lt-mul-of-pos-right fits (pow-pos s) in
+      let b : w * m .big ≡ w * (m .p * 2 ^ s) = ap (λ n. w * n) (h .shifted) in
+      omega (arith, N.mul-assoc w (m .p) (2 ^ s), N.mul-le-mul-left w (N.le-of-lt (h .below)))
 
-  pub shifted-back : x * 2 ^ s % 2 ^ 64 % m .big / 2 ^ s ≡ x % m .p
-  shifted-back =
-      ap (λ n. n % m .big / 2 ^ s) (N.mod-eq-of-lt shifted-fits) ∙ ap (λ n. x * 2 ^ s % n / 2 ^ s) (h .shifted)
-      ∙ shifted-mod x (m .p) s (prepared-positive h)
+  -- what needs no fold
+  pub shifted-short : x < 2 ^ 30 * m .p → x * 2 ^ s % 2 ^ 64 < 2 ^ 58
+  shifted-short fits =
+      let low : x * 2 ^ s < 2 ^ 58 = shifted-below (2 ^ 30) fits in
+      let small : x * 2 ^ s < 2 ^ 64 = omega arith in
+      omega (arith, N.mod-eq-of-lt small)
+
+  -- the last step: the remainder by P is shifted back
+  module _ (fits : x < 2 ^ 36 * m .p) (y : ℕ) (is : y ≡ x * 2 ^ s % 2 ^ 64 % m .big) where
+    shifted-back : y / 2 ^ s ≡ x % m .p
+    shifted-back =
+        ap (λ n. n / 2 ^ s) is ∙ ap (λ n. n % m .big / 2 ^ s) (N.mod-eq-of-lt (shifted-below (2 ^ 36) fits))
+        ∙ ap (λ n. x * 2 ^ s % n / 2 ^ s) (h .shifted) ∙ shifted-mod x (m .p) s (prepared-positive h)
+
+    pub shifted-word : y / 2 ^ s < 2 ^ 28
+    shifted-word = omega (arith, shifted-back, prepared-below h, N.mod-lt x (prepared-positive h))
+
+    pub shifted-residue : Residue (m .p) (mk (m .p) x) (y / 2 ^ s)
+    shifted-residue = subst (Residue (m .p) (mk (m .p) x)) (sym shifted-back) (residue-mod (prepared-positive h) x)

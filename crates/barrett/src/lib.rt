@@ -70,6 +70,14 @@ pub fn remainder(x: u64, m: Modulus) -> u32
     (low(fold(x << m.shift, m), m) >> m.shift) as u32
 }
 
+// The same for a number that is small enough without a fold, as a sum of a few products of residues is: a step less in the loops that take such remainders.
+pub fn short_remainder(x: u64, m: Modulus) -> u64
+    requires { ⌜ Prepared m × (x < 2 ^ 30 * m .p) ⌝ }
+    ensures { λ r. ⌜ Residue (m .p) (mk (m .p) x) r ⌝ }
+{
+    low(x << m.shift, m) >> m.shift
+}
+
 // out = the residues of the first numbers of xs
 pub fn remainders(xs: &[u64], out: &mut [u32], m: Modulus)
     requires { ⌜ Prepared m × (length (now out) ≤ length (now xs)) ⌝ }

@@ -9,17 +9,18 @@ use native.Mathlib.Nat as N
 use native.Mathlib.Omega.{arith}
 use Rattle.ring.specs.Ring.{CRing, pow}
 use Rattle.ring.specs.Identity.{solve1}
-use Rattle.ring.specs.Identity.Ex.{var, :0, :1, _:-_, _:^_}
+use Rattle.ring.specs.Identity.Ex.{var, :0, :1, _:+_, _:-_, _:*_, :-_, _:^_}
 use Rattle.series.specs.Series.{Series, Seq}
 use Rattle.series.specs.Degree.{Below, Poly, Monic, leading, monic-poly, poly-add, poly-neg}
 use Rattle.series.specs.Indeterminate.{ind}
 use Rattle.series.specs.Binomial.{ind-monic, ind-value, monic-power}
-use Rattle.series.specs.Value.{at, at-eval}
-use Rattle.zmod.specs.Zmod.{Zmod, mk, mk-apart, same?}
+use Rattle.series.specs.Value.{value, at, at-eval}
+use Rattle.zmod.specs.Zmod.{Zmod, val, mk, minus, mk-val, val-lt, mk-apart, same?}
 use Rattle.zmod.specs.Prime.{Prime, prime-pos, Zmod-field}
 use Rattle.zmod.specs.Fermat.{fermat}
 use Rattle.divisibility.specs.Congruence.{congruent-refl, congruent-sym, congruent-add}
 use Rattle.divisibility.specs.Gcd.{Gcd, euclid, gcd-modulo}
+use Rattle.roots.specs.Count.{count-some}
 use Rattle.roots.specs.Rational.{rational-roots}
 use Rattle.roots.specs.Power.{PowerModulo}
 use Rattle.roots.specs.Roots as Roots
@@ -86,3 +87,17 @@ module _ {p : ℕ} (P : Prime p) where
   unfolding rational-roots
   roots-most d g monic =
       Roots.roots-most R (Zmod-field P) (λ y. same? p y (mk p 0)) (mk p) p distinct p d g (suc d, monic .below) (N.le-refl p) (leading R d g monic)
+
+  -- One of degree 1 has one root.
+  pub roots-linear : (g : Seq R) → Monic R 1 g → rational-roots p 2 g ≡ 1
+  unfolding rational-roots value
+  roots-linear g monic =
+      let some : 0 < rational-roots p 2 g = count-some (λ u. same? p (value R 2 g (mk p u)) (mk p 0)) p (val p (minus p (g 0)))
+      (val-lt (prime-pos P) (minus p (g 0))) root in
+      omega (arith, some, roots-most 1 g monic)
+    where
+      root : value R 2 g (mk p (val p (minus p (g 0)))) ≡ mk p 0
+      root =
+          ap (λ u. R .add (g 0) (R .mul u (R .add (g 1) (R .mul u (R .𝟘))))) (mk-val p (minus p (g 0)))
+          ∙ ap (λ y. R .add (g 0) (R .mul (minus p (g 0)) (R .add y (R .mul (minus p (g 0)) (R .𝟘))))) (monic .one)
+          ∙ solve1 R (λ y. y :+ :- y :* (:1 :+ :- y :* :0)) (λ y. :0) tt (g 0)

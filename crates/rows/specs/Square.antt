@@ -15,7 +15,7 @@ use Rattle.zmod.specs.Residues.{poly, poly-at, poly-below, Reduced}
 use Rattle.rows.specs.Rows.{row-more, row-le, RowsAdded, added-le}
 use Rattle.rows.specs.Room.{Held, held-past, held-le, blank, zero-at, turns}
 use Rattle.rows.specs.Block.{upper, upper-low, upper-high, upper-none, upper-square, block, square-step}
-use Rattle.rows.specs.Sums.{Sums, products-low}
+use Rattle.rows.specs.Sums.{ProductSums, products-low}
 use Rattle.rows.specs.Turn.{turn-classes}
 
 -- the square of the terms of a from i on
@@ -102,13 +102,15 @@ module _ (p : ℕ) (a : List ℕ) where
     bounded = λ k. omega (arith, h .bounded k, t .bounded k, N.add-mul (2 * i) 8 ((p - 1) * (p - 1)));
   }
 
-  -- a sum below 2^36 p
-  low : (i k : ℕ) (acc : List ℕ) → 0 < p → 2 * i * p ≤ 2 ^ 36 → Added p a i acc → getD acc k 0 < 2 ^ 36 * p
-  low i k acc pos le h = products-low (2 * i) p (getD acc k 0) pos le (h .bounded k)
+  few : (i c : ℕ) (acc : List ℕ) → 2 * i ≤ c → Added p a i acc → (k : ℕ) → getD acc k 0 ≤ c * ((p - 1) * (p - 1))
+  few i c acc le h k = N.le-trans (h .bounded k) (N.mul-le-mul-right ((p - 1) * (p - 1)) le)
 
   -- there is room for one turn more
-  pub turn-room : (i n m : ℕ) → i % 4 ≡ 0 → i < n → i + i < m → 8 * turns n m * p ≤ 2 ^ 36 → 2 * (i + 4) * p ≤ 2 ^ 36
-  turn-room i n m four here below fits = N.le-trans (N.mul-le-mul-right p (omega arith)) fits
+  pub turn-counts : (i n m : ℕ) → i % 4 ≡ 0 → i < n → i + i < m → 2 * (i + 4) ≤ 8 * turns n m
+  turn-counts i n m four here below = omega arith
+
+  pub turn-room : (i c : ℕ) → 2 * (i + 4) ≤ c → c * p ≤ 2 ^ 36 → 2 * (i + 4) * p ≤ 2 ^ 36
+  turn-room i c le fits = N.le-trans (N.mul-le-mul-right p le) fits
 
   pub turn-below : (i k : ℕ) (acc : List ℕ) → 0 < p → p ≤ 2 ^ 28 → 2 * (i + 4) * p ≤ 2 ^ 36 → Added p a i acc
       → getD acc k 0 + 8 * ((p - 1) * (p - 1)) < 2 ^ 64
@@ -123,17 +125,17 @@ module _ (p : ℕ) (a : List ℕ) where
   unfolding upper
   whole k = refl
 
-  -- at the end of a, and at the end of the sums
-  pub added-all : (i : ℕ) (acc : List ℕ) → 0 < p → 2 * i * p ≤ 2 ^ 36 → length a ≤ i → Added p a i acc → Sums p (conv (Zmod p) (poly p a) (poly p a)) acc
-  added-all i acc pos fits end h = record {
-    bounded = λ k. low i k acc pos fits h;
+  -- at the end of a, and at the end of the sums: no more products than the turns have
+  pub added-all : (i c : ℕ) (acc : List ℕ) → 2 * i ≤ c → length a ≤ i → Added p a i acc → ProductSums c p (conv (Zmod p) (poly p a) (poly p a)) acc
+  added-all i c acc le end h = record {
+    few = few i c acc le h;
     classes = λ k l.
         sym (plus-zero p _) ∙ ap (plus p (poly p acc k)) (sym (upper-none (Zmod p) i (poly p a) _ (poly-below p a i end) k)) ∙ h .classes k l ∙ whole k;
   }
 
-  pub added-end : (i : ℕ) (acc : List ℕ) → 0 < p → 2 * i * p ≤ 2 ^ 36 → length acc ≤ i + i → Added p a i acc → Sums p (conv (Zmod p) (poly p a) (poly p a)) acc
-  added-end i acc pos fits end h = record {
-    bounded = λ k. low i k acc pos fits h;
+  pub added-end : (i c : ℕ) (acc : List ℕ) → 2 * i ≤ c → length acc ≤ i + i → Added p a i acc → ProductSums c p (conv (Zmod p) (poly p a) (poly p a)) acc
+  added-end i c acc le end h = record {
+    few = few i c acc le h;
     classes = λ k l.
         sym (plus-zero p _) ∙ ap (plus p (poly p acc k)) (sym (upper-square (Zmod p) i (poly p a) k (omega arith))) ∙ h .classes k l ∙ whole k;
   }

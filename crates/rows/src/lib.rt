@@ -10,7 +10,7 @@ ghost use Rattle.zmod.specs.Residues.{Reduced, poly};
 ghost use Rattle.rows.specs.Rows.{four-more, row-more, RowsAdded, Four, Twice};
 ghost use Rattle.rows.specs.Room.{Above, turns};
 ghost use Rattle.rows.specs.Square.{Turned};
-ghost use Rattle.rows.specs.Sums.{Sums};
+ghost use Rattle.rows.specs.Sums.{ProductSums};
 
 // s + w a + x b + y c + z d
 pub fn sum_more(s: u64, w: u64, a: u64, x: u64, b: u64, y: u64, c: u64, z: u64, d: u64) -> u64
@@ -26,7 +26,17 @@ pub fn sum_more(s: u64, w: u64, a: u64, x: u64, b: u64, y: u64, c: u64, z: u64, 
 }
 
 // out = out + w a + x b + y c + z d, word by word.
-fn four(out: &mut [u64], a: &[u64], b: &[u64], c: &[u64], d: &[u64], w: u64, x: u64, y: u64, z: u64)
+pub fn four(
+    out: &mut [u64],
+    a: &[u64],
+    b: &[u64],
+    c: &[u64],
+    d: &[u64],
+    w: u64,
+    x: u64,
+    y: u64,
+    z: u64,
+)
     requires { ⌜ (length (now out) ≤ length (now a)) × (length (now out) ≤ length (now b))
         × (length (now out) ≤ length (now c)) × (length (now out) ≤ length (now d)) ⌝ }
     requires { ⌜ (Reduced (2 ^ 32) (now a)) × (Reduced (2 ^ 32) (now b)) × (Reduced (2 ^ 32) (now c)) × (Reduced (2 ^ 32) (now d)) ⌝ }
@@ -69,6 +79,17 @@ pub fn word(a: &[u32], i: usize) -> u64
     ensures { λ r. ⌜ r ≡ getD (now (a .entry)) i 0 ⌝ }
 {
     if i < a.len() { field::wide(a[i]) } else { 0 }
+}
+
+// out = a, in wider words, with zeros past a's end.
+pub fn widen(a: &[u32], out: &mut [u64])
+    ensures { λ _. ⌜ Filled (λ j v. v ≡ getD (now (a .entry)) j 0) (now (out .exit)) (length (now (out .exit))) ⌝ }
+{
+    let mut k = 0;
+    while k < out.len() {
+        out[k] = word(a, k);
+        k += 1;
+    }
 }
 
 // Four words from `at` on.
@@ -131,7 +152,8 @@ fn square_turns(a: &[u32], e: &mut [u64], acc: &mut [u64], p: u32)
     requires { ⌜ (length (now a) + 6 ≤ length (now e)) × (length (now a) < 2 ^ 60) ⌝ }
     requires { ⌜ (0 < p) × (p ≤ 2 ^ 28) × Reduced p (now a) × (8 * turns (length (now a)) (length (now acc)) * p ≤ 2 ^ 36) ⌝ }
     requires { ⌜ Above (now a) 0 (now e) × (now acc ≡ replicate (length (now acc)) 0) ⌝ }
-    ensures { λ _. ⌜ Sums p (conv (Zmod p) (poly p (now (a .entry))) (poly p (now (a .entry)))) (now (acc .exit)) ⌝ }
+    ensures { λ _. ⌜ ProductSums (8 * turns (length (now (a .entry))) (length (now (acc .entry)))) p
+        (conv (Zmod p) (poly p (now (a .entry))) (poly p (now (a .entry)))) (now (acc .exit)) ⌝ }
 {
     let mut i = 0;
     while i < a.len() {
@@ -147,7 +169,8 @@ fn square_turns(a: &[u32], e: &mut [u64], acc: &mut [u64], p: u32)
 pub fn square(a: &[u32], e: &mut [u64], acc: &mut [u64], p: u32)
     requires { ⌜ (length (now a) + 6 ≤ length (now e)) × (length (now a) < 2 ^ 60) ⌝ }
     requires { ⌜ (0 < p) × (p ≤ 2 ^ 28) × Reduced p (now a) × (8 * turns (length (now a)) (length (now acc)) * p ≤ 2 ^ 36) ⌝ }
-    ensures { λ _. ⌜ Sums p (conv (Zmod p) (poly p (now (a .entry))) (poly p (now (a .entry)))) (now (acc .exit)) ⌝ }
+    ensures { λ _. ⌜ ProductSums (8 * turns (length (now (a .entry))) (length (now (acc .entry)))) p
+        (conv (Zmod p) (poly p (now (a .entry))) (poly p (now (a .entry)))) (now (acc .exit)) ⌝ }
 {
     prepare(a, e);
     clear(acc);

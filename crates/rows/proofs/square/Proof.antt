@@ -4,7 +4,11 @@ use Prim.Native.Nat.{_*_, _^_, _≤_}
 use native.Mathlib.Omega.{arith}
 use borrow.Author.Needs.{needs}
 use lib.ListN.{length, replicate}
+use Rattle.series.specs.Series.{conv}
+use Rattle.zmod.specs.Zmod.{Zmod}
+use Rattle.zmod.specs.Residues.{poly}
 use Rattle.rows.specs.Room.{turns}
+use Rattle.rows.specs.Sums.{ProductSums}
 use Rattle.rows.proofs.square.Statement.{statement}
 use Rattle.rows.proofs.square.Tie as tie
 
@@ -39,7 +43,15 @@ same-length-2 : tie.Need-same-length-2
 same-length-2 c = search needs
 
 returns : tie.Need-returns
-returns c = search needs
+returns c =
+    let at-turns = c .before .before .before .before in
+    let at-clear = at-turns .before .before .before .before .before in
+    let start = at-clear .before .before .before .before .before .before .before .before .before in
+    let a = start .args in
+    let turned = at-turns .square-turns in
+    let same : length (at-clear .clear .last .0) ≡ length (a .acc .now) = omega arith in
+    subst (λ n. ProductSums (8 * turns (length (a .a .now)) n) (a .p) (conv (Zmod (a .p)) (poly (a .p) (a .a .now)) (poly (a .p) (a .a .now)))
+    (turned .last .1 .1 .0)) same (turned .ensures)
 
 pub square-spec : {M : Type 1} → statement M
 square-spec = tie.close (tie.spec prepare-requires clear-requires square-turns-requires same-length same-length-2 returns)

@@ -4,13 +4,14 @@ use Prim.Native.Nat.{_-_, _*_, _%_, _^_, _≤_}
 use native.Mathlib.Omega.{arith}
 use borrow.Author.Needs.{needs}
 use lib.ListN.{length}
-use Rattle.rows.specs.Room.{Above}
-use Rattle.rows.specs.Square.{Added, added-none, added-more, added-end, added-all, turn-room, turn-below}
+use Rattle.rows.specs.Room.{Above, turns}
+use Rattle.rows.specs.Square.{Added, added-none, added-more, added-end, added-all, turn-counts, turn-room, turn-below}
 use Rattle.rows.proofs.square_turns.Statement.{statement}
 use Rattle.rows.proofs.square_turns.Tie as tie
 
 abbrev Inv-loop : tie.InvT-loop
-Inv-loop a e₀ acc₀ p i₀ e acc i = (length e ≡ length e₀) × (length acc ≡ length acc₀) × (i % 4 ≡ 0) × (2 * i * p ≤ 2 ^ 36) × Above a i e × Added p a i acc
+Inv-loop a e₀ acc₀ p i₀ e acc i =
+    (length e ≡ length e₀) × (length acc ≡ length acc₀) × (i % 4 ≡ 0) × (2 * i ≤ 8 * turns (length a) (length acc₀)) × Above a i e × Added p a i acc
 
 abbrev μ-loop : tie.MeasureT-loop
 μ-loop a e₀ acc₀ p i₀ e acc i = length a - i
@@ -36,7 +37,7 @@ returns c =
     let start = at-loop .before .before .before .before in
     let a = start .args in
     let loop = at-loop .loop in
-    added-end (a .p) (a .a .now) (loop .i) (loop .acc) (search needs) (loop .inv .3) (omega arith) (loop .inv .5)
+    added-end (a .p) (a .a .now) (loop .i) _ (loop .acc) (loop .inv .3) (omega arith) (loop .inv .5)
 
 square-turn-requires : tie.Need-square-turn-requires Inv-loop μ-loop
 square-turn-requires c κs =
@@ -44,8 +45,8 @@ square-turn-requires c κs =
     let start = at-loop .before .before .before .before in
     let a = start .args in
     let loop = at-loop .loop in
-    let four = loop .inv .2 in
-    let fits = turn-room (a .p) (a .a .now) (loop .i) (length (a .a .now)) (length (a .acc .now)) four (omega arith) (omega arith) (start .pre .1 .0 .3) in (
+    let more = turn-counts (a .p) (a .a .now) (loop .i) (length (a .a .now)) (length (a .acc .now)) (loop .inv .2) (omega arith) (omega arith) in
+    let fits = turn-room (a .p) (a .a .now) (loop .i) _ more (start .pre .1 .0 .3) in (
       (search needs, omega arith, omega arith),
       (
         (start .pre .1 .0 .0, start .pre .1 .0 .1, start .pre .1 .0 .2),
@@ -69,13 +70,11 @@ loop-again c =
     let start = at-loop .before .before .before .before in
     let a = start .args in
     let loop = at-loop .loop in
-    let turn = at-square-turn .square-turn in
-    let four = loop .inv .2 in
-    let fits = turn-room (a .p) (a .a .now) (loop .i) (length (a .a .now)) (length (a .acc .now)) four (omega arith) (omega arith) (start .pre .1 .0 .3) in (
+    let turn = at-square-turn .square-turn in (
       search needs,
       search needs,
       omega arith,
-      fits,
+      turn-counts (a .p) (a .a .now) (loop .i) (length (a .a .now)) (length (a .acc .now)) (loop .inv .2) (omega arith) (omega arith),
       turn .ensures .0,
       added-more (a .p) (a .a .now) (loop .i) (loop .acc) _ (search needs) (loop .inv .5)
           (turn .ensures .1),
@@ -93,7 +92,7 @@ returns-2 c =
     let start = at-loop .before .before .before .before in
     let a = start .args in
     let loop = at-loop .loop in
-    added-all (a .p) (a .a .now) (loop .i) (loop .acc) (search needs) (loop .inv .3) (omega arith) (loop .inv .5)
+    added-all (a .p) (a .a .now) (loop .i) _ (loop .acc) (loop .inv .3) (omega arith) (loop .inv .5)
 
 pub square-turns-spec : {M : Type 1} → statement M
 square-turns-spec = tie.close (tie.spec Inv-loop μ-loop loop-holds mul-if1 same-length same-length-2 returns square-turn-requires add-i loop-less loop-again
