@@ -35,7 +35,7 @@ pub fn finish(
     if !holds {
         return Written::Refused(11);
     }
-    let abscissas = modulo::roots(g, m);
+    let abscissas = counting::roots(g, m);
     let words = certificate::write(v, g, n, abscissas, answer);
     let count = words as u32;
     Written::Count(count)

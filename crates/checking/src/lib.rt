@@ -55,7 +55,7 @@ fn numerator_and_count(v: Values, m: Modulus, g: &[u32], n: &[u32], abscissas: u
     if !same_numerator(v, m, g, n) {
         return false;
     }
-    modulo::roots(g, m) == abscissas
+    counting::roots(g, m) == abscissas
 }
 
 // The number of the first of questions 8 to 10 that g, N and the count of rational abscissas do not pass, or 0, with a modulus that was prepared.

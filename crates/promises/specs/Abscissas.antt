@@ -1,31 +1,26 @@
--- How many abscissas of the kernel are rational (document 02, E6), and what it takes to count them: g is monic, so it is a divisor, and the count is d at most.
+-- How many abscissas of the kernel are rational (document 02, E6). The count is d at most.
 -- Assumes nothing.
-use mathlib.Core.Path.{_≡_, sym, _∙_, ap, subst}
+use mathlib.Core.Path.{_≡_, sym, ap, subst}
 use mathlib.Core.List.{List}
 use Prim.Native.Nat.{ℕ, suc, _-_, _^_, _≤_, _<_}
 use native.Mathlib.Omega.{arith}
 use lib.ListN.{length}
 use Rattle.series.specs.Degree.{Monic}
 use Rattle.zmod.specs.Zmod.{Zmod}
-use Rattle.zmod.specs.Prime.{Prime}
 use Rattle.zmod.specs.Residues.{poly}
 use Rattle.isogeny.specs.Rules.{R1}
 use Rattle.roots.specs.Rational.{rational-roots}
 use Rattle.roots.specs.Theorems.{roots-most}
-use Rattle.barrett.specs.declared.prepared.Modulus.{Modulus}
-use Rattle.barrett.specs.Modulus.{Prepared}
 use Rattle.sheet.specs.declared.Values.{Values}
 use Rattle.sheet.specs.Values.{half, question}
-use Rattle.sheet.specs.Ready.{Ready, HoldsG, half-least, half-most}
-use Rattle.rules.specs.Over.{Over}
-use Rattle.modulo.specs.Modulo.{Divisor}
+use Rattle.sheet.specs.Ready.{Ready, HoldsG, half-most}
 
 -- the count of u from 0 to p − 1 with g(u) = 0
 abbrev pub rational-abscissas : Values → List ℕ → ℕ
 rational-abscissas v g = rational-roots (v .p) (length g) (poly (v .p) g)
 
 module _ (v : Values) (ready : Ready v) (g : List ℕ) (words : HoldsG v g) (r1 : R1 (Zmod (v .p)) (question v) (poly (v .p) g)) where
-  monic : Monic (Zmod (v .p)) (length g - 1) (poly (v .p) g)
+  pub monic : Monic (Zmod (v .p)) (length g - 1) (poly (v .p) g)
   monic =
       let e : length g - 1 ≡ half v = omega (arith, words .count) in
       subst (λ n. Monic (Zmod (v .p)) n (poly (v .p) g)) (sym e) (record { below = r1 .degree; one = r1 .leading })
@@ -40,18 +35,3 @@ module _ (v : Values) (ready : Ready v) (g : List ℕ) (words : HoldsG v g) (r1 
   -- so they are a value of a word
   pub abscissas-fit : rational-abscissas v g < 2 ^ 28
   abscissas-fit = omega (arith, abscissas-most, half-most v ready)
-
-  -- ── what the count by x^p modulo g asks for, and what it gives
-
-  module _ (m : Modulus) (over : Over v m) where
-    pub countable : Prime (m .p) × Prepared m × (Divisor (m .p) g) × (2 ≤ length g) × (length g ≤ 128)
-    countable = (
-      subst Prime (sym (over .same)) (ready .prime .prime),
-      over .prepared,
-      subst (λ p. Divisor p g) (sym (over .same)) (record { reduced = words .reduced; some = omega (arith, words .count); monic = monic }),
-      omega (arith, words .count, half-least v ready),
-      omega (arith, words .count, half-most v ready),
-    )
-
-    pub counted : (r : ℕ) → r ≡ rational-roots (m .p) (length g) (poly (m .p) g) → r ≡ rational-abscissas v g
-    counted r e = e ∙ ap (λ p. rational-roots p (length g) (poly p g)) (over .same)

@@ -32,7 +32,7 @@ abbrev pub CheckRight : List ℕ → Verdict → Type 0
 CheckRight ws r = Answers (check-asks ws) (λ _. Unit {0}) (verdictOutcome r)
 
 -- ── a certificate in the answer buffer: the words of a g that meets the rules for the values v, with R2's N and the count of rational abscissas, and behind
--- them what stood there before
+-- them what stood there before; `count` is that of the words
 
 pub record CertificateIn (v : Values) (before after : List ℕ) (count : ℕ) : Type 0 where
   pub g : List ℕ

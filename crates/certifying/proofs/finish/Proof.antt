@@ -5,7 +5,8 @@ use mathlib.Core.List.{_++_}
 use native.Mathlib.Omega.{arith}
 use lib.ListN.{drop}
 use Rattle.certificate.specs.Certificate.{certificate}
-use Rattle.promises.specs.Abscissas.{countable, counted, abscissas-fit}
+use Rattle.promises.specs.Abscissas.{abscissas-fit}
+use Rattle.promises.specs.Countable.{countable, counted}
 use Rattle.certifying.proofs.Rules.{refused, meets}
 use borrow.Author.Needs.{needs}
 use Rattle.certifying.proofs.finish.Statement.{statement}

@@ -2,7 +2,7 @@
 -- Assumes nothing.
 use mathlib.Core.Path.{sym, _∙_}
 use borrow.Author.Tests.{eqb-true, eq-eqb}
-use Rattle.promises.specs.Abscissas.{countable, counted}
+use Rattle.promises.specs.Countable.{countable, counted}
 use Rattle.questions.specs.Tests.{says-no, refuted, shown}
 use borrow.Author.Needs.{needs}
 use Rattle.checking.proofs.numerator_and_count.Statement.{statement}

@@ -1,0 +1,4 @@
+pub mod Combination
+pub mod Table
+pub mod Fold
+pub mod Square

@@ -1,0 +1,4 @@
+pub mod Product
+pub mod Quotient
+pub mod Division
+pub mod Lifted
