@@ -41,12 +41,26 @@ ninth = Q 1009 1 3 81 169 9 0
 abbrev ninth-g : List ℕ
 ninth-g = 336 ∷ 12 ∷ 2 ∷ 0 ∷ 1 ∷ []
 
+-- the same curve over 1013, where the points of order 3 have no rational abscissa
+abbrev none : Values
+none = Q 1013 1 3 81 161 9 0
+
+abbrev none-g : List ℕ
+none-g = 675 ∷ 12 ∷ 2 ∷ 0 ∷ 1 ∷ []
+
+-- a g that has a root twice
+abbrev twice : Values
+twice = Q 11 0 1 0 1 5 0
+
 -- the one over 11: g = x, N = x³ + 4
 abbrev eleven : Values
 eleven = Q 11 0 1 0 6 3 0
 
 abbrev x : List ℕ
 x = 0 ∷ 1 ∷ []
+
+abbrev x² : List ℕ
+x² = 0 ∷ 0 ∷ 1 ∷ []
 
 abbrev x³+4 : List ℕ
 x³+4 = 4 ∷ 0 ∷ 0 ∷ 1 ∷ []
@@ -82,13 +96,18 @@ rows =
     ∷ refused (Q 11 11 1 0 6 3 0) x x³+4 1 5
     ∷ refused eleven (11 ∷ 1 ∷ []) x³+4 1 6
     ∷ unnamed 11 11 1 5
-    -- E6: a count that is wrong by one, by p, or by all that a word can hold; 9 also where R3 fails beside it
+    -- E6: a kernel with no rational abscissa
+    ∷ solves none none none-g (numerator none none-g) 0
+    -- a count that is wrong by one, by p, d in its place, or the largest value of a word; 9 also where R3 fails beside it
     ∷ refused first first-g first-n 0 9
     ∷ refused first first-g first-n 2 9
     ∷ refused first first-g first-n 1010 9
     ∷ refused ninth ninth-g (numerator ninth ninth-g) 4 9
     ∷ refused eleven x x³+4 268435455 9
     ∷ refused (Q 11 0 1 0 7 3 0) x x³+4 0 9
+    -- a root is counted once, also where g has it twice: the count 2 is wrong, and with 1 it is R3 that fails
+    ∷ refused twice x² (numerator twice x²) 2 9
+    ∷ refused twice x² (numerator twice x²) 1 10
     -- E5: the parts of the first one's N
     ∷ parts first first-g part₁ part₂ part₃
     ∷ []

@@ -72,7 +72,7 @@ module _ (ws : List ℕ) (passes : AllYes (check-asks ws)) where
   back : ws ≡ certificate v (gOf Certificate ws) (nOf Certificate ws) (abscissasOf ws)
   back = certificate-back ws accepted
 
-  -- what holds of the certificate with these values, g and N holds of these words
+  -- what holds of the certificate with these values, g, N and count holds of these words
   at-words : (P : List ℕ → Type 0) → P (certificate v (gOf Certificate ws) (nOf Certificate ws) (abscissasOf ws)) → P ws
   at-words P = subst P (sym back)
 
@@ -129,7 +129,7 @@ module _ (ws : List ℕ) (passes : AllYes (check-asks ws)) where
         ),
       )
 
-  -- That certificate, with its count and what stood behind it in the buffer, is a right answer of solve to its question,
+  -- That certificate, with the count of its words and what stood behind it in the buffer, is a right answer of solve to its question,
   pub solve-right : (before : List ℕ) → Room (length before) → SolveRight (questionOf ws) before (ws ++ drop (length ws) before) (written.Count (length ws))
   solve-right before room =
       let solvable : Solvable v = record { g = poly (v .p) (gOf Certificate ws); meets = certificate-meets ws passes } in (

@@ -52,8 +52,8 @@ abbrev pub holds : ℕ → List ℕ → Bool
 holds k [] = false
 holds k (j ∷ js) = cond (eqb k j) true (holds k js)
 
--- what a value x on a sheet over p is read as, p and ℓ apart: a certificate has it as it stands, on a question or a kernel sheet it is taken modulo p
--- (document 02, E2)
+-- what a value x on a sheet over p is read as, p, ℓ and the count apart: a certificate has it as it stands, on a question or a kernel sheet it is taken modulo
+-- p (document 02, E2)
 abbrev pub valueIn : Form → ℕ → ℕ → ℕ
 valueIn Question p x = x % p
 valueIn Certificate p x = x
