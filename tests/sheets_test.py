@@ -174,7 +174,6 @@ class Reading(unittest.TestCase):
         # A remark is on its own line or word and on no other.
         self.assertEqual(sum("<-" in line or "remark" in line for line in self.shown(in_bytes(self.changed(2, "300003f1")), 1)), 1)
 
-
     def test_no_remark_on_the_size_of_a_count(self):
         # It is no coefficient; whether it is right is for the library to say.
         for word in ("a0000000", "a00003f1", "afffffff"):

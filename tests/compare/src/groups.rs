@@ -1,5 +1,6 @@
 //! The groups of cases, in the order in which they are run.
 
+pub mod abscissas;
 pub mod almost;
 pub mod certificates;
 pub mod damage;
@@ -59,6 +60,9 @@ fn by_document(quick: bool) -> Vec<Group> {
         group("numerator", move |judge| numerator::run(judge, quick)),
         group("repetition", move |judge| repetition::run(judge, quick)),
         group("rational", move |judge| rational::run(judge, quick)),
+        group("rational, every degree", move |judge| {
+            abscissas::run(judge, quick)
+        }),
         group("rational, every g", move |judge| {
             rational::every(judge, quick)
         }),

@@ -137,7 +137,7 @@ fn main() -> ExitCode {
         return ExitCode::FAILURE;
     }
     if whole && !watch.is_complete(options.quick) {
-        eprintln!("too few certificates came up: of an entry none, or not of every degree, or not with none, some and all abscissas rational");
+        eprintln!("too few certificates came up: of an entry, of a degree, or with none, some or all abscissas rational");
         return ExitCode::FAILURE;
     }
     if differences == 0 {

@@ -3,7 +3,7 @@
 //! count of rational abscissas is that of g. It is read from the words with any odd
 //! degree, so that a wrong question 4 shows here too.
 
-use std::collections::{BTreeSet, HashSet};
+use std::collections::{BTreeMap, HashSet};
 
 use reference::rational;
 use reference::repetition::{common_factors, read_any_degree};
@@ -18,7 +18,6 @@ pub struct Watch {
     counts: [u64; ENTRIES.len()],
     /// The words of those that were found in order, to be worked out once for a group.
     sound: HashSet<Vec<u32>>,
-    degrees: BTreeSet<u64>,
 }
 
 impl Watch {
@@ -55,7 +54,6 @@ impl Watch {
         }
         if found.is_empty() {
             self.sound.insert(certificate.words());
-            self.degrees.insert(certificate.question.l);
         }
         found
     }
@@ -64,22 +62,26 @@ impl Watch {
         let counts = self.counts.iter_mut().zip(other.counts);
         counts.for_each(|(sum, count)| *sum += count);
         self.sound.extend(other.sound);
-        self.degrees.extend(other.degrees);
     }
 
-    /// Of how many different ones none, some and all abscissas are rational.
-    fn shares(&self) -> [usize; 3] {
-        let mut shares = [0; 3];
+    /// Of each degree, of how many different ones none, some and all abscissas are rational.
+    fn by_degree(&self) -> BTreeMap<u64, [usize; 3]> {
+        let mut shares: BTreeMap<u64, [usize; 3]> = BTreeMap::new();
         for words in &self.sound {
-            let d = half(value(words[5])) as u64;
+            let l = value(words[5]);
             let place = match value(words[words.len() - 2]) {
                 0 => 0,
-                rational if rational < d => 1,
+                rational if rational < half(l) as u64 => 1,
                 _ => 2,
             };
-            shares[place] += 1;
+            shares.entry(l).or_default()[place] += 1;
         }
         shares
+    }
+
+    fn shares(&self) -> [usize; 3] {
+        let by_degree = self.by_degree();
+        [0, 1, 2].map(|place| by_degree.values().map(|shares| shares[place]).sum())
     }
 
     /// One line: how many there were, which degrees they have, and of how many none, some
@@ -87,9 +89,9 @@ impl Watch {
     pub fn line(&self) -> String {
         let by_entry = ENTRIES.iter().zip(self.counts);
         let by_entry: Vec<String> = by_entry.map(|(name, n)| format!("{name} {n}")).collect();
-        let (first, last) = (self.degrees.first(), self.degrees.last());
-        let degrees = match first.zip(last) {
-            Some((first, last)) => format!("{} degrees from {first} to {last}", self.degrees.len()),
+        let all: Vec<u64> = self.by_degree().into_keys().collect();
+        let degrees = match all.first().zip(all.last()) {
+            Some((first, last)) => format!("{} degrees from {first} to {last}", all.len()),
             None => "no degree".to_string(),
         };
         let [none, some, all] = self.shares();
@@ -101,10 +103,16 @@ impl Watch {
         )
     }
 
-    /// Whether every entry had certificates, with none, some and all abscissas rational,
-    /// and in the full form every odd degree.
+    /// Whether every entry had certificates, with none, some and all abscissas rational;
+    /// and in the full form every odd degree, with all of them rational and with fewer. For
+    /// l = 3 there is but one, which is rational as g is.
     pub fn is_complete(&self, quick: bool) -> bool {
-        let all = (3..=255).step_by(2).all(|l| self.degrees.contains(&l));
+        let by_degree = self.by_degree();
+        let both = |l: u64| {
+            let shares = by_degree.get(&l);
+            shares.is_some_and(|[none, some, all]| *all > 0 && (l == 3 || none + some > 0))
+        };
+        let all = (3..=255).step_by(2).all(both);
         let shares = self.shares().iter().all(|&count| count > 0);
         self.counts.iter().all(|&count| count > 0) && (quick || all) && shares
     }

@@ -198,6 +198,10 @@ pub const FAULTS: &[(&str, Fault)] = &[
         Fault::Output(rational::power_less_1),
     ),
     (
+        "counted-unreduced",
+        Fault::Output(rational::unreduced_start),
+    ),
+    (
         "counted-to-a-constant",
         Fault::Output(rational::stopped_at_constant),
     ),
@@ -208,6 +212,14 @@ pub const FAULTS: &[(&str, Fault)] = &[
     (
         "multiplicities-counted",
         Fault::Output(rational::with_multiplicity),
+    ),
+    (
+        "rational-at-one-degree",
+        Fault::Output(rational::at_one_degree),
+    ),
+    (
+        "rational-over-least-primes",
+        Fault::Output(rational::over_least_primes),
     ),
     (
         "rational-written-wrong",

@@ -21,6 +21,7 @@ use reference::marked;
 use reference::poly::Poly;
 use reference::primes::{next_prime, previous_prime, sieve};
 use reference::random::Random;
+use reference::rational::with_only;
 use reference::repetition::{curve_with_root, power_of_root, with_repeated_factor};
 use reference::rules;
 use reference::services::{self, Point};
@@ -251,9 +252,10 @@ impl Script {
         self.sums += 1;
     }
 
-    /// Document 02's parts; then those of any g of every degree, and of some with a
-    /// repeated factor. Their sum and the count of their roots the library must let pass
-    /// question 9, though R3 fails for nearly all of them.
+    /// Document 02's parts; then those of any g of every degree, of some with half of their
+    /// roots in the field, and of some with a repeated factor. Their sum and the count of
+    /// their roots the library must let pass question 9, though R3 fails for nearly all of
+    /// them.
     fn numerators(&mut self, random: &mut Random) {
         let first = marked::first();
         self.parts(&first, &marked::PARTS.map(Vec::from));
@@ -262,6 +264,12 @@ impl Script {
                 let (field, d) = (Field::new(p), sheet::half(l));
                 let any = random_monic(random, field, d);
                 self.numerator(random, l, &any);
+                // Half of the roots in the field, perhaps some of them twice.
+                if d > 2 {
+                    let roots: Vec<u64> = (0..d / 2).map(|_| random.below(p)).collect();
+                    let half = with_only(random, field, d, &roots);
+                    self.numerator(random, l, &half);
+                }
                 for g in with_repeated_factor(random, field, d) {
                     self.numerator(random, l, &g);
                 }

@@ -9,7 +9,7 @@ use crate::sheet::VALUE_LIMIT;
 pub type Miscount = fn(&Poly) -> u64;
 
 /// Each is another count for some g; for many g some are not.
-pub const ALL: [Miscount; 15] = [
+pub const ALL: [Miscount; 16] = [
     one_more,
     one_less,
     none,
@@ -23,6 +23,7 @@ pub const ALL: [Miscount; 15] = [
     half_power,
     power_of_27_bits,
     power_less_1,
+    unreduced_start,
     stopped_at_constant,
     stopped_half_way,
 ];
@@ -100,6 +101,18 @@ pub fn power_of_27_bits(g: &Poly) -> u64 {
 /// The lowest bit is lost.
 pub fn power_less_1(g: &Poly) -> u64 {
     degree_with(g, g.field().p() - 1, -1)
+}
+
+/// The first bits of p, as many as make d at most, give the power of x to start from. If
+/// they make d, that power has no place among d coefficients and is lost: what is left
+/// is 0 - x.
+pub fn unreduced_start(g: &Poly) -> u64 {
+    let d = all(g);
+    if (0..28).any(|bits| g.field().p() >> bits == d) {
+        u64::from(g.at(0) == 0)
+    } else {
+        count(g)
+    }
 }
 
 /// Euclid's algorithm ends at a remainder without x, also if that is not 0: what came

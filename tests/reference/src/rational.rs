@@ -5,6 +5,7 @@
 //! trying.
 
 use crate::field::Field;
+use crate::generate::random_monic;
 use crate::poly::Poly;
 use crate::random::Random;
 
@@ -127,6 +128,41 @@ pub fn with_count(random: &mut Random, field: Field, d: usize, count: usize) -> 
         product = product.mul(&factor);
     }
     product
+}
+
+/// A monic polynomial of degree d with these roots, each as often as it is named, and no
+/// other. The degree is not one more than their number.
+pub fn with_only(random: &mut Random, field: Field, d: usize, roots: &[u64]) -> Poly {
+    let linear = Poly::with_roots(field, roots);
+    match d - roots.len() {
+        0 => linear,
+        rest => linear.mul(&without_root(random, field, rest)),
+    }
+}
+
+/// Any monic polynomial of a degree from 2 on that has no root. Over a small field each u
+/// is tried. Over a large one it is h^2 - c for any h and a c that is no square, with a
+/// cubic factor where the degree is odd.
+pub fn without_root(random: &mut Random, field: Field, d: usize) -> Poly {
+    assert!(d > 1, "degree {d} without a root");
+    if field.p() < TRIED {
+        loop {
+            let any = random_monic(random, field, d);
+            if by_differences(&any) == 0 {
+                return any;
+            }
+        }
+    }
+    if d % 2 == 1 {
+        let cubic = cubic_without_root(random, field);
+        return match d {
+            3 => cubic,
+            _ => cubic.mul(&without_root(random, field, d - 3)),
+        };
+    }
+    let c = drawn(random, field, |c| !field.is_square(c));
+    let any = random_monic(random, field, d / 2);
+    any.square().sub(&Poly::new(field, vec![c]))
 }
 
 /// (x - t)^2 - c for a c that is no square.

@@ -60,6 +60,19 @@ pub fn wronskian(g: &Poly, n: &Poly) -> Poly {
     first.sub(&n.mul(&g.derivative()).scale(two))
 }
 
+/// Whether both sides of R3 have one value at u. Where they have not, R3 does not hold.
+pub fn r3_at(certificate: &Certificate, u: u64) -> bool {
+    let (q, (g, n)) = (&certificate.question, certificate.polynomials());
+    let k = q.field();
+    let [g_u, n_u] = [&g, &n].map(|poly| poly.value(u));
+    let [g_1, n_1] = [&g, &n].map(|poly| poly.derivative().value(u));
+    let bend = k.sub(k.mul(n_1, g_u), k.mul(k.of(2), k.mul(n_u, g_1)));
+    let left = k.mul(cubic(k, q.a, q.b).value(u), k.mul(bend, bend));
+    let second = k.mul(q.a_t, k.mul(n_u, k.pow(g_u, 4)));
+    let third = k.mul(q.b_t, k.pow(g_u, 6));
+    left == k.add(k.pow(n_u, 3), k.add(second, third))
+}
+
 impl R3 {
     pub fn new(a: u64, b: u64, g: &Poly, n: &Poly) -> R3 {
         let left = cubic(g.field(), a, b).mul(&wronskian(g, n).square());

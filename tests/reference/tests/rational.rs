@@ -2,6 +2,8 @@
 //! u can be tried, and elsewhere against how a polynomial was made and against linear
 //! algebra.
 
+use std::collections::BTreeSet;
+
 use reference::brute::all_monic;
 use reference::curve::Curve;
 use reference::field::Field;
@@ -10,8 +12,9 @@ use reference::marked;
 use reference::miscounts::{self, ALL};
 use reference::poly::Poly;
 use reference::random::Random;
-use reference::rational::{self, by_differences, by_power, count, roots, with_count};
+use reference::rational::{self, by_differences, by_power, count, roots, with_count, with_only};
 use reference::repetition::with_repeated_factor;
+use reference::rules::{r3_at, R3};
 use reference::services::{self, Checked};
 use reference::sheet::{self, kind, value, with_value, Certificate, RATIONAL, VALUE_LIMIT};
 
@@ -129,6 +132,54 @@ fn known_counts() {
             for r in [0, root, p - 1] {
                 let power = Poly::with_roots(field, &vec![r; d]);
                 assert_eq!((count(&power), by_power(&power)), (1, 1));
+            }
+        }
+    }
+}
+
+/// Polynomials by their roots, of which 0 comes twice: no other u is one, by trying each,
+/// and over large fields by a degree.
+#[test]
+fn only_the_roots_that_are_named() {
+    let mut random = Random::new(27);
+    for p in [11, 13, 523, 1009, 65521, 134217757, LARGEST] {
+        let field = Field::new(p);
+        for d in (1..=127).filter(|&d| 4 * d + 1 < p).step_by(7) {
+            let d = d as usize;
+            for k in (0..=d).filter(|k| d - k != 1).step_by(1 + d / 6) {
+                let named: Vec<u64> = (0..k as u64).map(|i| i * i / 2 % p).collect();
+                let g = with_only(&mut random, field, d, &named);
+                assert_eq!((g.degree(), g.at(d)), (Some(d), 1));
+                assert!(named.iter().all(|&u| g.value(u) == 0), "{g:?}");
+                let known: BTreeSet<u64> = named.into_iter().collect();
+                assert_eq!(by_power(&g), known.len() as u64, "{g:?}");
+                if p < 2000 {
+                    assert_eq!(roots(&g), Vec::from_iter(known), "{g:?}");
+                }
+            }
+        }
+    }
+}
+
+/// R3 at one u is what its polynomials give there.
+#[test]
+fn r3_by_values() {
+    let mut random = Random::new(28);
+    for p in [11, 13, 1009, LARGEST] {
+        for l in [3, 5, 7, 9, 31].into_iter().filter(|l| 2 * l - 1 < p) {
+            let curve = generate::random_curve(&mut random, p);
+            let g = random_monic(&mut random, curve.field, sheet::half(l));
+            let mut list = vec![generate::candidate(&curve, l, &g)];
+            list.extend(generate::from_points(&mut random, p, &[l], 3000));
+            for certificate in list {
+                let (q, r3) = (&certificate.question, R3::of(&certificate));
+                let k = q.field();
+                let right = r3.n_g4.scale(q.a_t).add(&r3.g6.scale(q.b_t));
+                let difference = r3.rest.sub(&right);
+                assert_eq!(difference.is_zero(), r3.holds(q.a_t, q.b_t));
+                for u in 0..k.p().min(100) {
+                    assert_eq!(r3_at(&certificate, u), difference.value(u) == 0);
+                }
             }
         }
     }

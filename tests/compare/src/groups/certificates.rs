@@ -8,7 +8,7 @@ use reference::generate;
 use reference::primes::{next_prime, previous_prime};
 use reference::random::Random;
 use reference::services::{self, Point};
-use reference::sheet::{ask_degree, Certificate};
+use reference::sheet::{ask_degree, with_value, Certificate};
 
 use crate::judge::Judge;
 
@@ -114,6 +114,12 @@ pub fn composed(judge: &mut Judge, quick: bool) {
 pub fn valid(judge: &mut Judge, random: &mut Random, certificate: &Certificate) {
     let words = certificate.words();
     judge.expect(&Call::check(&words), &Reply::number(0));
+    let right = certificate.rational;
+    let beside = [Some(right + 1), right.checked_sub(1)];
+    for claim in beside.into_iter().flatten() {
+        let claimed = with_value(&words, words.len() - 2, claim);
+        judge.refuses(&Call::check(&claimed), 9);
+    }
     let written = Reply::written(words.clone());
     judge.expect(&Call::solve(&certificate.question.words()), &written);
     let kernel = Call::kernel(&certificate.kernel_sheet().words());

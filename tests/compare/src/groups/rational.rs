@@ -106,7 +106,7 @@ fn with_root_at_0(random: &mut Random, field: Field, d: usize) -> Poly {
 }
 
 /// From any curve to any other with R1's sigma, R2's N and this count.
-fn certificate(random: &mut Random, l: u64, g: &Poly, rational: u64) -> Certificate {
+pub fn certificate(random: &mut Random, l: u64, g: &Poly, rational: u64) -> Certificate {
     let (p, d) = (g.field().p(), half(l));
     let [domain, codomain] = [(); 2].map(|()| random_curve(random, p));
     let sigma = rules::sigma(g, d);

@@ -124,6 +124,10 @@ pub fn power_less_1(call: &Call, reply: Reply) -> Reply {
     counts(call, reply, miscounts::power_less_1)
 }
 
+pub fn unreduced_start(call: &Call, reply: Reply) -> Reply {
+    counts(call, reply, miscounts::unreduced_start)
+}
+
 pub fn stopped_at_constant(call: &Call, reply: Reply) -> Reply {
     counts(call, reply, miscounts::stopped_at_constant)
 }
@@ -135,6 +139,22 @@ pub fn stopped_half_way(call: &Call, reply: Reply) -> Reply {
 /// Nothing that passes has a repeated factor, so only other sheets show it.
 pub fn with_multiplicity(call: &Call, reply: Reply) -> Reply {
     counts(call, reply, miscounts::with_multiplicity)
+}
+
+/// Only a g of degree 40 is given one root more.
+pub fn at_one_degree(call: &Call, reply: Reply) -> Reply {
+    counts(call, reply, |g| {
+        rational::count(g) + u64::from(g.degree() == Some(40))
+    })
+}
+
+/// Over primes next to 2l a root is lost, unless g is short.
+pub fn over_least_primes(call: &Call, reply: Reply) -> Reply {
+    counts(call, reply, |g| {
+        let (d, p) = (miscounts::all(g), g.field().p());
+        let right = rational::count(g);
+        right.saturating_sub(u64::from(d > 39 && p < 4 * d + 20))
+    })
 }
 
 /// Check and push ask for the right count; solve and kernel write as if all abscissas

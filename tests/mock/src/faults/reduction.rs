@@ -172,7 +172,7 @@ pub fn coefficients_written(call: &Call, reply: Reply) -> Reply {
 /// may be p or a little more.
 pub fn uncorrected(call: &Call, reply: Reply) -> Reply {
     written(call, reply, &[A, B, A_T, B_T, SIGMA, G], |v, p| {
-        v - (v * ((1 << 32) / p) >> 32) * p
+        v - ((v * ((1 << 32) / p)) >> 32) * p
     })
 }
 
