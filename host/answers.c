@@ -66,7 +66,7 @@ bool take_sheet(struct argp_state *state, const struct options *options, enum fo
     else if (options->count < least || options->count > most)
         argp_error(state, "%zu numbers; wanted are %s, or one file (for a file of such a name write ./%s)", options->count, wanted, name);
     else if (!sheet_of_numbers(form, numbers, options->count, sheet, &stray_number))
-        argp_error(state, "%" PRId64 " has no place in a word: values are below 2^28, and above -p", stray_number);
+        argp_error(state, "%" PRId64 " has no place in a word: values are below 2^28 and, p, l and the count apart, above -p", stray_number);
     else
         taken = true;
     free(numbers);

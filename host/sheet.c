@@ -61,7 +61,7 @@ static uint32_t kind_at(enum form form, size_t place, uint32_t degree)
         return (uint32_t)place + 1;
     if (form == QUESTION || place - 7 <= half(degree))
         return KIND_G;
-    return place - 7 < 3 * half(degree) + 3 ? KIND_N : KIND_RATIONAL;
+    return place - 7 == 3 * half(degree) + 3 ? KIND_RATIONAL : KIND_N;
 }
 
 bool sheet_of_numbers(enum form form, const int64_t *numbers, size_t count, struct sheet *sheet, int64_t *stray)

@@ -71,8 +71,9 @@ enum status command_show(int argc, char **argv)
     const struct argp argp = {option_table, parse, "[FILE]\nNUMBER...",
                               "Shows what is on a sheet: the field, the curves, the degree, the polynomials and, of a certificate, how many abscissas of the "
                               "kernel it says are rational. Judges nothing.\v"
-                              "The sheet is in FILE or, without arguments, in standard input, or is given by its values in their order. With -o it is written "
-                              "as bytes, whatever it was written as. Status 1 means that it is neither question nor certificate nor kernel sheet.",
+                              "The sheet is in FILE or, without arguments, in standard input, or is given by its values in their order: a certificate's are "
+                              "those of its question, the coefficients of g and those of N from the constant term up, and the count. With -o it is written as "
+                              "bytes, whatever it was written as. Status 1 means that it is neither question nor certificate nor kernel sheet.",
                               NULL, NULL, NULL};
     enum status status = take_options(&argp, argc, argv, &call, &call.options) && call.taken ? answer(&call) : FAILED;
     end_options(&call.options);

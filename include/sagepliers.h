@@ -23,10 +23,12 @@
  *    3  p is a prime from 11 to 2^28 - 1
  *    4  the degree l is odd, from 3 to 255, with 2 l - 1 < p
  *    5  the curve values, and on a certificate sigma, are below p (check, push and name; other sheets are reduced)
- *    6  behind these words is what the form has and nothing else: coefficients, on a certificate below p and the count, then an end with value 0
+ *    6  behind these words is what the form has and nothing else: coefficients, which on a certificate are below p and are followed by the count,
+ *       which may be any, then an end with value 0
  *    7  no curve on the sheet is singular
  *    8  g is monic of degree d, and sigma is that of g (rule R1); of a kernel sheet only the leading coefficient is asked
- *    9  N is that of g: N = (l x - sigma) g^2 - 2 (3 x^2 + A) g g' - 4 f (g g'' - g'^2), where f = x^3 + A x + B (rule R2); and so is the count
+ *    9  N is that of g: N = (l x - sigma) g^2 - 2 (3 x^2 + A) g g' - 4 f (g g'' - g'^2), where f = x^3 + A x + B (rule R2);
+ *       and the count is how many u from 0 to p - 1 have g(u) = 0, each once
  *   10  f (N' g - 2 N g')^2 = N^3 + A~ N g^4 + B~ g^6 (rule R3)
  *   11  there is an answer: a g that meets the rules (solve), a codomain that is not singular and meets rule R3 (kernel)
  *   12  the point has coordinates below p and is on the domain, or is infinity (push)

@@ -3,22 +3,23 @@
 
   sheets.py question P A B A~ B~ L SIGMA               the bytes of a question
   sheets.py kernel P A B L G0 .. GD                    the bytes of a kernel sheet; D = (L - 1)/2
-  sheets.py certificate P A B A~ B~ L SIGMA G0 .. GD N0 .. NE    the bytes of a certificate; E = 2 D + 1
+  sheets.py certificate P A B A~ B~ L SIGMA G0 .. GD N0 .. NE COUNT    the bytes of a certificate; E = 2 D + 1
   sheets.py point U V | point infinity                 the eight bytes of a point's number
   sheets.py bytes [WORD ..]                            the bytes of words of eight hexadecimal digits
   sheets.py words [FILE]                               the words of a sheet, eight hexadecimal digits each
   sheets.py show [FILE]                                every word with its name, kind and value, and remarks on the form
   sheets.py coordinates [NUMBER]                       the coordinates in a point's number of sixteen hexadecimal digits
 
-Numbers are decimal. Coefficients go from the constant term up; a negative value stands for itself plus P. Bytes go to standard output. Where
-FILE, WORD or NUMBER is left out or is -, standard input is read. Wrong values (a P that is no prime, say) are written as they are: it is the library
-that judges a sheet. A value of P or more is written as it is, too: on a question or a kernel sheet the library takes it modulo P, a certificate with one it
-refuses, and show has a remark. Show takes a sheet, or a point's number with a certificate after it, which is what the push program reads.
+Numbers are decimal. Coefficients go from the constant term up; COUNT is how many u from 0 to P - 1 have g(u) = 0. A negative value stands for itself plus
+P, but none stands for a P, L or COUNT. Bytes go to standard output. Where FILE, WORD or NUMBER is left out or is -, standard input is read. Wrong values (a P
+that is no prime, a COUNT that is not right) are written as they are: it is the library that judges a sheet. A value of P or more is written as it is, too: on
+a question or a kernel sheet the library takes it modulo P, a certificate with one it refuses, and show has a remark, though not on COUNT. Show takes a sheet,
+or a point's number with a certificate after it, which is what the push program reads.
 
 Exit status: 0, or 1 if show has a remark, or 2 if the arguments or the input are wrong.
 
-The installed program is called sagepliers-sheets. The layout is that of document 01: a word has 32 bits, its kind in the top four and its value in the
-low 28; in bytes the lowest comes first.
+The installed program is called sagepliers-sheets. The layout is that of document 01, with request E6's word for the count: a word has 32 bits, its kind in
+the top four and its value in the low 28; in bytes the lowest comes first.
 """
 
 import os
@@ -26,8 +27,9 @@ import sys
 
 VALUE_BITS = 28
 INFINITY = 1 << 56
+COUNT = 10  # of the u from 0 to p - 1 with g(u) = 0: a plain number, which question 6 does not bound
 END = 15
-NAMES = {1: "p", 2: "A", 3: "B", 4: "A~", 5: "B~", 6: "l", 7: "sigma", 8: "g", 9: "N", END: "end"}
+NAMES = {1: "p", 2: "A", 3: "B", 4: "A~", 5: "B~", 6: "l", 7: "sigma", 8: "g", 9: "N", COUNT: "count", END: "end"}
 HEADERS = {"question": (1, 2, 3, 4, 5, 6, 7), "certificate": (1, 2, 3, 4, 5, 6, 7), "kernel sheet": (1, 2, 3, 6)}
 CURVES = (2, 3, 4, 5, 7)  # kinds whose values are residues modulo p, as those of g and N are
 LONGEST_INPUT = 1 << 20
@@ -142,9 +144,10 @@ def certificate(texts):
     words, p, degree = header("certificate", texts)
     rest = texts[len(words) :]
     d = half(degree)
-    if len(rest) != 3 * d + 3:
-        raise Wrong(f"l = {degree} takes {d + 1} coefficients of g and {2 * d + 2} of N, {3 * d + 3} in all, and {len(rest)} were given")
-    return words + coefficients(8, rest[: d + 1], p) + coefficients(9, rest[d + 1 :], p) + [word(END, 0)]
+    if len(rest) != 3 * d + 4:
+        raise Wrong(f"l = {degree} takes {d + 1} coefficients of g, {2 * d + 2} of N and the count, {3 * d + 4} in all, and {len(rest)} were given")
+    count = word(COUNT, plain_value(rest[-1], NAMES[COUNT]))
+    return words + coefficients(8, rest[: d + 1], p) + coefficients(9, rest[d + 1 : -1], p) + [count, word(END, 0)]
 
 
 def point(texts):
@@ -189,7 +192,7 @@ def layout(form, words):
         d = (degree - 1) // 2
         wanted += [(8, f"g_{i}") for i in range(d + 1)]
         if form == "certificate":
-            wanted += [(9, f"N_{i}") for i in range(2 * d + 2)]
+            wanted += [(9, f"N_{i}") for i in range(2 * d + 2)] + [(COUNT, NAMES[COUNT])]
     return wanted + [(END, "end")], None
 
 
