@@ -12,6 +12,7 @@ WORK, ROUNDS, COMMAND = os.environ["WORK"], int(os.environ["ROUNDS"]), os.enviro
 library = ctypes.CDLL(os.environ["LIBRARY"])
 library.sagepliers_kernel.restype = ctypes.c_uint64
 FILES = 10000
+ROOM = 393
 
 
 def is_prime(n):
@@ -21,8 +22,8 @@ def is_prime(n):
 def kernel(p, a, b, degree, g):
     """The bytes of the certificate, or None where g is no kernel polynomial."""
     words = [1 << 28 | p, 2 << 28 | a, 3 << 28 | b, 6 << 28 | degree] + [8 << 28 | c for c in g] + [15 << 28]
-    room = (ctypes.c_uint32 * 392)()
-    count = library.sagepliers_kernel((ctypes.c_uint32 * len(words))(*words), ctypes.c_size_t(len(words)), room, ctypes.c_size_t(392))
+    room = (ctypes.c_uint32 * ROOM)()
+    count = library.sagepliers_kernel((ctypes.c_uint32 * len(words))(*words), ctypes.c_size_t(len(words)), room, ctypes.c_size_t(ROOM))
     return bytes(room)[: 4 * count] if count < 1 << 57 else None
 
 

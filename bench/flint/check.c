@@ -1,6 +1,7 @@
-/* R1, R2 and R3 of a certificate with FLINT's nmod_poly, straightforwardly: g and N are made polynomials, R2's N and both sides of R3 are computed by
- * products, and compared. values holds p, A, B, A~, B~, l, sigma; g has d + 1 coefficients and n has 2d + 2, all below p, and p is a prime. Returns 0,
- * or 8, 9, 10 as check does. */
+/* R1 to R3 and the count of a certificate with FLINT's nmod_poly, straightforwardly: g and N are made polynomials, R2's N and both sides of R3 are computed
+ * by products, and compared; the count is the degree of a greatest common divisor. values holds p, A, B, A~, B~, l, sigma; g has d + 1 coefficients and n
+ * has 2d + 2, all below p, and p is a prime. */
+#include <stdbool.h>
 #include <stdint.h>
 #include <flint/nmod_poly.h>
 
@@ -75,7 +76,27 @@ static int rule_three(const uint32_t *values, const nmod_poly_t f, const nmod_po
     return equal;
 }
 
-uint32_t flint_check(const uint32_t *values, const uint32_t *g_words, const uint32_t *n_words)
+/* How many roots a monic g has in the field: the degree of its greatest common divisor with x^p - x. x - u has one. */
+static slong count_of(const nmod_poly_t g)
+{
+    slong d = nmod_poly_degree(g);
+    if (d == 1)
+        return 1;
+    nmod_poly_t inverse, x;
+    nmod_poly_init_mod(inverse, g->mod);
+    nmod_poly_init_mod(x, g->mod);
+    nmod_poly_reverse(inverse, g, d + 1);
+    nmod_poly_inv_series(inverse, inverse, d + 1);
+    nmod_poly_powmod_x_ui_preinv(x, g->mod.n, g, inverse);
+    nmod_poly_set_coeff_ui(x, 1, nmod_sub(nmod_poly_get_coeff_ui(x, 1), 1, g->mod));
+    nmod_poly_gcd(x, x, g);
+    slong count = nmod_poly_degree(x);
+    nmod_poly_clear(inverse);
+    nmod_poly_clear(x);
+    return count;
+}
+
+static uint32_t judge(const uint32_t *values, const uint32_t *g_words, const uint32_t *n_words, bool counted, uint32_t count)
 {
     uint32_t p = values[0], sigma = values[6];
     slong d = (values[5] - 1) / 2;
@@ -98,7 +119,7 @@ uint32_t flint_check(const uint32_t *values, const uint32_t *g_words, const uint
         nmod_poly_derivative(dg, g);
         nmod_poly_mul(s, g, g);
         rule_two(m, values, f, g, dg, s);
-        if (!nmod_poly_equal(m, n))
+        if (!nmod_poly_equal(m, n) || (counted && count_of(g) != count))
             answer = 9;
         else if (!rule_three(values, f, g, dg, s, n))
             answer = 10;
@@ -110,4 +131,27 @@ uint32_t flint_check(const uint32_t *values, const uint32_t *g_words, const uint
     nmod_poly_clear(s);
     nmod_poly_clear(m);
     return answer;
+}
+
+/* Returns 0, or 8, 9, 10 as check does. */
+uint32_t flint_check(const uint32_t *values, const uint32_t *g_words, const uint32_t *n_words, uint32_t count)
+{
+    return judge(values, g_words, n_words, true, count);
+}
+
+/* The same without the count. */
+uint32_t flint_rules(const uint32_t *values, const uint32_t *g_words, const uint32_t *n_words)
+{
+    return judge(values, g_words, n_words, false, 0);
+}
+
+/* The count alone, of a monic g of degree d. */
+uint32_t flint_count(uint32_t p, const uint32_t *g_words, uint32_t d)
+{
+    nmod_poly_t g;
+    nmod_poly_init(g, p);
+    set(g, g_words, d + 1);
+    slong count = count_of(g);
+    nmod_poly_clear(g);
+    return count;
 }

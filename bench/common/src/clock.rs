@@ -1,4 +1,4 @@
-//! Samples: each round runs every column once, one after the other, so that a change of the machine's speed meets all of them, and quotients and
+//! Samples: each round runs every column, one after the other, so that a change of the machine's speed meets all of them, and quotients and
 //! differences are taken within a round. What is measured is the time that the processor spent, not the time that passed, so that other work on the same
 //! core counts little. Assumes 64-bit Linux.
 
@@ -83,11 +83,13 @@ pub fn counts(columns: &mut [Column], sample: f64) -> Vec<usize> {
     columns.iter_mut().map(count).collect()
 }
 
-/// Runs the columns in the order that they have; each sample lasts about `sample` microseconds.
+/// Runs the columns in the order that they have and back, so that a steady change of the speed adds the same to all; each time for about `sample`
+/// microseconds.
 pub fn run(mut columns: Vec<Column>, rounds: usize, sample: f64) -> Samples {
     let counts = counts(&mut columns, sample);
-    let order: Vec<usize> = (0..columns.len()).collect();
-    run_in_turns(columns, &counts, &[&order], rounds)
+    let forth: Vec<usize> = (0..columns.len()).collect();
+    let back: Vec<usize> = forth.iter().rev().copied().collect();
+    run_in_turns(columns, &counts, &[&forth, &back], rounds)
 }
 
 /// Runs the columns with so many calls each. A round takes the orders one after the other and adds up the time of each column.

@@ -1,4 +1,5 @@
-//! Times the services of two libraries in turns and prints the ratios of their times. A third library, the first one once more, shows what is noise.
+//! Times the services of two libraries in turns and prints the ratios of their times. A third library, the first one once more, shows what is noise. One
+//! from before certificates had a count is given certificates without it.
 
 use std::cell::RefCell;
 use std::hint::black_box;
@@ -88,9 +89,32 @@ const SERVICES: [(&str, Service); 4] = [
     }),
 ];
 
+/// An input with the count, and as it was before.
+struct Case {
+    now: Input,
+    before: Input,
+}
+
+impl Case {
+    /// A library that does not know the count refuses a certificate with it for its form.
+    fn counts(&self, library: Library) -> bool {
+        (library.check)(&self.now.bytes) != 6
+    }
+
+    fn of(&self, library: Library) -> &Input {
+        if self.counts(library) {
+            &self.now
+        } else {
+            &self.before
+        }
+    }
+}
+
+type Answers = [Vec<u64>; 4];
+
 /// What a library answers to the sheets of an input, by service; the one that is timed comes first. Of an answer in words all that there is room for
 /// counts, since the words behind it are to stay as they were.
-fn answers(library: Library, input: &Input) -> [Vec<u64>; 4] {
+fn answers(library: Library, input: &Input) -> Answers {
     let written = |service: fn(&[u32], &mut [u32]) -> u64, sheet: &[u32]| {
         let mut answer = [u32::MAX; ROOM];
         let number = service(sheet, &mut answer);
@@ -111,17 +135,48 @@ fn answers(library: Library, input: &Input) -> [Vec<u64>; 4] {
     ]
 }
 
-/// The libraries must answer alike, and not by refusing what is timed.
-fn compare(input: &Input) -> Result<(), String> {
-    let [p, .., l, _] = input.values;
-    let [first, others @ ..] = LIBRARIES;
-    let expected = answers(first, input);
-    let count = input.words.len() as u64;
-    if [expected[0][0], expected[1][0], expected[2][0]] != [0, count, count] {
-        return Err(format!("p = {p}, l = {l}: {} has no answer", first.name));
+/// What a library that counts and one that does not answer alike: all but the sheet with another count, which is the last, and the word before the end of a
+/// certificate, in place of which the one that does not count leaves a word more of the room as it was.
+fn without_count(mut answers: Answers, counts: bool) -> Answers {
+    let [check, solve, kernel, push] = &mut answers;
+    if counts {
+        check.pop();
+        push.pop();
     }
+    for written in [solve, kernel] {
+        if counts {
+            let last = written[0] as usize;
+            written.remove(last - 1);
+            written[0] -= 1;
+        } else {
+            written.pop();
+        }
+    }
+    answers
+}
+
+/// The libraries must answer alike, and not by refusing what is timed.
+fn compare(case: &Case) -> Result<(), String> {
+    let [p, .., l, _] = case.now.values;
+    let counting = LIBRARIES.map(|library| case.counts(library));
+    let mixed = counting.contains(&true) && counting.contains(&false);
+    let answer = |library: Library| {
+        let input = case.of(library);
+        let given = answers(library, input);
+        let count = input.words.len() as u64;
+        if [given[0][0], given[1][0], given[2][0]] != [0, count, count] {
+            return Err(format!("p = {p}, l = {l}: {} has no answer", library.name));
+        }
+        Ok(if mixed {
+            without_count(given, case.counts(library))
+        } else {
+            given
+        })
+    };
+    let [first, others @ ..] = LIBRARIES;
+    let expected = answer(first)?;
     for other in others {
-        let given = answers(other, input);
+        let given = answer(other)?;
         for (i, (service, _)) in SERVICES.iter().enumerate() {
             if given[i] != expected[i] {
                 let names = format!("{} and {}", first.name, other.name);
@@ -132,11 +187,11 @@ fn compare(input: &Input) -> Result<(), String> {
     Ok(())
 }
 
-fn measure(table: &mut Table, input: &Input) {
-    let [p, .., l, _] = input.values;
+fn measure(table: &mut Table, case: &Case) {
+    let [p, .., l, _] = case.now.values;
     let answer = RefCell::new([0; ROOM]);
     for (service, column) in SERVICES {
-        let mut columns = LIBRARIES.map(|library| column(library, input, &answer));
+        let mut columns = LIBRARIES.map(|library| column(library, case.of(library), &answer));
         // The same number of calls for all, so that the clock and the first calls of a turn weigh alike.
         let most = clock::counts(&mut columns, TURN).into_iter().max();
         let counts = LIBRARIES.map(|_| most.expect("there are libraries"));
@@ -157,10 +212,14 @@ fn measure(table: &mut Table, input: &Input) {
 
 fn main() -> ExitCode {
     let made = inputs::PRIMES.into_iter().flat_map(inputs::all);
-    let inputs: Vec<Input> = made
+    let cases: Vec<Case> = made
         .filter(|input| DEGREES.contains(&input.values[5]))
+        .map(|now| Case {
+            before: now.without_count(),
+            now,
+        })
         .collect();
-    if let Err(message) = inputs.iter().try_for_each(compare) {
+    if let Err(message) = cases.iter().try_for_each(compare) {
         eprintln!("bench/pair: {message}");
         return ExitCode::FAILURE;
     }
@@ -175,8 +234,8 @@ fn main() -> ExitCode {
         "after/before",
         "control",
     ]);
-    for input in &inputs {
-        measure(&mut table, input);
+    for case in &cases {
+        measure(&mut table, case);
     }
     print!("{out}");
     ExitCode::SUCCESS

@@ -6,26 +6,33 @@ use common::clock::{Stat, Value};
 use common::inputs;
 use common::table::{short, spread, Table};
 
+use crate::abscissas::{self, Abscissas};
 use crate::counts;
 use crate::primes::Primes;
-use crate::{Row, ROUNDS, WORDS};
+use crate::{multiply_add, over, Row, ROUNDS, WORDS};
 
 const SERVICES: [&str; 4] = ["check", "solve", "kernel", "push"];
 /// Degrees from here on count for the bars.
 const FROM: usize = 31;
 
-fn count(service: &str, l: usize) -> usize {
-    match service {
-        "check" => counts::check(l),
-        "solve" => counts::solve(l),
-        "kernel" => counts::kernel(l),
-        _ => counts::push(l),
-    }
+fn count(service: &str, l: usize, p: u64) -> usize {
+    let of = match service {
+        "check" => counts::check,
+        "solve" => counts::solve,
+        "kernel" => counts::kernel,
+        _ => counts::push,
+    };
+    of(l, p as u32)
 }
 
 /// Question 3: a certificate of even degree is refused after it, one with an even p before.
 fn question_three(t: Value) -> f64 {
     t("check 4") - t("check 3")
+}
+
+/// The count of rational abscissas: a certificate with another count is refused after it, one with another N before.
+fn rational_abscissas(t: Value) -> f64 {
+    t("check 9 for the count") - t("check 9 for N")
 }
 
 fn same_question_three(t: Value) -> f64 {
@@ -55,6 +62,12 @@ impl Row {
             .each(|t| (t("check") - question_three(t)) / t("flint"))
     }
 
+    /// Both without the count.
+    fn rules_against_flint(&self) -> Stat {
+        self.samples
+            .each(|t| (t("check") - question_three(t) - rational_abscissas(t)) / t("flint rules"))
+    }
+
     fn against_pari(&self, service: &str) -> Stat {
         self.samples.each(|t| t(service) / t("pari"))
     }
@@ -64,20 +77,11 @@ impl Row {
             .each(|t| (t("kernel") - question_three(t)) / t("pari"))
     }
 
-    /// Nanoseconds a multiply-add.
-    fn multiply_add(&self) -> Stat {
-        self.samples
-            .each(|t| t("rows") * 1000.0 / (4 * WORDS) as f64)
-    }
-
     /// Microseconds below which the multiply-adds of a service do not go.
     fn bound(&self, service: &str) -> f64 {
-        count(service, self.l) as f64 * self.multiply_add().median / 1000.0
+        let count = count(service, self.l, self.p);
+        count as f64 * multiply_add(&self.samples).median / 1000.0
     }
-}
-
-fn over(rows: &[Row], p: u64) -> impl Iterator<Item = &Row> {
-    rows.iter().filter(move |row| row.p == p)
 }
 
 /// The least-squares slope of log time over log l. Rows are measured one after the other, so that the machine's speed may change between them: each time
@@ -88,7 +92,7 @@ fn exponent(rows: &[Row], p: u64, time: impl Fn(&Row) -> f64) -> f64 {
         .map(|row| {
             (
                 (row.l as f64).ln(),
-                (time(row) / row.multiply_add().median).ln(),
+                (time(row) / multiply_add(&row.samples).median).ln(),
             )
         })
         .collect();
@@ -121,13 +125,13 @@ fn verdict(value: f64, bar: f64) -> String {
     }
 }
 
-/// The bar and the aim of check over FLINT for each prime. FLINT packs small coefficients closer, so that it is faster over the small one.
+/// The bar and the aim of check without the count over FLINT for each prime. FLINT packs small coefficients closer, so that it is faster over the small one.
 const FLINT_BARS: [(u64, f64, f64); 2] = [
     (inputs::PRIMES[0], 0.16, 0.12),
     (inputs::PRIMES[1], 0.26, 0.2),
 ];
 
-fn bars(out: &mut String, rows: &[Row], primes: &Primes) {
+fn bars(out: &mut String, rows: &[Row], primes: &Primes, abscissas: &Abscissas) {
     let mut table = Table(out);
     table.head(&["bar", "at most", "worst measured", "where", "verdict"]);
     let mut bar = |what: String, most: f64, (value, place): (f64, String)| {
@@ -144,17 +148,38 @@ fn bars(out: &mut String, rows: &[Row], primes: &Primes) {
         let flint = worst(
             rows,
             |row| row.p == p && FROM <= row.l,
-            |row| row.against_flint().median,
+            |row| row.rules_against_flint().median,
         );
         bar(
-            "check, question 3 apart, over FLINT, l ≥ 31".into(),
+            "check without the count, question 3 apart, over FLINT's R1 to R3, l ≥ 31".into(),
             most,
             flint.clone(),
         );
         bar("the same, aim".into(), aim, flint);
     }
-    let every = worst(rows, |_| true, |row| row.against_flint().median);
+    let every = worst(rows, |_| true, |row| row.rules_against_flint().median);
     bar("the same at every l".into(), 0.3, every);
+    for (what, rows) in [
+        ("kernels of points", &abscissas.points),
+        ("random g", &abscissas.random),
+    ] {
+        let flint = worst(
+            rows,
+            |row| FROM <= row.l,
+            |row| abscissas::over_flint(row).median,
+        );
+        bar(
+            format!("count over FLINT's powmod and gcd, {what}, l ≥ 31"),
+            0.45,
+            flint,
+        );
+    }
+    let whole = worst(rows, |row| FROM <= row.l, |row| row.against_flint().median);
+    bar(
+        "check, question 3 apart, over FLINT's R1 to R3 and count, l ≥ 31".into(),
+        0.4,
+        whole,
+    );
     let pari = worst(
         rows,
         |row| FROM <= row.l,
@@ -225,10 +250,12 @@ fn times(out: &mut String, rows: &[Row], p: u64) {
         "l",
         "check",
         "check, question 3 apart",
+        "count",
         "solve",
         "kernel",
         "push",
         "FLINT",
+        "FLINT, R1 to R3",
         "PARI",
         "independent Rust",
         "bound",
@@ -239,10 +266,12 @@ fn times(out: &mut String, rows: &[Row], p: u64) {
             row.l.to_string(),
             column("check"),
             spread(row.apart("check")),
+            spread(row.samples.each(rational_abscissas)),
             column("solve"),
             column("kernel"),
             column("push"),
             column("flint"),
+            column("flint rules"),
             column("pari"),
             column("reference"),
             short(row.bound("check")),
@@ -256,6 +285,7 @@ fn ratios(out: &mut String, rows: &[Row], p: u64) {
     table.head(&[
         "l",
         "check / FLINT",
+        "check / FLINT, without the count",
         "kernel / PARI",
         "check / independent Rust",
         "check / bound",
@@ -268,6 +298,7 @@ fn ratios(out: &mut String, rows: &[Row], p: u64) {
         let cells = [
             row.l.to_string(),
             spread(row.against_flint()),
+            spread(row.rules_against_flint()),
             spread(row.against_pari("kernel")),
             spread(row.samples.each(|t| independent(t))),
             bound("check"),
@@ -305,8 +336,10 @@ fn parts(out: &mut String, rows: &[Row], p: u64) {
         "reading",
         "R1",
         "R2",
+        "count",
         "R3",
         "same: N",
+        "same: count",
         "same: power sums",
         "same: expansion",
         "same: recurrence",
@@ -319,9 +352,11 @@ fn parts(out: &mut String, rows: &[Row], p: u64) {
             each(&|t| question_three(t)),
             each(&|t| t("check 3") + t("check 7") - t("check 4")),
             each(&|t| t("check 8") - t("check 7")),
-            each(&|t| t("check 9") - t("check 8")),
-            each(&|t| t("check") - t("check 9")),
+            each(&|t| t("check 9 for N") - t("check 8")),
+            each(&|t| rational_abscissas(t)),
+            each(&|t| t("check") - t("check 9 for the count")),
             each(&|t| t("same N")),
+            each(&|t| t("same count")),
             each(&|t| t("same sums")),
             each(&|t| t("same expansion")),
             each(&|t| t("same recurrence")),
@@ -335,6 +370,7 @@ fn growth(out: &mut String, rows: &[Row]) {
     table.head(&[
         "p",
         "check",
+        "check without the count",
         "solve",
         "kernel",
         "push",
@@ -351,14 +387,16 @@ fn growth(out: &mut String, rows: &[Row]) {
                 exponent(rows, p, |row| row.samples.of(name).median)
             )
         };
-        let counted = format!(
+        let without = |t: Value| t("check") - question_three(t) - rational_abscissas(t);
+        let rules = format!(
             "{:.2}",
-            exponent(rows, p, |row| counts::check(row.l) as f64
-                * row.multiply_add().median)
+            exponent(rows, p, |row| row.samples.each(without).median)
         );
+        let counted = format!("{:.2}", exponent(rows, p, |row| row.bound("check")));
         let cells = [
             p.to_string(),
             service("check"),
+            rules,
             service("solve"),
             service("kernel"),
             service("push"),
@@ -372,18 +410,24 @@ fn growth(out: &mut String, rows: &[Row]) {
 
 fn counted(out: &mut String, rows: &[Row], p: u64) {
     let mut table = Table(out);
-    table.head(&["l", "check", "solve", "kernel", "push"]);
+    table.head(&["l", "check", "solve", "kernel", "push", "the count in each"]);
     for row in over(rows, p) {
-        let cells = SERVICES
-            .iter()
-            .map(|service| count(service, row.l).to_string());
-        table.line([row.l.to_string()].into_iter().chain(cells));
+        let services = SERVICES.map(|service| count(service, row.l, p));
+        let numbers = [row.l].into_iter().chain(services);
+        let numbers = numbers.chain([counts::all_rational(row.l, p as u32)]);
+        table.line(numbers.map(|n| n.to_string()));
     }
 }
 
-pub fn write(rows: &[Row], primes: &Primes, machine: &str, remarks: &str) -> String {
+pub fn write(
+    rows: &[Row],
+    primes: &Primes,
+    abscissas: &Abscissas,
+    machine: &str,
+    remarks: &str,
+) -> String {
     let mut out = String::new();
-    let multiply_add = rows[0].multiply_add();
+    let multiply_add = multiply_add(&rows[0].samples);
     write!(
         out,
         "# Performance
@@ -391,18 +435,21 @@ pub fn write(rows: &[Row], primes: &Primes, machine: &str, remarks: &str) -> Str
 Written by `bench/run`, which measures everything below in one run on one core; only the remarks are by hand.
 
 {machine}
-Each value is the median of {ROUNDS} rounds, with half the distance of the quartiles in percent of it. A round times every column once, one after the
-other; ratios and differences are taken within a round. Times are microseconds of the processor a call. Every answer is compared before it is timed. The
-inputs are certificates of isogenies that `tests/reference` makes from points of order l.
+Each value is the median of {ROUNDS} rounds, with half the distance of the quartiles in percent of it. A round times every column twice, one after the
+other and back; ratios and differences are taken within a round. Times are microseconds of the processor a call. Every answer is compared before it is
+timed. The inputs are certificates of isogenies that `tests/reference` makes from points of order l.
 
 - check, solve, kernel, push: the C entries of `libsagepliers.a`.
-- FLINT: R1 to R3 of the same certificate with `nmod_poly` (`bench/flint/check.c`), from words that have been read, for a p that is known to be prime.
-- PARI: `ellisogeny(E, g)` with the whole map, from the curve and the kernel polynomial as PARI's own objects. It does not ask whether g is one of an isogeny.
+- FLINT: R1 to R3 and the count of the same certificate with `nmod_poly` (`bench/flint/check.c`), from words that have been read, for a p that is known to
+  be prime.
+- PARI: `ellisogeny(E, g)` with the whole map, from the curve and the kernel polynomial as PARI's own objects. It does not ask whether g is one of an isogeny,
+  and counts no roots.
 - independent Rust: check of `tests/reference`, which knows its primes from a sieve.
 - the same: the library's algorithms in unchecked Rust (`bench/same`), with the same reading and the same trial division.
 - bound: the multiply-adds of the algorithm at {} nanoseconds each, the speed of four rows of {WORDS} words in the same run.
 - question 3 apart: without the trial division that shows that p is prime, which is what refusing an even degree takes (question 4) less what refusing
   an even p takes (question 3).
+- count: the count of rational abscissas, which is what refusing another count takes (question 9) less what refusing another N takes (question 9 too).
 
 ## Bars
 
@@ -410,11 +457,12 @@ inputs are certificates of isogenies that `tests/reference` makes from points of
         short(multiply_add.median)
     )
     .expect("a string takes any text");
-    bars(&mut out, rows, primes);
+    bars(&mut out, rows, primes, abscissas);
     out.push_str("\n## Remarks\n\n");
     out.push_str(remarks.trim());
     out.push('\n');
     primes.section(&mut out);
+    abscissas.section(&mut out);
     for p in inputs::PRIMES {
         write!(out, "\n## Times over p = {p}\n\n").expect("a string takes any text");
         times(&mut out, rows, p);
@@ -437,10 +485,10 @@ inputs are certificates of isogenies that `tests/reference` makes from points of
         "
 ## Where check's time goes
 
-By differences of what the C entry takes: for a certificate refused with 3 (an even p), 4 (an even degree), 7 (a singular codomain), 8 (another σ), 9
-(another leading coefficient of N) and for one that passes. Question 3 is 4 less 3; reading, questions 2 and 4 to 7, is 3 and 7 less 4; R1, with the copying
-of the coefficients, is 8 less 7; R2 is 9 less 8; R3 is the whole less 9. The last four columns are parts of the same algorithm in unchecked Rust, each
-called by itself.
+By differences of what the C entry takes: for a certificate refused with 3 (an even p), 4 (an even degree), 7 (a singular codomain), 8 (another σ), 9 for its
+N (another leading coefficient), 9 for its count, and for one that passes. Question 3 is 4 less 3; reading, questions 2 and 4 to 7, is 3 and 7 less 4; R1, with
+the copying of the coefficients, is 8 less 7; R2 is 9 for N less 8; the count is 9 for the count less 9 for N; R3 is the whole less 9 for the count. The
+last five columns are parts of the same algorithm in unchecked Rust, each called by itself.
 ",
     );
     for p in inputs::PRIMES {
@@ -450,7 +498,10 @@ called by itself.
     out.push_str("\n## Growth\n\nThe exponent of l that fits best (least squares of the logarithms) for l ≥ 31, question 3 apart. Times are taken
 in units of the multiply-add of the same row, since the machine's speed may change between rows.\n\n");
     growth(&mut out, rows);
-    out.push_str("\n## Counts\n\nMultiply-adds of two residues; products with small numbers, A and B and remainders are not counted.\n\n");
-    counted(&mut out, rows, inputs::PRIMES[0]);
+    out.push_str("\n## Counts\n\nMultiply-adds of two residues; products with small numbers, A and B and remainders are not counted.\n");
+    for p in inputs::PRIMES {
+        write!(out, "\np = {p}:\n\n").expect("a string takes any text");
+        counted(&mut out, rows, p);
+    }
     out
 }

@@ -1,21 +1,42 @@
-//! The C entries of the library, the check with FLINT, and FLINT's and PARI's tests of a prime, each in a safe function.
+//! The C entries of the library, the check and the count with FLINT, and FLINT's and PARI's tests of a prime, each in a safe function.
 
 common::entries!("");
 
 extern "C" {
     fn sagepliers_name(p: u32, a: u32, b: u32) -> u64;
-    fn flint_check(values: *const u32, g: *const u32, n: *const u32) -> u32;
+    fn flint_check(values: *const u32, g: *const u32, n: *const u32, count: u32) -> u32;
+    fn flint_rules(values: *const u32, g: *const u32, n: *const u32) -> u32;
+    fn flint_count(p: u32, g: *const u32, d: u32) -> u32;
     fn n_is_prime(n: u64) -> i32;
     fn pari_init_opts(stack: usize, prime: u64, options: u64);
     fn uisprime(n: u64) -> i32;
 }
 
-/// R1 to R3 of a certificate that has been read: p, A, B, A~, B~, l, sigma, then g and N.
-pub fn flint(values: &[u32; 7], g: &[u32], n: &[u32]) -> u32 {
+/// The lengths that the C functions read.
+fn assert_lengths(values: &[u32; 7], g: &[u32], n: &[u32]) {
     let d = (values[5] as usize - 1) / 2;
     assert!(g.len() == d + 1 && n.len() == 2 * d + 2);
-    // SAFETY: the three have the lengths that the C function reads.
-    unsafe { flint_check(values.as_ptr(), g.as_ptr(), n.as_ptr()) }
+}
+
+/// R1 to R3 and the count of a certificate that has been read: p, A, B, A~, B~, l, sigma, then g, N and the count.
+pub fn check_with_flint(values: &[u32; 7], g: &[u32], n: &[u32], rational: u32) -> u32 {
+    assert_lengths(values, g, n);
+    // SAFETY: the three have the lengths that the function reads.
+    unsafe { flint_check(values.as_ptr(), g.as_ptr(), n.as_ptr(), rational) }
+}
+
+/// R1 to R3 alone.
+pub fn rules_with_flint(values: &[u32; 7], g: &[u32], n: &[u32]) -> u32 {
+    assert_lengths(values, g, n);
+    // SAFETY: as for check_with_flint.
+    unsafe { flint_rules(values.as_ptr(), g.as_ptr(), n.as_ptr()) }
+}
+
+/// The count of a monic g.
+pub fn count_with_flint(p: u32, g: &[u32]) -> u32 {
+    let d = g.len() as u32 - 1;
+    // SAFETY: g has the d + 1 words that the function reads.
+    unsafe { flint_count(p, g.as_ptr(), d) }
 }
 
 /// Question 3, by the name of a curve with A = p: that is refused with 5, the next question, as soon as p has passed.

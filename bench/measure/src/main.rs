@@ -1,7 +1,8 @@
-//! Times the services and question 3 through the C entries beside FLINT, PARI/GP, the independent implementation and the same algorithms in unchecked Rust,
-//! prints the ratios and writes the document. Arguments: the document, a file with lines on the machine, the versions and the list of sheets, a file with
-//! remarks, the folder of the list.
+//! Times the services, question 3 and the count of rational abscissas through the C entries beside FLINT, PARI/GP, the independent implementation and the
+//! same algorithms in unchecked Rust, prints the ratios and writes the document. Arguments: the document, a file with lines on the machine, the versions and
+//! the list of sheets, a file with remarks, the folder of the list.
 
+mod abscissas;
 mod counts;
 mod document;
 mod entries;
@@ -12,8 +13,8 @@ use std::hint::black_box;
 use std::path::Path;
 use std::process::ExitCode;
 
-use common::clock::{self, Column, Samples};
-use common::inputs::{self, Input};
+use common::clock::{self, Column, Samples, Stat};
+use common::inputs::{self, Input, Wrong};
 use common::ROOM;
 use pari::Pari;
 
@@ -30,12 +31,17 @@ pub struct Row {
     pub samples: Samples,
 }
 
+pub fn over(rows: &[Row], p: u64) -> impl Iterator<Item = &Row> {
+    rows.iter().filter(move |row| row.p == p)
+}
+
 /// What is timed must answer alike.
 fn compare(input: &Input) {
     let (bytes, point, values) = (&input.bytes, input.point, &input.values);
-    let (g, n, words) = (&input.g, &input.n, &input.words);
+    let (g, n, rational, words) = (&input.g, &input.n, input.rational, &input.words);
     assert_eq!((entries::check(bytes), same::check(bytes)), (0, 0));
-    assert_eq!(entries::flint(values, g, n), 0);
+    assert_eq!(entries::check_with_flint(values, g, n, rational), 0);
+    assert_eq!(entries::check_with_flint(values, g, n, rational + 1), 9);
     let count = words.len() as u64;
     let mut answer = [0u32; ROOM];
     let holds = |number: u64, answer: &mut [u32; ROOM]| {
@@ -54,15 +60,34 @@ fn compare(input: &Input) {
         (entries::push(bytes, point), same::push(bytes, point)),
         (image, image)
     );
-    for (number, bytes) in &input.refused {
+    for (wrong, bytes) in &input.refused {
+        let number = wrong.number();
         assert_eq!(
             (entries::check(bytes), same::check(bytes)),
-            (*number, *number)
+            (number, number)
         );
     }
     let [p, a, b, atilde, _, l, sigma] = *values;
     let other = [p, a, b, atilde, (values[4] + 1) % p, l, sigma];
-    assert_eq!(entries::flint(&other, g, n), 10);
+    assert_eq!(entries::rules_with_flint(values, g, n), 0);
+    assert_eq!(entries::rules_with_flint(&other, g, n), 10);
+}
+
+/// Four rows of residues, whose time tells the speed of a multiply-add.
+pub fn rows_column(p: u32) -> Column<'static> {
+    let residue = |i: usize| (i as u64 * 2_654_435_761) % u64::from(p);
+    let row: Vec<u64> = (0..WORDS + 3).map(residue).collect();
+    let factors = [1000, 1001, 1002, 1003].map(residue);
+    let mut added = vec![0u64; WORDS];
+    clock::column("rows", move || {
+        let (added, row, factors) = (black_box(&mut added), black_box(&row), black_box(factors));
+        same::rows::add_rows(added, 0, WORDS, row, factors)
+    })
+}
+
+/// Nanoseconds a multiply-add.
+pub fn multiply_add(samples: &Samples) -> Stat {
+    samples.each(|t| t("rows") * 1000.0 / (4 * WORDS) as f64)
 }
 
 fn columns<'a>(input: &'a Input, pari: &'a mut Pari) -> Vec<Column<'a>> {
@@ -75,6 +100,7 @@ fn columns<'a>(input: &'a Input, pari: &'a mut Pari) -> Vec<Column<'a>> {
         values,
         g,
         n,
+        rational,
         ..
     } = input;
     let mut columns: Vec<Column> = Vec::new();
@@ -83,22 +109,35 @@ fn columns<'a>(input: &'a Input, pari: &'a mut Pari) -> Vec<Column<'a>> {
             columns.push(clock::column($name, move || $call));
         };
     }
-    let at = |number: u32| {
-        let place = input.refused.iter().position(|r| r.0 == number);
-        &input.refused[place.expect("a sheet for each number")].1
-    };
-    let (two, three, four, seven, eight, nine) = (at(2), at(3), at(4), at(7), at(8), at(9));
     column!("check", entries::check(black_box(bytes)));
+    // Side by side, since differences are taken between them.
+    for (name, wrong) in [
+        ("check 9 for the count", Wrong::Count),
+        ("check 9 for N", Wrong::Numerator),
+        ("check 8", Wrong::Sigma),
+        ("check 7", Wrong::Codomain),
+        ("check 4", Wrong::Degree),
+        ("check 3", Wrong::Prime),
+    ] {
+        let refused = input.with(wrong);
+        column!(name, entries::check(black_box(refused)));
+    }
     column!("same check", same::check(black_box(bytes)));
-    column!("flint", entries::flint(black_box(values), g, n));
-    column!("check 2", entries::check(black_box(two)));
-    column!("check 3", entries::check(black_box(three)));
-    column!("check 4", entries::check(black_box(four)));
-    column!("check 7", entries::check(black_box(seven)));
-    column!("check 8", entries::check(black_box(eight)));
-    column!("check 9", entries::check(black_box(nine)));
-    column!("same check 3", same::check(black_box(three)));
-    column!("same check 4", same::check(black_box(four)));
+    for (name, wrong) in [
+        ("same check 4", Wrong::Degree),
+        ("same check 3", Wrong::Prime),
+    ] {
+        let refused = input.with(wrong);
+        column!(name, same::check(black_box(refused)));
+    }
+    column!(
+        "flint",
+        entries::check_with_flint(black_box(values), g, n, *rational)
+    );
+    column!(
+        "flint rules",
+        entries::rules_with_flint(black_box(values), g, n)
+    );
     let mut answer = [0u32; ROOM];
     column!(
         "solve",
@@ -143,6 +182,7 @@ fn columns<'a>(input: &'a Input, pari: &'a mut Pari) -> Vec<Column<'a>> {
         "same N",
         same::rules::numerator(v, m, black_box(g), black_box(&mut numerator))
     );
+    column!("same count", same::modulo::roots(black_box(g), m));
     column!(
         "same sums",
         same::rules::power_sums(v, black_box(g), &mut e, &mut acc, black_box(&mut s), 0)
@@ -163,20 +203,7 @@ fn columns<'a>(input: &'a Input, pari: &'a mut Pari) -> Vec<Column<'a>> {
             &mut squares
         )
     );
-    let residue = |i: usize| (i as u64 * 2_654_435_761) % u64::from(p);
-    let row: Vec<u64> = (0..WORDS + 3).map(residue).collect();
-    let factors = [1000, 1001, 1002, 1003].map(residue);
-    let mut added = vec![0u64; WORDS];
-    column!(
-        "rows",
-        same::rows::add_rows(
-            black_box(&mut added),
-            0,
-            WORDS,
-            black_box(&row),
-            black_box(factors)
-        )
-    );
+    columns.push(rows_column(p));
     columns.push(("pari", Box::new(move |times| pari.again(times))));
     columns
 }
@@ -192,19 +219,20 @@ fn main() -> ExitCode {
     let (machine, remarks) = (read(machine), read(remarks));
     eprintln!("question 3");
     let primes = primes::measure(Path::new(sheets));
+    let inputs: Vec<Input> = inputs::PRIMES.into_iter().flat_map(inputs::all).collect();
+    eprintln!("the count of rational abscissas");
+    let abscissas = abscissas::measure(&inputs);
     let mut pari = Pari::start();
     let mut rows = Vec::new();
-    for p in inputs::PRIMES {
-        for input in inputs::all(p) {
-            let l = input.values[5] as usize;
-            eprintln!("p = {p}, l = {l}");
-            compare(&input);
-            pari.set(&input.certificate);
-            let samples = clock::run(columns(&input, &mut pari), ROUNDS, SAMPLE);
-            rows.push(Row { p, l, samples });
-        }
+    for input in &inputs {
+        let (p, l) = (u64::from(input.values[0]), input.values[5] as usize);
+        eprintln!("p = {p}, l = {l}");
+        compare(input);
+        pari.set(&input.certificate);
+        let samples = clock::run(columns(input, &mut pari), ROUNDS, SAMPLE);
+        rows.push(Row { p, l, samples });
     }
-    let text = document::write(&rows, &primes, &machine, &remarks);
+    let text = document::write(&rows, &primes, &abscissas, &machine, &remarks);
     print!("{text}");
     std::fs::write(document, text).unwrap_or_else(|e| panic!("{document}: {e}"));
     ExitCode::SUCCESS

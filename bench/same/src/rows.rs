@@ -1,7 +1,7 @@
 //! Remainders by products and shifts for a p that is prepared once, and squares by rows: four words of one factor at a time, times all words of the other,
 //! are added to sums of 64 bits, which take no remainder until all is added.
 
-use crate::rules::{at, put, word};
+use crate::rules::{at, part, part_mut, put, word};
 
 /// What the remainders by p need: P = p 2^shift with 2^27 <= P < 2^28, 2^36 mod P, and (2^59 - 1) / P rounded down.
 #[derive(Clone, Copy)]
@@ -31,21 +31,32 @@ pub fn product(a: u64, b: u64) -> u64 {
     (a & 0xffff_ffff) * (b & 0xffff_ffff)
 }
 
-/// By P, number and modulus being shifted alike: 2^36 is replaced by its remainder, and the quotient by multiplication is at most one too small, which a
-/// carry into bit 32 tells.
+/// By P, for a number below 2^58: the quotient by multiplication is at most one too small, which a carry into bit 32 tells.
 #[inline(always)]
-fn remainder(x: u64, m: Modulus) -> u32 {
-    let x = x << m.shift;
-    let y = product(x >> 36, m.fold) + x % (1 << 36);
+fn low(y: u64, m: Modulus) -> u64 {
     let q = product(y >> 26, m.inverse) >> 33;
     let r = y - product(q, m.big);
     let carry = (r + (1 << 32) - m.big) >> 32;
-    ((r - product(carry, m.big)) >> m.shift) as u32
+    r - product(carry, m.big)
+}
+
+/// Of a sum, number and modulus being shifted alike: 2^36 is replaced by its remainder.
+#[inline(always)]
+pub fn remainder(x: u64, m: Modulus) -> u32 {
+    let x = x << m.shift;
+    let y = product(x >> 36, m.fold) + x % (1 << 36);
+    (low(y, m) >> m.shift) as u32
+}
+
+/// Of at most three products of residues, which are short enough as they are.
+#[inline(always)]
+pub fn short(x: u64, m: Modulus) -> u64 {
+    low(x << m.shift, m) >> m.shift
 }
 
 /// out = the remainders of the first numbers of xs.
 #[inline(always)]
-fn remainders(xs: &[u64], out: &mut [u32], m: Modulus) {
+pub fn remainders(xs: &[u64], out: &mut [u32], m: Modulus) {
     for i in 0..out.len() {
         put(out, i, remainder(at(xs, i), m));
     }
@@ -53,7 +64,8 @@ fn remainders(xs: &[u64], out: &mut [u32], m: Modulus) {
 
 /// out = out + w a + x b + y c + z d, word by word. A function of its own, since the compiler would keep the words of e from turn to turn where it sees that
 /// the rows are of one slice, and take no vectors.
-fn four(out: &mut [u64], a: &[u64], b: &[u64], c: &[u64], d: &[u64], [w, x, y, z]: [u64; 4]) {
+pub fn four(out: &mut [u64], a: &[u64], b: &[u64], c: &[u64], d: &[u64], factors: [u64; 4]) {
+    let [w, x, y, z] = factors;
     for j in 0..out.len() {
         let sum = at(out, j)
             + product(w, at(a, j))
@@ -66,12 +78,15 @@ fn four(out: &mut [u64], a: &[u64], b: &[u64], c: &[u64], d: &[u64], [w, x, y, z
 
 /// The same for `len` words of acc, those from `from` on, and four rows of e: those from 3, 2, 1 and 0 on.
 pub fn add_rows(acc: &mut [u64], from: usize, len: usize, e: &[u64], factors: [u64; 4]) {
-    // SAFETY: the callers keep to the lengths.
-    unsafe {
-        let out = acc.get_unchecked_mut(from..from + len);
-        let row = |i| e.get_unchecked(i..);
-        four(out, row(3), row(2), row(1), e, factors);
-    }
+    let row = |i: usize| part(e, i..);
+    let out = part_mut(acc, from..from + len);
+    four(out, row(3), row(2), row(1), e, factors);
+}
+
+/// Four words of a from i on.
+#[inline(always)]
+pub fn factors(a: &[u32], i: usize) -> [u64; 4] {
+    [0, 1, 2, 3].map(|j| u64::from(word(a, i + j)))
 }
 
 #[inline(always)]
@@ -82,7 +97,7 @@ pub fn put_four<T: Copy>(out: &mut [T], from: usize, words: [T; 4]) {
 /// The sums of a², as many as acc has words: four words of a at a time, times themselves and twice what is above them. e holds that, behind three zeros and
 /// before three, so that the rows have no ends of their own.
 #[inline(always)]
-fn sums(a: &[u32], e: &mut [u64], acc: &mut [u64]) {
+pub fn sums(a: &[u32], e: &mut [u64], acc: &mut [u64]) {
     e.fill(0);
     for k in 0..a.len() {
         put(e, k + 3, 2 * u64::from(at(a, k)));
@@ -90,11 +105,10 @@ fn sums(a: &[u32], e: &mut [u64], acc: &mut [u64]) {
     acc.fill(0);
     let mut i = 0;
     while i < a.len() && 2 * i < acc.len() {
-        let factors = [0, 1, 2, 3].map(|j| u64::from(word(a, i + j)));
+        let factors = factors(a, i);
         put_four(e, i + 3, factors);
         let len = (a.len() - i + 3).min(acc.len() - 2 * i);
-        // SAFETY: e has six words more than a.
-        add_rows(acc, 2 * i, len, unsafe { e.get_unchecked(i..) }, factors);
+        add_rows(acc, 2 * i, len, part(e, i..), factors);
         put_four(e, i + 3, [0; 4]);
         i += 4;
     }

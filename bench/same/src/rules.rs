@@ -2,6 +2,7 @@
 //! Residues are below p < 2^28; no index is tested.
 
 use std::hint::black_box;
+use std::slice::SliceIndex;
 
 use crate::rows::{self, Modulus};
 use crate::{last, Values};
@@ -16,6 +17,18 @@ pub fn at<T: Copy>(a: &[T], i: usize) -> T {
 pub fn put<T>(a: &mut [T], i: usize, x: T) {
     // SAFETY: as for at.
     unsafe { *a.get_unchecked_mut(i) = x }
+}
+
+#[inline(always)]
+pub fn part<T>(a: &[T], range: impl SliceIndex<[T], Output = [T]>) -> &[T] {
+    // SAFETY: as for at.
+    unsafe { a.get_unchecked(range) }
+}
+
+#[inline(always)]
+pub fn part_mut<T>(a: &mut [T], range: impl SliceIndex<[T], Output = [T]>) -> &mut [T] {
+    // SAFETY: as for at.
+    unsafe { a.get_unchecked_mut(range) }
 }
 
 #[inline(always)]
@@ -97,7 +110,7 @@ fn span(
 
 /// `start` plus the coefficient k of a b.
 #[inline(always)]
-fn coefficient(start: u32, a: &[u32], b: &[u32], k: usize, p: u32) -> u32 {
+pub fn coefficient(start: u32, a: &[u32], b: &[u32], k: usize, p: u32) -> u32 {
     let from = (k + 1).saturating_sub(b.len());
     let to = from.max((k + 1).min(a.len()));
     rem(span(start, a, b, from, to, k, 256, p), p)
@@ -283,8 +296,7 @@ pub fn expansion(v: Values, s: &[u32], h: &mut [u32], known: usize) {
 /// The sum of h_i h_(k-1-i), i from 1 to k - 2.
 #[inline(always)]
 fn square_sum(h: &[u32], k: usize, p: u32) -> u32 {
-    // SAFETY: 3 <= k <= h.len()
-    square_coefficient(unsafe { h.get_unchecked(1..k - 1) }, k - 3, p)
+    square_coefficient(part(h, 1..k - 1), k - 3, p)
 }
 
 /// (k - 2)((2k + 3)h_k + (2k - 3)A h_(k-2) + 2(k - 3)B h_(k-3)) = 3(the sum of h_i h_(k-1-i)), for k from `from`, 3 at least. All sums are those of

@@ -1,11 +1,12 @@
 //! Reading, the five questions of a sheet's form and content, and the services check, solve, kernel and push.
 
-use crate::primes::question_three;
-use crate::rows;
-use crate::rules::{self, add, at, mul, neg, put, rem, sub, times};
-use crate::{Values, INFINITY, REFUSED};
+use reference::sheet::LARGEST_CERTIFICATE as ROOM;
 
-const ROOM: usize = 392;
+use crate::modulo;
+use crate::primes::question_three;
+use crate::rows::{self, Modulus};
+use crate::rules::{self, add, at, mul, neg, part, put, rem, sub, times};
+use crate::{Values, INFINITY, REFUSED};
 
 // ── questions 3 to 7
 
@@ -38,9 +39,9 @@ fn modulo(x: u32, p: u32) -> u32 {
     }
 }
 
-/// Questions 2 to 7 of a sheet whose header has these kinds, then g, then N where `numerator` says so. A sheet without N is no certificate: its values
-/// may be of any size, and those of the header come back modulo p.
-fn read(ws: &[u32], kinds: &[u32], g: bool, numerator: bool) -> Result<Values, u32> {
+/// Questions 2 to 7 of a sheet whose header has these kinds, then g, then N and the count where it is a certificate. Elsewhere values may be of any size,
+/// and those of the header come back modulo p.
+fn read(ws: &[u32], kinds: &[u32], g: bool, certificate: bool) -> Result<Values, u32> {
     if ws.len() < kinds.len() || (0..kinds.len()).any(|i| kind(at(ws, i)) != at(kinds, i)) {
         return Err(2);
     }
@@ -64,7 +65,7 @@ fn read(ws: &[u32], kinds: &[u32], g: bool, numerator: bool) -> Result<Values, u
     if l.is_multiple_of(2) || !(3..=255).contains(&l) || p < 2 * l {
         return Err(4);
     }
-    if !numerator {
+    if !certificate {
         for x in [
             &mut v.a,
             &mut v.b,
@@ -80,12 +81,16 @@ fn read(ws: &[u32], kinds: &[u32], g: bool, numerator: bool) -> Result<Values, u
     let d = (l as usize - 1) / 2;
     let from = kinds.len();
     let middle = from + if g { d + 1 } else { 0 };
-    let end = middle + if numerator { 2 * d + 2 } else { 0 };
+    let count = middle + if certificate { 2 * d + 2 } else { 0 };
+    let end = count + usize::from(certificate);
     if ws.len() != end + 1 || at(ws, end) != 0xf000_0000 {
         return Err(6);
     }
-    let bound = if numerator { p } else { 1 << 28 };
-    if !section(ws, from, middle, 8, bound) || !section(ws, middle, end, 9, bound) {
+    let bound = if certificate { p } else { 1 << 28 };
+    if !section(ws, from, middle, 8, bound)
+        || !section(ws, middle, count, 9, bound)
+        || !section(ws, count, end, 10, 1 << 28)
+    {
         return Err(6);
     }
     if !nonsingular(v.a, v.b, p) || (kinds.len() == 7 && !nonsingular(v.atilde, v.btilde, p)) {
@@ -100,7 +105,7 @@ fn coefficients(ws: &[u32], from: usize, out: &mut [u32]) {
     }
 }
 
-fn write(v: Values, g: &[u32], n: &[u32], out: &mut [u32]) -> u64 {
+fn write(v: Values, g: &[u32], n: &[u32], abscissas: u32, out: &mut [u32]) -> u64 {
     let header = [v.p, v.a, v.b, v.atilde, v.btilde, v.degree, v.sigma];
     for (i, x) in header.iter().enumerate() {
         put(out, i, ((i as u32 + 1) << 28) + x);
@@ -111,7 +116,9 @@ fn write(v: Values, g: &[u32], n: &[u32], out: &mut [u32]) -> u64 {
     for i in 0..n.len() {
         put(out, 7 + g.len() + i, (9 << 28) + at(n, i));
     }
-    let end = 7 + g.len() + n.len();
+    let count = 7 + g.len() + n.len();
+    put(out, count, (10 << 28) + abscissas);
+    let end = count + 1;
     put(out, end, 15 << 28);
     end as u64 + 1
 }
@@ -121,7 +128,7 @@ fn write(v: Values, g: &[u32], n: &[u32], out: &mut [u32]) -> u64 {
 const CERTIFICATE: [u32; 7] = [1, 2, 3, 4, 5, 6, 7];
 const KERNEL: [u32; 4] = [1, 2, 3, 6];
 
-fn judge(v: Values, g: &[u32], n: &[u32]) -> u32 {
+fn judge(v: Values, g: &[u32], n: &[u32], abscissas: u32) -> u32 {
     let p = v.p;
     let m = rows::modulus(p);
     let d = g.len() - 1;
@@ -131,7 +138,7 @@ fn judge(v: Values, g: &[u32], n: &[u32]) -> u32 {
     let mut room = [0; 256];
     let room = &mut room[..2 * d + 2];
     rules::numerator(v, m, g, room);
-    if n != room {
+    if n != room || modulo::roots(g, m) != abscissas {
         return 9;
     }
     if rules::rule_three(v, m, g) {
@@ -158,7 +165,8 @@ fn passed(bytes: &[u8], g: &mut [u32; 128], n: &mut [u32; 256]) -> Result<Values
     let d = (v.degree as usize - 1) / 2;
     coefficients(ws, 7, &mut g[..d + 1]);
     coefficients(ws, d + 8, &mut n[..2 * d + 2]);
-    match judge(v, &g[..d + 1], &n[..2 * d + 2]) {
+    let abscissas = value(at(ws, 3 * d + 10));
+    match judge(v, &g[..d + 1], &n[..2 * d + 2], abscissas) {
         0 => Ok(v),
         k => Err(k),
     }
@@ -213,8 +221,7 @@ fn evaluate(a: &[u32], powers: &[u32], slopes: &[u32], p: u32) -> (u32, u32) {
     let mut i = a.len();
     while 0 < i {
         let start = i.saturating_sub(16);
-        // SAFETY: start is at most i, and i at most the length.
-        let block = unsafe { a.get_unchecked(start..i) };
+        let block = part(a, start..i);
         let m = i - start;
         let x = at(powers, m);
         let sum = dot(block, powers) + mul(x, value);
@@ -262,16 +269,21 @@ pub fn push(bytes: &[u8], point: u64) -> u64 {
     u64::from(u) + (u64::from(w) << 28)
 }
 
-/// The certificate of a g with R1 if it has R3 too, else 11.
+/// The certificate of a g with R1 and its N if R3 holds too, else 11.
+fn finish(v: Values, m: Modulus, g: &[u32], n: &[u32], holds: bool, answer: &mut [u32]) -> u64 {
+    if !holds {
+        return REFUSED + 11;
+    }
+    write(v, g, n, modulo::roots(g, m), answer)
+}
+
+/// The same, with room for N.
 fn certify(v: Values, g: &[u32], answer: &mut [u32]) -> u64 {
     let m = rows::modulus(v.p);
     let mut n = [0; 256];
     let n = &mut n[..2 * g.len()];
     rules::numerator(v, m, g, n);
-    if !rules::rule_three(v, m, g) {
-        return REFUSED + 11;
-    }
-    write(v, g, n, answer)
+    finish(v, m, g, n, rules::rule_three(v, m, g), answer)
 }
 
 pub fn solve(ws: &[u32], answer: &mut [u32]) -> u64 {
@@ -303,10 +315,8 @@ fn solve_in<const ROOM: usize>(v: Values, answer: &mut [u32]) -> u64 {
     rules::candidate(v, table, h, s, n, g);
     let m = rows::modulus(v.p);
     rules::numerator(v, m, g, n);
-    if !rules::rule_three_from(v, m, g, e, acc, s, h, &mut table[..l - 2], d) {
-        return REFUSED + 11;
-    }
-    write(v, g, n, answer)
+    let holds = rules::rule_three_from(v, m, g, e, acc, s, h, &mut table[..l - 2], d);
+    finish(v, m, g, n, holds, answer)
 }
 
 pub fn kernel(ws: &[u32], answer: &mut [u32]) -> u64 {
