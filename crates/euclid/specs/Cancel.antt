@@ -19,7 +19,7 @@ use Rattle.zmod.specs.Prime.{Prime, prime-pos}
 use Rattle.zmod.specs.Residues.{Residue, Reduced, poly, poly-at, poly-below, Residues, residues-poly, residues-same}
 use Rattle.divisibility.specs.Congruence.{Congruent}
 use Rattle.euclid.specs.Words.{Leads, leads-leading, poly-front, front-inside, front-past}
-use Rattle.euclid.specs.Combination.{linear, combination-congruent, shifted-congruent, cancelled-one, cancelled-two}
+use Rattle.euclid.specs.Combination.{linear, plus-multiple-congruent, shifted-congruent, cancelled-one, cancelled-two}
 use Rattle.euclid.specs.Pseudo.{PseudoRemainder, unit-product}
 
 module _ (p : ℕ) (a b : List ℕ) (P : Prime p) (divisor : Leads p b) where
@@ -66,7 +66,7 @@ module _ (p : ℕ) (a b : List ℕ) (P : Prime p) (divisor : Leads p b) where
       congruent = subst (λ s. Congruent (Zmod p) B s (scaled (Zmod p) (B d) A)) (sym lower-is)
           (subst (λ s. Congruent (Zmod p) B (sums (Zmod p) (scaled (Zmod p) (B d) A) s) (scaled (Zmod p) (B d) A))
           (sym (conv-scalar (Zmod p) (minus p (A d)) B))
-          (combination-congruent (Zmod p) (B d) A B (const (Zmod p) (minus p (A d))) (poly-const (Zmod p) _)));
+          (plus-multiple-congruent (Zmod p) (B d) A B (const (Zmod p) (minus p (A d))) (poly-const (Zmod p) _)));
     }
 
   -- ── more words in a: `part` is what came back of the words before a's last, at k

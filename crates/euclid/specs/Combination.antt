@@ -40,8 +40,8 @@ module _ (R : CRing) where
 
   -- ── modulo b
 
-  pub combination-congruent : (c : Car) (a b f : Seq R) → Poly R f → Congruent R b (sums R (scaled R c a) (conv R f b)) (scaled R c a)
-  combination-congruent c a b f pf = record {
+  pub plus-multiple-congruent : (c : Car) (a b f : Seq R) → Poly R f → Congruent R b (sums R (scaled R c a) (conv R f b)) (scaled R c a)
+  plus-multiple-congruent c a b f pf = record {
     cofactor = f;
     poly = pf;
     is = solve3 (Series R) (λ b f s. b :* f) (λ b f s. s :+ f :* b :- s) tt b f (scaled R c a);
@@ -59,7 +59,7 @@ module _ (R : CRing) where
       → Congruent R b (sums R (scaled R c a) (shift R s (conv R (linear y z) b))) (scaled R c a)
   shifted-congruent s c y z a b =
       subst (λ t. Congruent R b (sums R (scaled R c a) t) (scaled R c a)) (conv-shift R s (linear y z) b)
-      (combination-congruent c a b (shift R s (linear y z)) (linear-poly s y z))
+      (plus-multiple-congruent c a b (shift R s (linear y z)) (linear-poly s y z))
 
   -- ── two coefficients less: b has d + 1 coefficients, a has s + d + 2
 
@@ -108,7 +108,7 @@ module _ (R : CRing) where
 
 -- ── in slices
 
--- four products of residues are still below what a short remainder takes
+-- a product of residues is below a quarter of what a short remainder takes, so three are below it
 pub product-fits : (p c x : ℕ) → p < 2 ^ 28 → c < p → x < p → c * x < 2 ^ 28 * p
 product-fits p c x small hc hx =
     let le : c * x ≤ 268435456 * x = N.mul-le-mul-right x (omega arith) in

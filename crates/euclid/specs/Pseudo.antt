@@ -11,13 +11,13 @@ use Rattle.ring.specs.Ring
 use Rattle.ring.specs.Ring.{CRing}
 use Rattle.ring.specs.Field.{Inverse}
 use Rattle.ring.specs.Identity.{solve3, solve4, solve5}
-use Rattle.ring.specs.Identity.Ex.{_:+_, _:-_, _:*_}
+use Rattle.ring.specs.Identity.Ex.{_:+_, _:*_}
 use Rattle.series.specs.Series.{Series, Seq, scaled, const, conv-scalar}
 use Rattle.series.specs.Degree.{Below, below-mono, poly-const, poly-mul}
 use Rattle.series.specs.Indeterminate.{const-mul}
 use Rattle.zmod.specs.Zmod.{Elt, Zmod, mk, times}
 use Rattle.zmod.specs.Residues.{Reduced, poly, poly-at, poly-past}
-use Rattle.divisibility.specs.Congruence.{Congruent, congruent-refl, congruent-sym, congruent-trans}
+use Rattle.divisibility.specs.Congruence.{Congruent, congruent-refl, congruent-sym, congruent-trans, congruent-scaled}
 use Rattle.divisibility.specs.Gcd.{Gcd, gcd-modulo}
 use Rattle.euclid.specs.Words.{Trimmed, take-poly, trimmed-past, front-inside, front-past}
 
@@ -31,27 +31,15 @@ pub record PseudoRemainder (p n : ℕ) (b a : Seq (Zmod p)) (r : List ℕ) : Typ
 -- ── over any ring
 
 module _ (R : CRing) where
-  open CRing (Series R) using (add as _+ₛ_, mul as _*ₛ_, neg as -ₛ_)
+  open CRing (Series R) using (add as _+ₛ_, mul as _*ₛ_)
 
   infixl 65 _+ₛ_
   infixl 70 _*ₛ_
-  infix 75 -ₛ_
   pub unit-product : (x y : R .Car) → Inverse R x → Inverse R y → Inverse R (R .mul x y)
   unit-product x y (u, e) (v, f) = (
     R .mul u v,
     solve4 R (λ x y u v. x :* y :* (u :* v)) (λ x y u v. x :* u :* (y :* v)) tt x y u v ∙ ap₂ (R .mul) e f ∙ R .mul-one (R .𝟙),
   )
-
-  congruent-scaled : (u : R .Car) (b x y : Seq R) → Congruent R b x y → Congruent R b (scaled R u x) (scaled R u y)
-  congruent-scaled u b x y h =
-      subst (Congruent R b (scaled R u x)) (sym (conv-scalar R u y)) (subst (λ s. Congruent R b s (const R u *ₛ y)) (sym (conv-scalar R u x))
-      (record {
-        cofactor = const R u *ₛ h .cofactor;
-        poly = poly-mul R (const R u) (h .cofactor) (poly-const R u) (h .poly);
-        is =
-            solve3 (Series R) (λ b k u. b :* (u :* k)) (λ b k u. u :* (b :* k)) tt b (h .cofactor) (const R u)
-            ∙ ap (λ s. const R u *ₛ s) (h .is) ∙ solve3 (Series R) (λ x y u. u :* (x :- y)) (λ x y u. u :* x :- u :* y) tt x y (const R u);
-      }))
 
   -- a unit changes nothing
   gcd-scaled : (b r : Seq R) (u : R .Car) → Inverse R u → (n : ℕ) (c : Seq R) → Gcd R b (scaled R u r) n c → Gcd R b r n c
@@ -142,5 +130,5 @@ module _ {p n k : ℕ} {b A : Seq (Zmod p)} {a part : List ℕ} (h : PseudoRemai
         (subst (λ s. Congruent (Zmod p) b (poly p part) (scaled (Zmod p) (g .factor) s)) (take-poly p a (h .below)) (g .congruent))
         (subst (Congruent (Zmod p) b (scaled (Zmod p) (g .factor) (poly p a)))
         (fun-ext λ i. sym (CRing.mul-assoc (Zmod p) (g .factor) (h .factor) (A i)))
-        (congruent-scaled (Zmod p) (g .factor) b (poly p a) (scaled (Zmod p) (h .factor) A) (h .congruent))));
+        (congruent-scaled (Zmod p) b (poly p a) (scaled (Zmod p) (h .factor) A) (g .factor) (h .congruent))));
   }

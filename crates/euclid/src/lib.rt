@@ -1,7 +1,7 @@
 // The degree of a greatest common divisor of two polynomials over ℤ/p, for p below 2^28: Euclid's algorithm on slices of residues, the constant term first.
 // The words have 64 bits, so that the compiler makes vectors of the one long loop without widening and narrowing them.
 // No coefficient is divided: a division step multiplies what is divided by the square of the divisor's last word, a unit, and takes two coefficients away at
-// once, so that the words go by half as often.
+// once, so that there are half as many passes over the words.
 use barrett::Modulus;
 ghost use mathlib.Core.Path.{_≡_};
 ghost use mathlib.Core.List.{_∷_};

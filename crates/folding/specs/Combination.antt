@@ -9,13 +9,11 @@ use native.Mathlib.Nat as N
 use native.Mathlib.Omega.{arith}
 use Rattle.ring.specs.Ring
 use Rattle.ring.specs.Ring.{CRing, pow}
-use Rattle.ring.specs.Identity.{solve3}
-use Rattle.ring.specs.Identity.Ex.{_:-_, _:*_}
-use Rattle.series.specs.Series.{Series, Seq, conv, sums, negs, scaled, zeros, const, conv-scalar}
-use Rattle.series.specs.Degree.{Below, poly-const, poly-mul}
+use Rattle.series.specs.Series.{Series, Seq, sums, scaled, zeros}
+use Rattle.series.specs.Degree.{Below}
 use Rattle.series.specs.Indeterminate.{ind}
 use Rattle.series.specs.Binomial.{ind-monic, ind-power, monic-power}
-use Rattle.divisibility.specs.Congruence.{Congruent, congruent-refl, congruent-add}
+use Rattle.divisibility.specs.Congruence.{Congruent, congruent-refl, congruent-add, congruent-scaled}
 
 module _ (R : CRing) where
   open CRing R using (Car, 𝟘, add as _⊕_, mul as _⊗_)
@@ -50,24 +48,13 @@ module _ (R : CRing) where
       combination-suc n q T k
       ∙ ap₂ _⊕_ (combination-below m n q T below k l) (ap (_⊗_ (q n)) (below n k l) ∙ Ring.mul-zero R (q n)) ∙ CRing.add-zero R 𝟘
 
-  scaled-congruent : (g a b : Seq R) (c : Car) → Congruent R g a b → Congruent R g (scaled R c a) (scaled R c b)
-  scaled-congruent g a b c h = record {
-    cofactor = conv R (const R c) (h .cofactor);
-    poly = poly-mul R (const R c) (h .cofactor) (poly-const R c) (h .poly);
-    is =
-        solve3 (Series R) (λ g c k. g :* (c :* k)) (λ g c k. c :* (g :* k)) tt g (const R c) (h .cofactor)
-        ∙ ap (conv R (const R c)) (h .is)
-        ∙ solve3 (Series R) (λ c a b. c :* (a :- b)) (λ c a b. c :* a :- c :* b) tt (const R c) a b
-        ∙ ap₂ (λ x y. sums R x (negs R y)) (sym (conv-scalar R c a)) (sym (conv-scalar R c b));
-  }
-
   combination-congruent : (g : Seq R) (n : ℕ) (q : Seq R) (S T : ℕ → Seq R) → ((i : ℕ) → i < n → Congruent R g (S i) (T i))
       → Congruent R g (combination n q S) (combination n q T)
   unfolding combination
   combination-congruent g zero q S T h = congruent-refl R g (zeros R)
   combination-congruent g (suc n) q S T h =
       congruent-add R g (combination n q S) (combination n q T) (scaled R (q n) (S n)) (scaled R (q n) (T n))
-      (combination-congruent g n q S T (λ i l. h i (omega arith))) (scaled-congruent g (S n) (T n) (q n) (h n (omega arith)))
+      (combination-congruent g n q S T (λ i l. h i (omega arith))) (congruent-scaled R g (S n) (T n) (q n) (h n (omega arith)))
 
   -- ── combinations of powers
 

@@ -7,7 +7,6 @@ use native.Mathlib.Nat as N
 use native.Mathlib.Decide.{decLt}
 use native.Mathlib.Omega.{arith}
 use lib.ListN.{length, getD, take, drop, List·getD-eq-default}
-use Rattle.ring.specs.Ring
 use Rattle.ring.specs.Ring.{CRing}
 use Rattle.slices.specs.Filling.{Filled}
 use Rattle.slices.specs.Stored.{part-at, part-below}

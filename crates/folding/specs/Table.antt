@@ -9,16 +9,17 @@ use native.Mathlib.Decide.{ℕ-discrete, decLt}
 use native.Mathlib.Omega.{arith}
 use lib.ListN.{length, getD, take, drop, length-take, List·getD-eq-default}
 use Rattle.ring.specs.Ring
-use Rattle.ring.specs.Ring.{CRing, pow-suc}
+use Rattle.ring.specs.Ring.{CRing}
 use Rattle.slices.specs.Stored.{Stored, part-at, back-before, back-inside, back-after}
-use Rattle.series.specs.Series.{Series, Seq, conv, sums, negs, scaled}
+use Rattle.series.specs.Series.{Seq, conv, sums, negs, scaled}
 use Rattle.series.specs.Degree.{Below, Monic, sums-below, scaled-below}
 use Rattle.series.specs.Indeterminate.{ind, conv-ind}
 use Rattle.series.specs.Binomial.{ind-monic, ind-power, monic-power, poly-ind}
 use Rattle.zmod.specs.Zmod.{Zmod, mk, plus, times}
 use Rattle.zmod.specs.Residues.{Residue, Reduced, poly, poly-at, poly-past, poly-below, Residues, residues-poly, residues-filled}
-use Rattle.divisibility.specs.Congruence.{Congruent, congruent-sym, congruent-mul, congruent-refl, congruent-trans}
+use Rattle.divisibility.specs.Congruence.{Congruent, congruent-sym}
 use Rattle.divisibility.specs.Divides.{divides-refl}
+use Rattle.roots.specs.Power.{power-congruent, power-next}
 use Rattle.modulo.specs.Modulo.{RemainderOf, remainder-copied}
 use Rattle.modulo.specs.Power.{x-to}
 use Rattle.folding.specs.Combination.{combination, combination-zero, combination-suc, folded-back}
@@ -130,10 +131,8 @@ pub next-power : {p d : ℕ} (e : ℕ) {g : Seq (Zmod p)} {r r′ : List ℕ} �
 next-power {p} {d} e {g} {r} {r′} h k = record {
   reduced = k .reduced;
   below = k .below;
-  congruent = subst (Congruent (Zmod p) g (poly p r′)) (sym (pow-suc (Series (Zmod p)) (ind (Zmod p)) e))
-      (congruent-trans (Zmod p) g (poly p r′) (conv (Zmod p) (ind (Zmod p)) (poly p r)) (conv (Zmod p) (ind (Zmod p)) (x-to p e)) (k .congruent)
-      (congruent-mul (Zmod p) g (ind (Zmod p)) (ind (Zmod p)) (poly p r) (x-to p e) (poly-ind (Zmod p)) (d, h .below)
-      (congruent-refl (Zmod p) g (ind (Zmod p))) (h .congruent)));
+  congruent = power-congruent (Zmod p) g (ind (Zmod p)) (suc e) (conv (Zmod p) (ind (Zmod p)) (poly p r))
+      (power-next (Zmod p) g (ind (Zmod p)) e (poly p r) (h .congruent) (poly-ind (Zmod p)) (d, h .below)) (poly p r′) (k .congruent);
 }
 
 -- ── the rows in their room: d of them and three of zeros

@@ -6,8 +6,7 @@ ghost use mathlib.Core.Path.{_≡_};
 ghost use Prim.Native.Nat.{ℕ, _+_, _-_, _*_, _^_, _<_, _≤_};
 ghost use lib.ListN.{length, getD};
 ghost use Rattle.slices.specs.Filling.{Filled};
-ghost use Rattle.ring.specs.Ring.{pow};
-ghost use Rattle.series.specs.Series.{Series, Seq, conv, sums, scaled};
+ghost use Rattle.series.specs.Series.{Seq, conv, sums, scaled};
 ghost use Rattle.series.specs.Indeterminate.{ind};
 ghost use Rattle.series.specs.Reversal.{shift};
 ghost use Rattle.zmod.specs.Zmod.{Zmod, mk, plus, times};
@@ -28,8 +27,8 @@ fn plus_multiple(x: u32, c: u32, y: u32, m: Modulus) -> u32
     barrett::remainder(field::wide(x) + field::product(c, y), m)
 }
 
-// out = out + c a
-fn add_multiple(out: &mut [u32], a: &[u32], c: u32, m: Modulus)
+// out = out + c a, as `poly::add_scaled`, but with remainders of which the compiler makes vectors.
+fn add_reduced(out: &mut [u32], a: &[u32], c: u32, m: Modulus)
     requires { ⌜ Prepared m × (length (now out) ≤ length (now a)) × (c < m .p) ⌝ }
     requires { ⌜ (Reduced (m .p) (now out)) × (Reduced (m .p) (now a)) ⌝ }
     ensures { λ _. ⌜ Residues (m .p) (sums (Zmod (m .p)) (poly (m .p) (now (out .entry)))
@@ -64,7 +63,7 @@ fn times_x(r: &mut [u32], n: &[u32], m: Modulus)
 {
     let top = r[r.len() - 1];
     shift_up(r);
-    add_multiple(r, n, top, m);
+    add_reduced(r, n, top, m);
 }
 
 // Row i of the table, where those before it are there and r is x^(d + i); r goes on to the next power.
@@ -115,7 +114,7 @@ fn fold_four(acc: &mut [u64], q: &[u32], i: usize, t: &[u64], p: u32)
     rows::four(acc, t, &t[d..], &t[2 * d..], &t[3 * d..], w, x, y, z);
 }
 
-// acc = acc + q_0 T_0 + q_1 T_1 + .., where T_i are the rows of t: at most 18 products a word, next to the 32 that a square has.
+// acc = acc + q_0 T_0 + q_1 T_1 + .., where T_i are the rows of t: at most 16 products a word, next to the 32 that a square has.
 fn fold(acc: &mut [u64], q: &[u32], t: &[u64], p: u32)
     requires { ⌜ (length (now q) ≡ length (now acc)) × (length (now acc) ≤ 15) × (length (now t) ≡ length (now acc) * (length (now acc) + 3)) ⌝ }
     requires { ⌜ (p ≤ 2 ^ 28) × (Reduced p (now q)) × (Reduced p (now t)) × ((k : ℕ) → getD (now acc) k 0 ≤ 32 * ((p - 1) * (p - 1))) ⌝ }
@@ -202,8 +201,7 @@ pub fn power_of_x(
     requires { ⌜ (length (now r) ≡ length (now g) - 1) × (length (now n) ≡ length (now r)) × (length (now q) ≡ length (now r))
         × (length (now t) ≡ length (now r) * (length (now r) + 3)) × (length (now r) + 6 ≤ length (now e))
         × (length (now acc) ≡ length (now r) + length (now r)) ⌝ }
-    ensures { λ _. ⌜ RemainderOf (m .p) (length (now (g .entry)) - 1) (poly (m .p) (now (g .entry)))
-        (pow (Series (Zmod (m .p))) (ind (Zmod (m .p))) (m .p)) (now (r .exit)) ⌝ }
+    ensures { λ _. ⌜ RemainderOf (m .p) (length (now (g .entry)) - 1) (poly (m .p) (now (g .entry))) (x-to (m .p) (m .p)) (now (r .exit)) ⌝ }
 {
     prepare(g, r, n, t, m);
     let mut i = modulo::begin(r, m.p);

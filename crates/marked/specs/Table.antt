@@ -1,4 +1,4 @@
--- Document 01's marked sheets (◆ there) as one table, with one neighbour that is not marked there and document 02's cases of E2, E5 and E6, and the one theorem
+-- Document 01's marked sheets (◆ there) and document 02's cases of E2, E5 and E6 as one table, with neighbours that neither document has, and the one theorem
 -- that covers it: every row holds, from the rules, by computing.
 -- Assumes nothing.
 use mathlib.Core.Bool.{Bool, true}
@@ -48,7 +48,7 @@ none = Q 1013 1 3 81 161 9 0
 abbrev none-g : List ℕ
 none-g = 675 ∷ 12 ∷ 2 ∷ 0 ∷ 1 ∷ []
 
--- a g that has a root twice
+-- a question over 11 for g = x², which has its root twice
 abbrev twice : Values
 twice = Q 11 0 1 0 1 5 0
 

@@ -8,8 +8,8 @@ use lib.ListN.{length}
 use Rattle.series.specs.Series.{Seq}
 use Rattle.series.specs.Degree.{Below, Monic, below-mono}
 use Rattle.zmod.specs.Zmod.{Zmod}
-use Rattle.zmod.specs.Residues.{Reduced, poly, poly-past, Residues, residues-poly}
-use Rattle.divisibility.specs.Congruence.{Congruent, congruent-refl}
+use Rattle.zmod.specs.Residues.{Reduced, poly, Residues, residues-poly}
+use Rattle.divisibility.specs.Congruence.{Congruent}
 
 pub record Divisor (p : ℕ) (g : List ℕ) : Type 0 where
   pub reduced : Reduced p g
@@ -20,17 +20,6 @@ pub record RemainderOf (p n : ℕ) (g a : Seq (Zmod p)) (r : List ℕ) : Type 0 
   pub reduced : Reduced p r
   pub below : Below (Zmod p) n (poly p r)
   pub congruent : Congruent (Zmod p) g (poly p r) a
-
--- a slice is itself, modulo whatever
-pub remainder-self : {p : ℕ} (g : Seq (Zmod p)) (a : List ℕ) → Reduced p a → RemainderOf p (length a) g (poly p a) a
-remainder-self {p} g a h = record { reduced = h; below = poly-past p a; congruent = congruent-refl (Zmod p) g (poly p a) }
-
-pub remainder-mono : {p n k : ℕ} {g a : Seq (Zmod p)} {r : List ℕ} → n ≤ k → RemainderOf p n g a r → RemainderOf p k g a r
-remainder-mono {p} {n} {k} {r = r} le h = record {
-  reduced = h .reduced;
-  below = below-mono (Zmod p) n k (poly p r) le (h .below);
-  congruent = h .congruent;
-}
 
 -- the slice that was divided held a, and the remainder is copied to where it is wanted
 pub remainder-filled : {p n : ℕ} {g a : Seq (Zmod p)} {xs r : List ℕ} → Residues p a xs → Below (Zmod p) (length xs) a → RemainderOf p n g (poly p xs) r

@@ -1,7 +1,7 @@
 -- Powers of x modulo g by the exponent's binary digits, topmost first: where it begins, a turn, and the end. Before each turn r is x to the power of the
 -- digits from place i up, e / 2ⁱ; a turn squares it and multiplies by x where the next digit is 1.
 -- Assumes nothing.
-use mathlib.Core.Path.{_≡_, refl, sym, _∙_, ap, subst, fun-ext}
+use mathlib.Core.Path.{_≡_, sym, _∙_, ap, subst, fun-ext}
 use mathlib.Core.List.{List}
 use Prim.Native.Nat.{ℕ, zero, suc, _+_, _-_, _/_, _%_, _^_, _≤_, _<_}
 use native.Mathlib.Nat as N

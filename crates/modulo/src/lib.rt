@@ -1,6 +1,5 @@
-// Powers of x modulo a monic polynomial over ℤ/p, for p below 2^28: what every way to x^p begins with. Slices hold residues, the constant term first, as in
-// `poly`; a slice for g has d + 1 words, of which the last is 1.
-ghost use mathlib.Core.Path.{_≡_};
+// What both ways to x^p modulo a monic g over ℤ/p share, for p below 2^28: the power of x that squaring begins with, and −a. Slices hold residues, the
+// constant term first, as in `poly`.
 ghost use Prim.Native.Nat.{_/_, _^_, _<_, _≤_};
 ghost use lib.ListN.{length};
 ghost use Rattle.series.specs.Series.{Seq, negs};

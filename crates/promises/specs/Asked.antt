@@ -34,10 +34,11 @@ rules-ask v g n c =
     ∷ (10, R3 (Zmod (v .p)) (question v) (poly (v .p) g) (poly (v .p) n))
     ∷ []
 
--- check: 2 to 10
+-- these of what is on the sheet itself
 abbrev pub certificate-rules : List ℕ → Questions
 certificate-rules ws = rules-ask (valuesOf Certificate ws) (gOf Certificate ws) (nOf Certificate ws) (abscissasOf ws)
 
+-- check: 2 to 10
 abbrev pub check-asks : List ℕ → Questions
 check-asks ws = asked Certificate ws ++ certificate-rules ws
 

@@ -1,4 +1,5 @@
--- What it takes to count the rational abscissas: a g with R1 is monic, so it is a divisor that `counting` takes, and what that gives is the count.
+-- For the proofs of `checking` and `certifying`, what it takes to count the rational abscissas: a g with R1 is monic, so it is a divisor that `counting`
+-- takes, and what that gives is the count.
 -- Assumes nothing.
 use mathlib.Core.Path.{_≡_, sym, _∙_, ap, subst}
 use mathlib.Core.List.{List}
@@ -31,5 +32,5 @@ module _ (v : Values) (ready : Ready v) (g : List ℕ) (words : HoldsG v g) (r1 
     omega (arith, words .count, half-most v ready),
   )
 
-  pub counted : (r : ℕ) → r ≡ rational-roots (m .p) (length g) (poly (m .p) g) → r ≡ rational-abscissas v g
-  counted r e = e ∙ ap (λ p. rational-roots p (length g) (poly p g)) (over .same)
+  pub counted-on-sheet : (r : ℕ) → r ≡ rational-roots (m .p) (length g) (poly (m .p) g) → r ≡ rational-abscissas v g
+  counted-on-sheet r e = e ∙ ap (λ p. rational-roots p (length g) (poly p g)) (over .same)

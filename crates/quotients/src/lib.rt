@@ -6,7 +6,6 @@ ghost use mathlib.Core.Path.{_≡_};
 ghost use mathlib.Core.List.{_∷_};
 ghost use Prim.Native.Nat.{ℕ, _+_, _-_, _*_, _^_, _<_, _≤_};
 ghost use lib.ListN.{length, getD, set, replicate};
-ghost use Rattle.slices.specs.Filling.{Filled};
 ghost use Rattle.series.specs.Series.{conv, sums};
 ghost use Rattle.series.specs.Reversal.{shift};
 ghost use Rattle.zmod.specs.Zmod.{Zmod};
@@ -134,7 +133,7 @@ fn prepare(g: &[u32], t: &mut [u64], n: &mut [u64], top: &mut [u32], q: &mut [u3
     put_behind(q, n);
 }
 
-// r = a modulo g, where a has at most 2n − 1 words and g has n: two products in place of a long division. acc, top and q are room.
+// r = a modulo g, where g has k words and a has 2k − 1: two products in place of a long division. t and n are prepared for g; acc, top and q are room.
 fn divide(
     a: &[u32],
     g: &[u32],
@@ -192,7 +191,7 @@ fn square_modulo(
     divide(room, g, t, n, &mut acc[..k], top, q, r, m);
 }
 
-// r = x^p modulo g, by the digits of p from the topmost one down. All slices but g and r are room.
+// r = x^p modulo g, by the digits of p from where `modulo::begin` leaves off. All slices but g and r are room.
 pub fn power_of_x(
     g: &[u32],
     r: &mut [u32],

@@ -8,7 +8,7 @@ use native.Mathlib.Decide.{decLt}
 use native.Mathlib.Omega.{arith}
 use lib.ListN.{length, getD, take, drop}
 use Rattle.ring.specs.Ring
-use Rattle.series.specs.Series.{Seq, conv, sums}
+use Rattle.series.specs.Series.{Seq, conv}
 use Rattle.slices.specs.Stored.{part-below}
 use Rattle.zmod.specs.Zmod.{Zmod, mk, plus, mk-add, plus-zero, plus-assoc}
 use Rattle.zmod.specs.Residues.{poly, poly-at, poly-below, Reduced}

@@ -1,5 +1,6 @@
 -- Sums that take their remainder later: `Sums p f xs` says that the words of xs are in the classes of the first coefficients of f, and below 2^36 p, as far
--- as remainders over whole arrays go; `ProductSums c p f xs`, that they are so, and no larger than c products of residues, so that more can be added.
+-- as remainders over whole arrays go; `ProductSums c p f xs`, that they are in these classes and no larger than c products of residues, so that more can be
+-- added.
 -- Assumes nothing.
 use mathlib.Core.Path.{_≡_}
 use mathlib.Core.List.{List}

@@ -64,7 +64,7 @@ module _ (ws : List ℕ) (r : Verdict) (h : CheckRight ws r) where
   abbrev p : ℕ
   p = prime Certificate ws
 
-  -- A certificate passes exactly when it meets questions 2 to 7, R1 to R3 hold and its count is right.
+  -- Check says passes if 2 to 7 are answered with yes, R1 to R3 hold and the count is that of g's roots, and only then.
   pub passes-when : (r ≡ verdict.Passes)
       ↔ (AllYes (asked Certificate ws) × R1 (Zmod p) (put Certificate ws) (g Certificate ws)
       × (n Certificate ws ≡ N (Zmod p) (put Certificate ws) (g Certificate ws))

@@ -6,7 +6,7 @@ use native.Mathlib.Omega.{arith}
 use lib.ListN.{drop}
 use Rattle.certificate.specs.Certificate.{certificate}
 use Rattle.promises.specs.Abscissas.{abscissas-fit}
-use Rattle.promises.specs.Countable.{countable, counted}
+use Rattle.promises.specs.Countable.{countable, counted-on-sheet}
 use Rattle.certifying.proofs.Rules.{refused, meets}
 use borrow.Author.Needs.{needs}
 use Rattle.certifying.proofs.finish.Statement.{statement}
@@ -36,7 +36,8 @@ write-requires c κs =
     let at-start = c .before .before .before .before .before .before in
     let a = at-start .args in
     let pre = at-start .pre in
-    let count = counted (a .v) (pre .0 .0) (a .g .now) (pre .1 .0 .0) (pre .1 .0 .1) (a .m) (pre .0 .1) (at-roots .roots .result) (at-roots .roots .ensures) in
+    let found = at-roots .roots in
+    let count = counted-on-sheet (a .v) (pre .0 .0) (a .g .now) (pre .1 .0 .0) (pre .1 .0 .1) (a .m) (pre .0 .1) (found .result) (found .ensures) in
     let fit = abscissas-fit (a .v) (pre .0 .0) (a .g .now) (pre .1 .0 .0) (pre .1 .0 .1) in
     record {
       ready = pre .0 .0;
@@ -64,7 +65,7 @@ returns-2 c =
     let a = at-start .args in
     let pre = at-start .pre .1 in
     let ready = at-start .pre .0 in
-    let count = counted (a .v) (ready .0) (a .g .now) (pre .0 .0) (pre .0 .1) (a .m) (ready .1) (at-roots .roots .result) (at-roots .roots .ensures) in
+    let count = counted-on-sheet (a .v) (ready .0) (a .g .now) (pre .0 .0) (pre .0 .1) (a .m) (ready .1) (at-roots .roots .result) (at-roots .roots .ensures) in
     record {
       certificate = record {
         g = a .g .now;

@@ -2,7 +2,7 @@
 -- Assumes nothing.
 use mathlib.Core.Path.{sym, _∙_}
 use borrow.Author.Tests.{eqb-true, eq-eqb}
-use Rattle.promises.specs.Countable.{countable, counted}
+use Rattle.promises.specs.Countable.{countable, counted-on-sheet}
 use Rattle.questions.specs.Tests.{says-no, refuted, shown}
 use borrow.Author.Needs.{needs}
 use Rattle.checking.proofs.numerator_and_count.Statement.{statement}
@@ -30,7 +30,7 @@ returns-2 c =
     let at-start = c .before .before .before .before .before in
     let a = at-start .args in
     let pre = at-start .pre in
-    let count = counted (a .v) (pre .0 .0) (a .g .now) (pre .0 .1) (pre .1 .1) (a .m) (pre .0 .2) (c .roots .result) (c .roots .ensures) in
+    let count = counted-on-sheet (a .v) (pre .0 .0) (a .g .now) (pre .0 .1) (pre .1 .1) (a .m) (pre .0 .2) (c .roots .result) (c .roots .ensures) in
     let numerator = shown (at-same-numerator .same-numerator .ensures) (at-if1 .if1 .left) in (
       λ t. (numerator, sym (eqb-true (c .roots .result) (a .abscissas) t) ∙ count),
       λ h. eq-eqb (c .roots .result) (a .abscissas) (count ∙ sym (h .1)),

@@ -3,7 +3,7 @@ use mathlib.Core.Path.{_≡_, sym, subst}
 use mathlib.Core.List.{List}
 use Prim.Native.Nat.{ℕ}
 use native.Mathlib.Omega.{arith}
-use lib.ListN.{length, set, length-set}
+use lib.ListN.{set, length-set}
 use Rattle.zmod.specs.Zmod.{Zmod}
 use Rattle.zmod.specs.Residues.{Reduced, poly}
 use Rattle.barrett.specs.Modulus.{prepared-below}

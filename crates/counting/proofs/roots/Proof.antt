@@ -1,5 +1,4 @@
 -- `counting::roots` meets its contract. Assumes nothing.
-use native.Mathlib.Omega.{arith}
 use Rattle.counting.specs.Count.{roots-few}
 use borrow.Author.Needs.{needs}
 use Rattle.counting.proofs.roots.Statement.{statement}

@@ -1,7 +1,6 @@
 -- `euclid::cancel_one` meets its contract. Assumes nothing.
 use mathlib.Core.Path.{refl}
 use Prim.Native.Nat.{_-_}
-use native.Mathlib.Omega.{arith}
 use lib.ListN.{length, getD}
 use Rattle.barrett.specs.Modulus.{prepared-positive}
 use Rattle.euclid.specs.Cancel.{one-cancelled}

@@ -5,7 +5,6 @@ use Rattle.zmod.specs.Zmod.{mk, mk-mul}
 use Rattle.zmod.specs.Residues.{residue-same}
 use Rattle.barrett.specs.Modulus.{prepared-below}
 use Rattle.euclid.specs.Combination.{product-fits}
-use borrow.Author.Needs.{needs}
 use Rattle.euclid.proofs.multiply.Statement.{statement}
 use Rattle.euclid.proofs.multiply.Tie as tie
 

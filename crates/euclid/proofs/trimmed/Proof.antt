@@ -1,4 +1,4 @@
--- `euclid::trimmed` meets its contract. The invariant: the words from k on are 0.
+-- `euclid::trimmed` meets its contract. The invariant: the words from k on are 0. Assumes nothing.
 use mathlib.Core.Path.{_≡_, subst}
 use mathlib.Core.List.{List}
 use Prim.Native.Nat.{ℕ, _-_, _≤_, _<_}
@@ -9,7 +9,6 @@ use borrow.Author.Needs.{needs}
 use Rattle.euclid.proofs.trimmed.Statement.{statement}
 use Rattle.euclid.proofs.trimmed.Tie as tie
 
--- Assumes nothing.
 abbrev Inv-loop : tie.InvT-loop
 Inv-loop a k₀ k = (k ≤ length a) × ((j : ℕ) → k ≤ j → getD a j 0 ≡ 0)
 

@@ -6,7 +6,6 @@ use Rattle.zmod.specs.Zmod.{mk, plus, mk-add, mk-mul}
 use Rattle.zmod.specs.Residues.{residue-same}
 use Rattle.barrett.specs.Modulus.{prepared-below}
 use Rattle.euclid.specs.Combination.{product-fits}
-use borrow.Author.Needs.{needs}
 use Rattle.euclid.proofs.two_products.Statement.{statement}
 use Rattle.euclid.proofs.two_products.Tie as tie
 

@@ -1,4 +1,4 @@
--- `folding::power_of_x` meets its contract. Assumes nothing.
+-- `folding::power_of_x` meets its contract. The invariant: r is x to the power of p's digits from place i up. Assumes nothing.
 use mathlib.Core.Path.{_≡_, refl, subst}
 use Prim.Native.Nat.{_+_, _-_, _*_, _/_, _%_, _^_, _≤_}
 use native.Mathlib.Omega.{arith}

@@ -18,8 +18,8 @@ slice-read-top c = search needs
 shift-up-requires : tie.Need-shift-up-requires
 shift-up-requires c κs = search needs
 
-add-multiple-requires : tie.Need-add-multiple-requires
-add-multiple-requires c κs =
+add-reduced-requires : tie.Need-add-reduced-requires
+add-reduced-requires c κs =
     let at-shift-up = c .before .before .before in
     let start = at-shift-up .before .before .before .before .before in
     let a = start .args in
@@ -40,9 +40,9 @@ returns c =
     let pre = start .pre in
     let p = a .m .p in
     let shifted = at-shift-up .shift-up in
-    let added = at-add .add-multiple in
+    let added = at-add .add-reduced in
     times-x-is p _ (a .n .now) (a .r .now) (shifted .last .0) (added .last .0) (pre .1) (pre .2) (omega (arith, pre .2)) (omega (arith, pre .2)) refl
     (shifted .ensures p (pre .3)) (added .ensures)
 
 pub times-x-spec : {M : Type 1} → statement M
-times-x-spec = tie.close (tie.spec sub-top mul-top slice-read-top shift-up-requires add-multiple-requires same-length returns)
+times-x-spec = tie.close (tie.spec sub-top mul-top slice-read-top shift-up-requires add-reduced-requires same-length returns)

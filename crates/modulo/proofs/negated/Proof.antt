@@ -1,4 +1,4 @@
--- `modulo::negated` meets its contract. The invariant: the words before k are stored.
+-- `modulo::negated` meets its contract. The invariant: the words before k are stored. Assumes nothing.
 use mathlib.Core.Path.{_≡_, refl, sym, ap}
 use Prim.Native.Nat.{_-_, _≤_}
 use native.Mathlib.Omega.{arith}
@@ -12,7 +12,6 @@ use borrow.Author.Needs.{needs}
 use Rattle.modulo.proofs.negated.Statement.{statement}
 use Rattle.modulo.proofs.negated.Tie as tie
 
--- Assumes nothing.
 abbrev Inv-loop : tie.InvT-loop
 Inv-loop a out₀ p k₀ out k = (length out ≡ length out₀) × (k ≤ length out₀) × Filled (Of p (negs (Zmod p) (poly p a))) out k
 

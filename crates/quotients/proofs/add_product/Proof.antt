@@ -1,4 +1,4 @@
--- `quotients::add_product` meets its contract. The invariant: acc has the products with the words of a before i.
+-- `quotients::add_product` meets its contract. The invariant: acc has the products with the words of a before i. Assumes nothing.
 use mathlib.Core.Path.{_≡_}
 use Prim.Native.Nat.{ℕ, _+_, _-_, _*_, _^_, _≤_, _<_}
 use native.Mathlib.Nat as N
@@ -10,7 +10,6 @@ use borrow.Author.Needs.{needs}
 use Rattle.quotients.proofs.add_product.Statement.{statement}
 use Rattle.quotients.proofs.add_product.Tie as tie
 
--- Assumes nothing.
 abbrev Inv-loop : tie.InvT-loop
 Inv-loop acc₀ a e p i₀ acc i = (length acc ≡ length acc₀) × (i < length a + 4) × ProductAdded p a e acc₀ i acc
 

@@ -1,4 +1,4 @@
--- `quotients::invert` meets its contract. The invariant: the words before k are those of the inverse, and zeros follow.
+-- `quotients::invert` meets its contract. The invariant: the words before k are those of the inverse, and zeros follow. Assumes nothing.
 use mathlib.Core.Path.{_≡_, refl, sym, _∙_, ap, subst}
 use Prim.Native.Nat.{_-_, _≤_}
 use native.Mathlib.Omega.{arith}
@@ -11,7 +11,6 @@ use borrow.Author.Needs.{needs}
 use Rattle.quotients.proofs.invert.Statement.{statement}
 use Rattle.quotients.proofs.invert.Tie as tie
 
--- Assumes nothing.
 abbrev Inv-loop : tie.InvT-loop
 Inv-loop c t₀ p k₀ t k = (length t ≡ length t₀) × (1 ≤ k) × (k ≤ length t₀) × Inverted p (poly p c) k t
 

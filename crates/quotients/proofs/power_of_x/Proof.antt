@@ -1,4 +1,4 @@
--- `quotients::power_of_x` meets its contract. The invariant: r is x to the power of p's digits from place i up.
+-- `quotients::power_of_x` meets its contract. The invariant: r is x to the power of p's digits from place i up. Assumes nothing.
 use mathlib.Core.Path.{_≡_, subst}
 use Prim.Native.Nat.{_+_, _-_, _/_, _^_, _≤_}
 use native.Mathlib.Omega.{arith}
@@ -11,7 +11,6 @@ use borrow.Author.Needs.{needs}
 use Rattle.quotients.proofs.power_of_x.Statement.{statement}
 use Rattle.quotients.proofs.power_of_x.Tie as tie
 
--- Assumes nothing.
 abbrev Inv-loop : tie.InvT-loop
 Inv-loop g r₀ t n e₀ acc₀ room₀ top₀ q₀ m i₀ r e acc room top q i =
     (length r + 1 ≡ length g) × (length e ≡ length e₀) × (length acc ≡ length acc₀) × (length room ≡ length room₀) × (length top ≡ length g)

@@ -1,4 +1,4 @@
--- `quotients::put_behind` meets its contract. The invariant: the words before k are stored.
+-- `quotients::put_behind` meets its contract. The invariant: the words before k are stored. Assumes nothing.
 use mathlib.Core.Path.{_≡_, refl}
 use mathlib.Core.List.{List, _∷_}
 use Prim.Native.Nat.{ℕ, _-_, _≤_}
@@ -10,7 +10,6 @@ use borrow.Author.Needs.{needs}
 use Rattle.quotients.proofs.put_behind.Statement.{statement}
 use Rattle.quotients.proofs.put_behind.Tie as tie
 
--- Assumes nothing.
 abbrev Behind : List ℕ → ℕ → ℕ → Type 0
 Behind a j v = v ≡ getD (0 ∷ 0 ∷ 0 ∷ a) j 0
 

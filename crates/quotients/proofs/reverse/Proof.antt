@@ -1,4 +1,4 @@
--- `quotients::reverse` meets its contract. The invariant: the words before k are stored.
+-- `quotients::reverse` meets its contract. The invariant: the words before k are stored. Assumes nothing.
 use mathlib.Core.Path.{_≡_, refl}
 use mathlib.Core.List.{List}
 use Prim.Native.Nat.{ℕ, _-_, _≤_}
@@ -9,7 +9,6 @@ use borrow.Author.Needs.{needs}
 use Rattle.quotients.proofs.reverse.Statement.{statement}
 use Rattle.quotients.proofs.reverse.Tie as tie
 
--- Assumes nothing.
 abbrev Turned : List ℕ → ℕ → ℕ → Type 0
 Turned a j v = v ≡ getD a (length a - 1 - j) 0
 

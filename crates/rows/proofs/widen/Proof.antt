@@ -1,4 +1,4 @@
--- `rows::widen` meets its contract. The invariant: the words before k are stored.
+-- `rows::widen` meets its contract. The invariant: the words before k are stored. Assumes nothing.
 use mathlib.Core.Path.{_≡_, refl}
 use mathlib.Core.List.{List}
 use Prim.Native.Nat.{ℕ, _-_, _≤_}
@@ -9,7 +9,6 @@ use borrow.Author.Needs.{needs}
 use Rattle.rows.proofs.widen.Statement.{statement}
 use Rattle.rows.proofs.widen.Tie as tie
 
--- Assumes nothing.
 abbrev Same : List ℕ → ℕ → ℕ → Type 0
 Same a j v = v ≡ getD a j 0
 

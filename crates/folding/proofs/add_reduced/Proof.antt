@@ -1,4 +1,4 @@
--- `folding::add_multiple` meets its contract. The invariant: the coefficients before k are stored, the words from k on are as they were. Assumes nothing.
+-- `folding::add_reduced` meets its contract. The invariant: the coefficients before k are stored, the words from k on are as they were. Assumes nothing.
 use mathlib.Core.Path.{sym, _∙_, ap, ap₂}
 use Prim.Native.Nat.{_-_}
 use native.Mathlib.Omega.{arith}
@@ -10,8 +10,8 @@ use Rattle.barrett.specs.Modulus.{prepared-positive}
 use Rattle.slices.specs.Stored.{Stored, stored-none, stored-more, word-kept}
 use Rattle.poly.specs.Stored.{Of, stored-all}
 use borrow.Author.Needs.{needs}
-use Rattle.folding.proofs.add_multiple.Statement.{statement}
-use Rattle.folding.proofs.add_multiple.Tie as tie
+use Rattle.folding.proofs.add_reduced.Statement.{statement}
+use Rattle.folding.proofs.add_reduced.Tie as tie
 
 abbrev Inv-loop : tie.InvT-loop
 Inv-loop out₀ a c m k₀ out k = Stored (Of (m .p) (sums (Zmod (m .p)) (poly (m .p) out₀) (scaled (Zmod (m .p)) (mk (m .p) c) (poly (m .p) a)))) out₀ out k
@@ -87,6 +87,6 @@ returns c =
     let loop = at-loop .loop in
     stored-all (a .m .p) _ (a .out .now) (loop .out) (loop .k) (prepared-positive (start .pre .0 .0)) (omega (arith, loop .inv .same-length)) (loop .inv)
 
-pub add-multiple-spec : {M : Type 1} → statement M
-add-multiple-spec = tie.close (tie.spec Inv-loop μ-loop loop-holds mul-plus-multiple slice-read-plus-multiple mul-plus-multiple-2
+pub add-reduced-spec : {M : Type 1} → statement M
+add-reduced-spec = tie.close (tie.spec Inv-loop μ-loop loop-holds mul-plus-multiple slice-read-plus-multiple mul-plus-multiple-2
     shared-slice-read-plus-multiple plus-multiple-requires mul-out slice-write-out add-k loop-less loop-again same-length returns)
