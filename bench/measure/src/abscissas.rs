@@ -71,23 +71,22 @@ fn show(out: &mut String, rows: &[Row], counts: Counts) {
         ]);
         for row in over(rows, p) {
             let samples = &row.samples;
-            let times = [
-                spread(samples.each(library)),
-                spread(samples.of("flint")),
-                spread(samples.of("same")),
-            ];
-            let ratios = match counts(row.l, p as u32) {
-                0 => ["-"; 3].map(String::from),
+            let others = ["flint", "same"].map(|column| spread(samples.of(column)));
+            // Where there is nothing to count the difference of two times says nothing.
+            let (time, ratios) = match counts(row.l, p as u32) {
+                0 => ("-".to_string(), ["-"; 3].map(String::from)),
                 count => {
                     let bound = count as f64 * multiply_add(samples).median / 1000.0;
-                    [
+                    let ratios = [
                         spread(over_flint(row)),
                         spread(samples.each(|t| library(t) / t("same"))),
                         short(samples.each(library).median / bound),
-                    ]
+                    ];
+                    (spread(samples.each(library)), ratios)
                 }
             };
-            table.line([row.l.to_string()].into_iter().chain(times).chain(ratios));
+            let front = [row.l.to_string(), time];
+            table.line(front.into_iter().chain(others).chain(ratios));
         }
     }
 }
@@ -98,7 +97,7 @@ fn compare_all() {
         let p = g.field().p() as u32;
         let words: Vec<u32> = g.coefficients().iter().map(|&c| c as u32).collect();
         let count = reference::rational::count(&g) as u32;
-        let same = same::modulo::roots(&words, same::rows::modulus(p));
+        let same = same::counting::roots(&words, same::rows::modulus(p));
         let flint = entries::count_with_flint(p, &words);
         assert_eq!((same, flint), (count, count), "{g:?}");
     }
@@ -108,7 +107,7 @@ fn compare_all() {
 fn compare(counted: &Counted, number: u32) {
     let Counted { p, g, rational, .. } = counted;
     assert_eq!(entries::count_with_flint(*p, g), *rational);
-    assert_eq!(same::modulo::roots(g, same::rows::modulus(*p)), *rational);
+    assert_eq!(same::counting::roots(g, same::rows::modulus(*p)), *rational);
     let sheets = [
         &counted.bytes,
         &counted.another_numerator,
@@ -130,7 +129,7 @@ fn row(counted: &Counted, number: u32) -> Row {
             entries::check(black_box(&counted.another_count))
         }),
         column("flint", || entries::count_with_flint(p, black_box(g))),
-        column("same", || same::modulo::roots(black_box(g), m)),
+        column("same", || same::counting::roots(black_box(g), m)),
         rows_column(p),
     ];
     Row {

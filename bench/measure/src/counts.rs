@@ -22,12 +22,12 @@ fn numerator(l: usize) -> usize {
 fn power(l: usize, p: u32) -> usize {
     let d = (l - 1) / 2;
     let below = d * (d - 1) / 2;
-    let (prepared, remainder) = if same::modulo::by_table(d) {
+    let (prepared, remainder) = if same::counting::by_table(d) {
         (d * d, d * d)
     } else {
         (below, 2 * (below + d))
     };
-    prepared + same::modulo::squares(d, p) as usize * (square(d) + remainder)
+    prepared + same::counting::squares(d, p) as usize * (square(d) + remainder)
 }
 
 /// Euclid's remainders where each has one word less than the one before: two words of one polynomial are cancelled by the words of the other.

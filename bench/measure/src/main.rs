@@ -182,7 +182,7 @@ fn columns<'a>(input: &'a Input, pari: &'a mut Pari) -> Vec<Column<'a>> {
         "same N",
         same::rules::numerator(v, m, black_box(g), black_box(&mut numerator))
     );
-    column!("same count", same::modulo::roots(black_box(g), m));
+    column!("same count", same::counting::roots(black_box(g), m));
     column!(
         "same sums",
         same::rules::power_sums(v, black_box(g), &mut e, &mut acc, black_box(&mut s), 0)

@@ -3,7 +3,7 @@
 //! The sheets it is given must be long enough for their own header; `bench/measure` gives it the ones that it gives the library, and compares the
 //! answers before it takes any time. R3 is decided by the recurrence, so 3l - 3 < p is assumed.
 
-pub mod modulo;
+pub mod counting;
 mod primes;
 pub mod rows;
 pub mod rules;

@@ -2,7 +2,7 @@
 
 use reference::sheet::LARGEST_CERTIFICATE as ROOM;
 
-use crate::modulo;
+use crate::counting;
 use crate::primes::question_three;
 use crate::rows::{self, Modulus};
 use crate::rules::{self, add, at, mul, neg, part, put, rem, sub, times};
@@ -138,7 +138,7 @@ fn judge(v: Values, g: &[u32], n: &[u32], abscissas: u32) -> u32 {
     let mut room = [0; 256];
     let room = &mut room[..2 * d + 2];
     rules::numerator(v, m, g, room);
-    if n != room || modulo::roots(g, m) != abscissas {
+    if n != room || counting::roots(g, m) != abscissas {
         return 9;
     }
     if rules::rule_three(v, m, g) {
@@ -274,7 +274,7 @@ fn finish(v: Values, m: Modulus, g: &[u32], n: &[u32], holds: bool, answer: &mut
     if !holds {
         return REFUSED + 11;
     }
-    write(v, g, n, modulo::roots(g, m), answer)
+    write(v, g, n, counting::roots(g, m), answer)
 }
 
 /// The same, with room for N.
