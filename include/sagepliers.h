@@ -23,8 +23,8 @@
  *    3  p is a prime from 11 to 2^28 - 1
  *    4  the degree l is odd, from 3 to 255, with 2 l - 1 < p
  *    5  the curve values, and on a certificate sigma, are below p (check, push and name; other sheets are reduced)
- *    6  behind these words is what the form has and nothing else: coefficients, which on a certificate are below p and are followed by the count,
- *       which may be any, then an end with value 0
+ *    6  behind these words is what the form has and nothing else: coefficients, on a certificate below p; on a certificate then the count, of any
+ *       value; then an end with value 0
  *    7  no curve on the sheet is singular
  *    8  g is monic of degree d, and sigma is that of g (rule R1); of a kernel sheet only the leading coefficient is asked
  *    9  N is that of g: N = (l x - sigma) g^2 - 2 (3 x^2 + A) g g' - 4 f (g g'' - g'^2), where f = x^3 + A x + B (rule R2);
