@@ -2,13 +2,14 @@
 -- Assumes nothing.
 use mathlib.Core.Path.{_≡_}
 use mathlib.Core.List.{List, _++_}
-use Prim.Native.Nat.{ℕ, _<_}
+use Prim.Native.Nat.{ℕ, _+_, _*_, _%_, _<_}
 use lib.ListN.{length, drop}
 use Rattle.zmod.specs.Zmod.{Zmod, mk}
 use Rattle.zmod.specs.Residues.{poly}
 use Rattle.isogeny.specs.Curve.{Nonsingular, JValue}
 use Rattle.isogeny.specs.Rules as Rules
 use Rattle.isogeny.specs.Rules.{N, Meets, g-at}
+use Rattle.composition.specs.Composite.{composite-g}
 use Rattle.questions.specs.Answers.{Answers, Writes}
 use Rattle.sheet.specs.declared.Form.the-variants.{Question, Certificate, Kernel}
 use Rattle.sheet.specs.declared.Values.{Values}
@@ -24,7 +25,7 @@ use Rattle.promises.specs.declared.Point.the-variants.{Affine, Infinity}
 use Rattle.promises.specs.declared.Image.{Image}
 use Rattle.promises.specs.declared.Named.{Named}
 use Rattle.promises.specs.Outcome.{verdictOutcome, writtenOutcome, imageOutcome, namedOutcome}
-use Rattle.promises.specs.Asked.{check-asks, solve-asks, kernel-asks, push-asks, name-asks}
+use Rattle.promises.specs.Asked.{check-asks, solve-asks, kernel-asks, compose-asks, push-asks, name-asks}
 
 -- ── check: nothing is told of a certificate but that it passes
 
@@ -79,6 +80,32 @@ abbrev pub KernelRight : List ℕ → List ℕ → List ℕ → Written → Type
 KernelRight ws before after r =
     Writes (kernel-asks ws (length before)) (λ count after. KernelIn (valuesOf Kernel ws) (gOf Kernel ws) before after count) before after
     (writtenOutcome r)
+
+-- ── compose: the certificate of the first map followed by the second
+
+-- from the first domain to the second codomain, with the degree ℓ₁ℓ₂ and the kernel sum σ₂ + ℓ₂σ₁
+abbrev pub composed : Values → Values → Values
+composed v w = record {
+  p = v .p;
+  a = v .a;
+  b = v .b;
+  atilde = w .atilde;
+  btilde = w .btilde;
+  degree = v .degree * w .degree;
+  sigma = (w .sigma + w .degree * v .sigma) % v .p;
+}
+
+-- its g is g₁ times g₂ at N₁/g₁², cleared by g₁^(2d₂)
+pub record ComposeIn (v w : Values) (g₁ g₂ before after : List ℕ) (count : ℕ) : Type 0 where
+  pub certificate : CertificateIn (composed v w) before after count
+  pub g-is : poly (v .p) (certificate .g) ≡ composite-g (Zmod (v .p)) (question v) (half w) (poly (v .p) g₁) (poly (v .p) g₂)
+
+abbrev pub ComposeRight : List ℕ → List ℕ → List ℕ → List ℕ → Written → Type 0
+ComposeRight first second before after r =
+    Writes (compose-asks first second (length before))
+    (λ count after.
+      ComposeIn (valuesOf Certificate first) (valuesOf Certificate second) (gOf Certificate first) (gOf Certificate second) before after count)
+    before after (writtenOutcome r)
 
 -- ── push: an affine point with g not 0 goes where `Rules.Image` says; the others go to infinity
 

@@ -1,9 +1,9 @@
--- The questions that each service puts, in document 01's order: 2 to 7 are those of the sheet's form, and 1 and 8 to 12 are here, each asked of values and
+-- The questions that each service puts, in document 01's order: 2 to 7 are those of the sheet's form, and 1 and 8 to 14 are here, each asked of values and
 -- coefficients; a sheet is asked by what it says.
 -- Assumes nothing.
 use mathlib.Core.Path.{_≡_}
 use mathlib.Core.List.{List, [], _∷_, _++_}
-use Prim.Native.Nat.{ℕ, _<_, _≤_}
+use Prim.Native.Nat.{ℕ, _*_, _-_, _<_, _≤_}
 use Rattle.zmod.specs.Zmod.{Elt, Zmod, mk}
 use Rattle.zmod.specs.Residues.{poly}
 use Rattle.series.specs.Series.{Seq}
@@ -81,6 +81,25 @@ Given v Infinity = Unit {0}
 -- push: what check asks, and 12
 abbrev pub push-asks : List ℕ → Point → Questions
 push-asks ws point = check-asks ws ++ (12, Given (valuesOf Certificate ws) point) ∷ []
+
+-- 13: both have the same prime, and the first codomain is the second domain
+pub record Meet (v w : Values) : Type 0 where
+  pub p : v .p ≡ w .p
+  pub a : v .atilde ≡ w .a
+  pub b : v .btilde ≡ w .b
+
+-- 14: the degrees' product is not too large, for a sheet and for p
+pub record ProductAllowed (v w : Values) : Type 0 where
+  pub most : v .degree * w .degree ≤ 255
+  pub small : 2 * (v .degree * w .degree) - 1 < v .p
+
+abbrev pub join-asks : Values → Values → Questions
+join-asks v w = (13, Meet v w) ∷ (14, ProductAllowed v w) ∷ []
+
+-- compose: 1, what check asks of the first certificate, the same of the second, 13, 14
+abbrev pub compose-asks : List ℕ → List ℕ → ℕ → Questions
+compose-asks first second room =
+    (1, Room room) ∷ check-asks first ++ check-asks second ++ join-asks (valuesOf Certificate first) (valuesOf Certificate second)
 
 -- name: 3, 5 and 7 of one curve
 abbrev pub name-asks : ℕ → ℕ → ℕ → Questions

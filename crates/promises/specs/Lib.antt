@@ -4,3 +4,4 @@ pub mod Countable
 pub mod Asked
 pub mod Answer
 pub mod Numerators
+pub mod Composed
