@@ -104,7 +104,7 @@ abbrev pub ComposeRight : List ℕ → List ℕ → List ℕ → List ℕ → Wr
 ComposeRight first second before after r =
     Writes (compose-asks first second (length before))
     (λ count after.
-      ComposeIn (valuesOf Certificate first) (valuesOf Certificate second) (gOf Certificate first) (gOf Certificate second) before after count)
+    ComposeIn (valuesOf Certificate first) (valuesOf Certificate second) (gOf Certificate first) (gOf Certificate second) before after count)
     before after (writtenOutcome r)
 
 -- ── push: an affine point with g not 0 goes where `Rules.Image` says; the others go to infinity

@@ -88,7 +88,7 @@ module _ (v w : Values) (ready : Ready v) (ready′ : Ready w) (meet : Meet v w)
     σ = sums i;
   }
 
-  composable : Composable R (question v) second
+  pub composable : Composable (Zmod (v .p)) (question v) second
   composable = record { A = ap (mk p) (meet .a); B = ap (mk p) (meet .b) }
 
   module _ (g₁ g₂ : List ℕ) (meets : Meets (Zmod (v .p)) (question v) (poly (v .p) g₁)) (meets′ : Meets (Zmod (w .p)) (question w) (poly (w .p) g₂)) where

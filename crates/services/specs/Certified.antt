@@ -14,7 +14,7 @@ use Rattle.questions.specs.Questions.{AllYes}
 use Rattle.questions.specs.Joined.{all-all}
 use Rattle.sheet.specs.declared.Form.the-variants.{Certificate}
 use Rattle.sheet.specs.declared.Values.{Values}
-use Rattle.sheet.specs.Values.{gOf, nOf, abscissasOf, question}
+use Rattle.sheet.specs.Values.{valuesOf, gOf, nOf, abscissasOf, question}
 use Rattle.sheet.specs.Asked.{Curves, asked}
 use Rattle.sheet.specs.Ready.{Ready, HoldsG, HoldsN, half-least, degree-half}
 use Rattle.certificate.specs.Certificate.{certificate}
@@ -56,6 +56,16 @@ module _ (v : Values) (ready : Ready v) (curves : Curves Certificate v) (before 
   certificate-words =
       ap (take count) (held .words)
       ∙ take-at ws (drop count before) count (count-back v ready g n c (held .g-words) (held .n-words) c-fits ∙ sym (held .count-is))
+
+  -- what is on it
+  pub certificate-values : valuesOf Certificate (take count after) ≡ v
+  certificate-values = ap (valuesOf Certificate) certificate-words ∙ values-back v ready g n c
+
+  pub certificate-g : gOf Certificate (take count after) ≡ held .g
+  certificate-g = ap (gOf Certificate) certificate-words ∙ g-back v ready g n c (held .g-words) (held .n-words) c-fits
+
+  pub certificate-n : nOf Certificate (take count after) ≡ held .n
+  certificate-n = ap (nOf Certificate) certificate-words ∙ n-back v ready g n c (held .g-words) (held .n-words) c-fits
 
   pub certified : AllYes (check-asks (take count after))
   certified =

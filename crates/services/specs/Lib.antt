@@ -3,10 +3,12 @@ pub mod Check
 pub mod Solve
 pub mod Kernel
 pub mod Push
+pub mod Compose
 pub mod Name
 pub mod Words
 pub mod Demands
 pub mod Source
+pub mod ComposePush
 pub mod Abscissas
 pub mod Again
 pub mod Names
