@@ -5,3 +5,4 @@ pub mod Asked
 pub mod Answer
 pub mod Numerators
 pub mod Composed
+pub mod Certificates

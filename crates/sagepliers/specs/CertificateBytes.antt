@@ -12,7 +12,7 @@ use Rattle.sheet.specs.Word.{wordAt, wordsOf}
 use Rattle.questions.specs.Questions.{AllYes}
 use Rattle.promises.specs.declared.Verdict.the-variants as verdict
 use Rattle.promises.specs.Asked.{check-asks}
-use Rattle.services.specs.Push.{check-asked}
+use Rattle.promises.specs.Certificates.{check-asked}
 use Rattle.services.specs.Words.{words-small}
 use Rattle.sagepliers.specs.Entry.{WholeWords, CheckNumber}
 

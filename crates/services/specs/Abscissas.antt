@@ -29,7 +29,7 @@ use Rattle.promises.specs.Abscissas.{rational-abscissas, abscissas-most}
 use Rattle.promises.specs.Asked.{prime, put, g, n, certificate-rules, check-asks}
 use Rattle.promises.specs.Answer.{CheckRight, SolveRight, KernelRight}
 use Rattle.services.specs.Check.{check-unique}
-use Rattle.services.specs.Push.{check-asked}
+use Rattle.promises.specs.Certificates.{check-asked}
 use Rattle.services.specs.Solve.{solve-certified}
 use Rattle.services.specs.Kernel.{kernel-certified}
 use Rattle.services.specs.Demands.{passes-exactly}

@@ -36,8 +36,7 @@ use Rattle.promises.specs.Asked.{Room, Solvable, Passing, last-ask, check-asks}
 use Rattle.promises.specs.Answer.{CertificateIn, with, SolveRight, KernelRight}
 use Rattle.services.specs.Solve.{solve-unique}
 use Rattle.services.specs.Kernel.{kernel-unique}
-use Rattle.services.specs.Push.{check-asked}
-use Rattle.services.specs.Source.{certificate-N, certificate-meets}
+use Rattle.promises.specs.Certificates.{check-asked, certificate-N, certificate-meets}
 use Rattle.services.specs.Abscissas.{certificate-abscissas}
 use Rattle.services.specs.Words.{certificate-back, g-section}
 

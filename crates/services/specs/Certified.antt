@@ -58,14 +58,14 @@ module _ (v : Values) (ready : Ready v) (curves : Curves Certificate v) (before 
       ∙ take-at ws (drop count before) count (count-back v ready g n c (held .g-words) (held .n-words) c-fits ∙ sym (held .count-is))
 
   -- what is on it
-  pub certificate-values : valuesOf Certificate (take count after) ≡ v
-  certificate-values = ap (valuesOf Certificate) certificate-words ∙ values-back v ready g n c
+  pub written-values : valuesOf Certificate (take count after) ≡ v
+  written-values = ap (valuesOf Certificate) certificate-words ∙ values-back v ready g n c
 
-  pub certificate-g : gOf Certificate (take count after) ≡ held .g
-  certificate-g = ap (gOf Certificate) certificate-words ∙ g-back v ready g n c (held .g-words) (held .n-words) c-fits
+  pub written-g : gOf Certificate (take count after) ≡ held .g
+  written-g = ap (gOf Certificate) certificate-words ∙ g-back v ready g n c (held .g-words) (held .n-words) c-fits
 
-  pub certificate-n : nOf Certificate (take count after) ≡ held .n
-  certificate-n = ap (nOf Certificate) certificate-words ∙ n-back v ready g n c (held .g-words) (held .n-words) c-fits
+  pub written-n : nOf Certificate (take count after) ≡ held .n
+  written-n = ap (nOf Certificate) certificate-words ∙ n-back v ready g n c (held .g-words) (held .n-words) c-fits
 
   pub certified : AllYes (check-asks (take count after))
   certified =

@@ -16,15 +16,15 @@ use Rattle.sheet.specs.declared.Form.the-variants.{Certificate}
 use Rattle.sheet.specs.declared.Values.{Values}
 use Rattle.sheet.specs.Values.{gOf, valuesOf, question, half}
 use Rattle.sheet.specs.Asked.{Curves}
-use Rattle.sheet.specs.Ready.{Ready, ready}
+use Rattle.sheet.specs.Ready.{Ready}
 use Rattle.promises.specs.declared.Written.{Written}
 use Rattle.promises.specs.declared.Written.the-variants as written
 use Rattle.promises.specs.Outcome.{writtenOutcome, same-written}
 use Rattle.promises.specs.Asked.{Meet, ProductAllowed, check-asks, join-asks, compose-asks}
 use Rattle.promises.specs.Answer.{composed, ComposeIn, ComposeRight}
 use Rattle.promises.specs.Composed.{over, over-same, composed-ready}
-use Rattle.services.specs.Certified.{certified, certificate-values, certificate-g, one-certificate}
-use Rattle.services.specs.Push.{check-asked}
+use Rattle.promises.specs.Certificates.{certificate-ready}
+use Rattle.services.specs.Certified.{certified, written-values, written-g, one-certificate}
 
 module _ (first second : List ℕ) where
   -- the values on the two sheets
@@ -59,10 +59,10 @@ module _ (first second : List ℕ) where
     product-allowed = yes-to (join-asks v w) 14 joined
 
     pub first-ready : Ready v
-    first-ready = ready Certificate first (check-asked first first-passes)
+    first-ready = certificate-ready first first-passes
 
     pub second-ready : Ready w
-    second-ready = ready Certificate second (check-asked second second-passes)
+    second-ready = certificate-ready second second-passes
 
     pub composite-ready : Ready (composed v w)
     composite-ready = composed-ready v w first-ready second-ready they-meet product-allowed
@@ -109,11 +109,11 @@ module _ (first second : List ℕ) where
 
       -- Its values are those of the first domain, the second codomain, ℓ₁ℓ₂ and σ₂ + ℓ₂σ₁;
       pub compose-values : valuesOf Certificate (take c after) ≡ composed v w
-      compose-values = certificate-values (composed v w) known curves before after c (held .certificate)
+      compose-values = written-values (composed v w) known curves before after c (held .certificate)
 
       -- and its g is g₁ times g₂ at N₁/g₁², cleared by g₁^(2d₂).
       pub compose-g : poly (v .p) (gOf Certificate (take c after))
           ≡ composite-g (Zmod (v .p)) (question v) (half w) (poly (v .p) (gOf Certificate first)) (poly (v .p) (gOf Certificate second))
       compose-g =
-          ap (poly (v .p)) (certificate-g (composed v w) known curves before after c (held .certificate))
+          ap (poly (v .p)) (written-g (composed v w) known curves before after c (held .certificate))
           ∙ held .g-is

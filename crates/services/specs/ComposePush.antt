@@ -31,9 +31,9 @@ use Rattle.promises.specs.declared.Image.the-variants as image
 use Rattle.promises.specs.Asked.{OnDomain, Given, Meet, ProductAllowed, check-asks, push-asks, compose-asks}
 use Rattle.promises.specs.Answer.{CertificateIn, composed, ComposeIn, ComposeRight, ToPoint, Goes, PushRight}
 use Rattle.promises.specs.Composed.{over, over-same, composable, composed-question, meets-over}
-use Rattle.services.specs.Certified.{certificate-values, certificate-g, certificate-n}
+use Rattle.promises.specs.Certificates.{certificate-N, certificate-meets}
+use Rattle.services.specs.Certified.{written-values, written-g, written-n}
 use Rattle.services.specs.Push.{push-unique, push-on-codomain}
-use Rattle.services.specs.Source.{certificate-N, certificate-meets}
 use Rattle.services.specs.Compose as C
 
 -- Where a point goes under the first, and from there under the second; what the first refuses stays refused.
@@ -216,14 +216,14 @@ module _ (first second before after : List ℕ) (c : ℕ) (right : ComposeRight 
   passes = C.compose-certified first second before after c right
 
   sheet-values : valuesOf Certificate ws ≡ composed v w
-  sheet-values = certificate-values (composed v w) known curves before after c held
+  sheet-values = written-values (composed v w) known curves before after c held
 
   goes-on-sheet : (at to : Point) → Goes (composed v w) (held .g) (held .n) at to
       → Goes (valuesOf Certificate ws) (gOf Certificate ws) (nOf Certificate ws) at to
   goes-on-sheet at to h =
       subst (λ v. Goes v (gOf Certificate ws) (nOf Certificate ws) at to) (sym sheet-values)
-      (subst (λ g. Goes (composed v w) g (nOf Certificate ws) at to) (sym (certificate-g (composed v w) known curves before after c held))
-      (subst (λ n. Goes (composed v w) (held .g) n at to) (sym (certificate-n (composed v w) known curves before after c held)) h))
+      (subst (λ g. Goes (composed v w) g (nOf Certificate ws) at to) (sym (written-g (composed v w) known curves before after c held))
+      (subst (λ n. Goes (composed v w) (held .g) n at to) (sym (written-n (composed v w) known curves before after c held)) h))
 
   goes-there : (at between to : Point) → AllYes (push-asks first at) → Goes v g₁ n₁ at between → Goes w g₂ n₂ between to
       → AllYes (push-asks ws at) × Goes (valuesOf Certificate ws) (gOf Certificate ws) (nOf Certificate ws) at to

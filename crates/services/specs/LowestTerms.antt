@@ -23,16 +23,15 @@ use Rattle.questions.specs.Numbered.{yes-to}
 use Rattle.sheet.specs.declared.Form.the-variants.{Certificate}
 use Rattle.sheet.specs.Values.{valuesOf}
 use Rattle.sheet.specs.Asked.{Curves}
-use Rattle.sheet.specs.Ready.{Ready, ready, half-least, degree-half, degree-below}
+use Rattle.sheet.specs.Ready.{Ready, half-least, degree-half, degree-below}
 use Rattle.promises.specs.declared.Verdict.the-variants as verdict
 use Rattle.promises.specs.declared.Written.the-variants as written
 use Rattle.promises.specs.Asked as Asked
 use Rattle.promises.specs.Asked.{OnDomain, prime, put, check-asks}
 use Rattle.promises.specs.Answer.{CheckRight, SolveRight, KernelRight}
-use Rattle.services.specs.Push.{check-asked}
 use Rattle.services.specs.Solve.{solve-certified}
 use Rattle.services.specs.Kernel.{kernel-certified}
-use Rattle.services.specs.Source.{certificate-N, certificate-meets}
+use Rattle.promises.specs.Certificates.{certificate-ready, certificate-N, certificate-meets}
 
 -- Check's verdict on the words is that they pass.
 module _ (ws : List ℕ) (passes : CheckRight ws verdict.Passes) where
@@ -65,7 +64,7 @@ module _ (ws : List ℕ) (passes : CheckRight ws verdict.Passes) where
   -- ── what its questions say
 
   known : Ready (valuesOf Certificate ws)
-  known = ready Certificate ws (check-asked ws (passes .0))
+  known = certificate-ready ws (passes .0)
 
   is-prime : Prime p
   is-prime = known .prime .prime

@@ -26,13 +26,11 @@ use Rattle.promises.specs.declared.Image.the-variants as image
 use Rattle.promises.specs.Outcome.{imageOutcome, same-image}
 use Rattle.promises.specs.Asked.{prime, put, g, n, certificate-rules, check-asks, push-asks, Given}
 use Rattle.promises.specs.Answer.{ToPoint, Goes, PushRight}
+use Rattle.promises.specs.Certificates.{check-asked}
 
--- the questions that check asks, and those of the form
+-- the questions that check asks
 pub push-checked : (ws : List ℕ) (at : Point) → AllYes (push-asks ws at) → AllYes (check-asks ws)
 push-checked ws at all = all-front (check-asks ws) ((12, Given (valuesOf Certificate ws) at) ∷ []) all
-
-pub check-asked : (ws : List ℕ) → AllYes (check-asks ws) → AllYes (asked Certificate ws)
-check-asked ws all = all-front (asked Certificate ws) (certificate-rules ws) all
 
 module _ (ws : List ℕ) (all : AllYes (check-asks ws)) where
   abbrev p : ℕ

@@ -26,7 +26,7 @@ use Rattle.sheet.specs.Accepted.{kernel-g}
 use Rattle.promises.specs.declared.Written.the-variants as written
 use Rattle.promises.specs.Asked.{Leading, prime, put, g, n, check-asks}
 use Rattle.promises.specs.Answer.{SolveRight, KernelRight}
-use Rattle.services.specs.Push.{check-asked}
+use Rattle.promises.specs.Certificates.{certificate-ready, certificate-N, certificate-meets}
 use Rattle.services.specs.Solve.{solve-certified}
 use Rattle.services.specs.Kernel.{kernel-certified}
 use Rattle.services.specs.Demands.{KernelPasses}
@@ -52,27 +52,16 @@ module _ (ws : List ℕ) (passes : AllYes (check-asks ws)) where
   abbrev p : ℕ
   p = prime Certificate ws
 
-  -- what questions 8 to 10 say
-  certificate-R1 : R1 (Zmod p) (put Certificate ws) (g Certificate ws)
-  certificate-R1 = yes-to (check-asks ws) 8 passes
-
-  pub certificate-N : n Certificate ws ≡ N (Zmod p) (put Certificate ws) (g Certificate ws)
-  certificate-N = yes-to (check-asks ws) 9 passes .0
-
-  pub certificate-meets : Meets (Zmod p) (put Certificate ws) (g Certificate ws)
-  certificate-meets =
-      record { r1 = certificate-R1; r3 = subst (R3 (Zmod p) (put Certificate ws) (g Certificate ws)) certificate-N (yes-to (check-asks ws) 10 passes) }
-
   -- Every certificate that passes carries Vélu's codomain,
   pub certificate-velu : VeluCodomain ws
   certificate-velu =
-      let known : Ready (valuesOf Certificate ws) = ready Certificate ws (check-asked ws passes) in
-      velu (Zmod p) (put Certificate ws) (half-least (valuesOf Certificate ws) known) (g Certificate ws) certificate-R1 (certificate-meets .r3)
+      let meets : Meets (Zmod p) (put Certificate ws) (g Certificate ws) = certificate-meets ws passes in
+      velu (Zmod p) (put Certificate ws) (half-least (valuesOf Certificate ws) (certificate-ready ws passes)) (g Certificate ws) (meets .r1) (meets .r3)
 
   -- and its N is that of formula (13).
   pub certificate-13 : SourceFormula ws
   certificate-13 =
-      subst (Formula13 (Zmod p) (put Certificate ws) (conv (Zmod p) (g Certificate ws) (g Certificate ws))) (sym certificate-N)
+      subst (Formula13 (Zmod p) (put Certificate ws) (conv (Zmod p) (g Certificate ws) (g Certificate ws))) (sym (certificate-N ws passes))
       (formula-13 (Zmod p) (put Certificate ws) (g Certificate ws))
 
 -- ── what solve and kernel write
