@@ -18,9 +18,9 @@ use Rattle.zmod.specs.Zmod.{Zmod, mk, plus, minus, mk-apart}
 use Rattle.zmod.specs.Residues.{Reduced, poly, poly-at, poly-past, poly-below, Residues, residues-poly, residues-same, residues-upto}
 use Rattle.rows.specs.Room.{zero-at}
 use Rattle.rows.specs.Sums.{Sums, sums-residues}
+use Rattle.rows.specs.Product.{held, ThreeZeros, behind-reduced, behind-held}
 use Rattle.divisibility.specs.Congruence.{Congruent}
 use Rattle.modulo.specs.Modulo.{Divisor, RemainderOf}
-use Rattle.quotients.specs.Product.{held, ThreeZeros}
 use Rattle.quotients.specs.Quotient.{ReversedWords, InverseTo, quotient-below}
 
 -- t holds the inverse of g backwards, and n holds −g
@@ -154,27 +154,17 @@ module _ (p : ℕ) (g top q q′ t n : List ℕ) (divisor : Divisor p g) (turned
     (low : Reduced p q) (negative : Residues p (negs (Zmod p) (poly p g)) q′) (same : length q′ ≡ length g) (long-t : length g + 3 ≤ length t)
     (long-n : length g + 3 ≤ length n) (zeros-t : ThreeZeros t) (held-t : (j : ℕ) → getD t (3 + j) 0 ≡ getD q j 0) (zeros-n : ThreeZeros n)
     (held-n : (j : ℕ) → getD n (3 + j) 0 ≡ getD q′ j 0) where
-  behind-reduced : (e a : List ℕ) → ThreeZeros e → ((j : ℕ) → getD e (3 + j) 0 ≡ getD a j 0) → Reduced p a → Reduced p e
-  behind-reduced e a zeros words low j = go (decLt j 3)
-    where
-      go : Dec (j < 3) → getD e j 0 < p
-      go (yes l) = omega (arith, zeros .zeros j l, low 0)
-      go (no l) = let at : 3 + (j - 3) ≡ j = omega arith in subst (λ k. getD e k 0 < p) at (omega (arith, words (j - 3), low (j - 3)))
-
-  behind-held : (e a : List ℕ) → ((j : ℕ) → getD e (3 + j) 0 ≡ getD a j 0) → held p e ≡ poly p a
-  behind-held e a words = fun-ext λ j. ap (mk p) (words j) ∙ sym (poly-at p a j)
-
   pub made-ready : DividesBy p g t n
   made-ready = record {
     long-t = long-t;
     long-n = long-n;
-    reduced-t = behind-reduced t q zeros-t held-t low;
-    reduced-n = behind-reduced n q′ zeros-n held-n (negative .reduced);
+    reduced-t = behind-reduced p t q zeros-t held-t low;
+    reduced-n = behind-reduced p n q′ zeros-n held-n (negative .reduced);
     zeros-t = zeros-t;
     zeros-n = zeros-n;
     inverse = λ k l.
-        ap₂ (λ x y. conv (Zmod p) x y k) (backwards-rev p (divisor .some) turned) (behind-held t q held-t) ∙ inverse k l;
-    negative = behind-held n q′ held-n ∙ residues-poly negative (λ i l. ap (minus p) (poly-past p g i (omega arith)) ∙ Ring.neg-zero (Zmod p));
+        ap₂ (λ x y. conv (Zmod p) x y k) (backwards-rev p (divisor .some) turned) (behind-held p t q held-t) ∙ inverse k l;
+    negative = behind-held p n q′ held-n ∙ residues-poly negative (λ i l. ap (minus p) (poly-past p g i (omega arith)) ∙ Ring.neg-zero (Zmod p));
   }
 
 -- g backwards begins with 1

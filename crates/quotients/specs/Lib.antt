@@ -1,4 +1,3 @@
-pub mod Product
 pub mod Quotient
 pub mod Division
 pub mod Lifted

@@ -3,39 +3,18 @@
 // the constant term first, as in `poly`; a slice for g has d + 1 words, of which the last is 1.
 use barrett::Modulus;
 ghost use mathlib.Core.Path.{_≡_};
-ghost use mathlib.Core.List.{_∷_};
-ghost use Prim.Native.Nat.{ℕ, _+_, _-_, _*_, _^_, _<_, _≤_};
+ghost use Prim.Native.Nat.{_+_, _-_, _*_, _^_, _<_, _≤_};
 ghost use lib.ListN.{length, getD, set, replicate};
 ghost use Rattle.series.specs.Series.{conv, sums};
 ghost use Rattle.series.specs.Reversal.{shift};
 ghost use Rattle.zmod.specs.Zmod.{Zmod};
 ghost use Rattle.zmod.specs.Residues.{Reduced, poly, Residues};
 ghost use Rattle.barrett.specs.Modulus.{Prepared};
-ghost use Rattle.rows.specs.Sums.{Sums};
+ghost use Rattle.rows.specs.Product.{held, ThreeZeros};
 ghost use Rattle.modulo.specs.Modulo.{Divisor, RemainderOf};
 ghost use Rattle.modulo.specs.Power.{x-to};
-ghost use Rattle.quotients.specs.Product.{held, ThreeZeros};
 ghost use Rattle.quotients.specs.Quotient.{ReversedWords, InverseTo};
 ghost use Rattle.quotients.specs.Division.{QuotientTo, DividesBy};
-
-// acc = acc + a b by rows, where e holds b behind three zeros: as many sums as acc has words.
-fn add_product(acc: &mut [u64], a: &[u32], e: &[u64], p: u32)
-    requires { ⌜ (length (now a) ≤ length (now acc)) × (length (now acc) + 3 ≤ length (now e)) × (length (now a) ≤ 252) × (1 < p) × (p ≤ 2 ^ 28) ⌝ }
-    requires { ⌜ (Reduced p (now acc)) × (Reduced p (now a)) × (Reduced p (now e)) × ThreeZeros (now e) ⌝ }
-    ensures { λ _. ⌜ Sums p (sums (Zmod p) (poly p (now (acc .entry)))
-        (conv (Zmod p) (poly p (now (a .entry))) (held p (now (e .entry))))) (now (acc .exit)) ⌝ }
-{
-    let mut i = 0;
-    while i < a.len() {
-        let len = acc.len() - i;
-        let w = rows::word(a, i);
-        let x = rows::word(a, 1 + i);
-        let y = rows::word(a, 2 + i);
-        let z = rows::word(a, 3 + i);
-        rows::add_rows(acc, i, len, e, w, x, y, z);
-        i += 4;
-    }
-}
 
 // out is a backwards.
 fn reverse(a: &[u32], out: &mut [u32])
@@ -46,25 +25,6 @@ fn reverse(a: &[u32], out: &mut [u32])
     let mut k = 0;
     while k < n {
         out[k] = a[n - 1 - k];
-        k += 1;
-    }
-}
-
-// The word at k of a behind three zeros.
-fn behind(a: &[u32], k: usize) -> u64
-    ensures { λ r. ⌜ r ≡ getD (0 ∷ 0 ∷ 0 ∷ now (a .entry)) k 0 ⌝ }
-{
-    if k < 3 { 0 } else { rows::word(a, k - 3) }
-}
-
-// e is a behind three zeros, with zeros after it.
-fn put_behind(a: &[u32], e: &mut [u64])
-    requires { ⌜ length (now a) + 3 ≤ length (now e) ⌝ }
-    ensures { λ _. ⌜ ThreeZeros (now (e .exit)) × ((j : ℕ) → getD (now (e .exit)) (3 + j) 0 ≡ getD (now (a .entry)) j 0) ⌝ }
-{
-    let mut k = 0;
-    while k < e.len() {
-        e[k] = behind(a, k);
         k += 1;
     }
 }
@@ -103,7 +63,7 @@ fn quotient(a: &[u32], t: &[u64], acc: &mut [u64], top: &mut [u32], q: &mut [u32
     let d = q.len() - 1;
     reverse(&a[d..], top);
     rows::clear(acc);
-    add_product(acc, top, t, m.p);
+    rows::add_product(acc, top, t, m.p);
     barrett::remainders(acc, top, m);
     reverse(top, q);
 }
@@ -116,7 +76,7 @@ fn subtract_product(a: &[u32], q: &[u32], n: &[u64], acc: &mut [u64], r: &mut [u
         (conv (Zmod (m .p)) (poly (m .p) (now (q .entry))) (held (m .p) (now (n .entry))))) (now (r .exit)) ⌝ }
 {
     rows::widen(a, acc);
-    add_product(acc, q, n, m.p);
+    rows::add_product(acc, q, n, m.p);
     barrett::remainders(acc, r, m);
 }
 
@@ -128,9 +88,9 @@ fn prepare(g: &[u32], t: &mut [u64], n: &mut [u64], top: &mut [u32], q: &mut [u3
 {
     reverse(g, top);
     invert(top, q, p);
-    put_behind(q, t);
+    rows::put_behind(q, t);
     modulo::negated(g, q, p);
-    put_behind(q, n);
+    rows::put_behind(q, n);
 }
 
 // r = a modulo g, where g has k words and a has 2k − 1: two products in place of a long division. t and n are prepared for g; acc, top and q are room.

@@ -4,3 +4,4 @@ pub mod Sums
 pub mod Block
 pub mod Turn
 pub mod Square
+pub mod Product

@@ -1,16 +1,18 @@
 // Products of polynomials by rows: four words of one factor at a time, times all words of the other, are added to sums of 64 bits, which take no remainder
 // until all is added. The other factor lies in room of 64-bit words, behind three zeros and before three, so that the four rows have no ends of their own.
 ghost use mathlib.Core.Path.{_≡_};
+ghost use mathlib.Core.List.{_∷_};
 ghost use Prim.Native.Nat.{ℕ, _+_, _-_, _*_, _^_, _<_, _≤_, min};
 ghost use lib.ListN.{length, getD, replicate};
 ghost use Rattle.slices.specs.Filling.{Filled};
-ghost use Rattle.series.specs.Series.{conv};
+ghost use Rattle.series.specs.Series.{conv, sums};
 ghost use Rattle.zmod.specs.Zmod.{Zmod};
 ghost use Rattle.zmod.specs.Residues.{Reduced, poly};
 ghost use Rattle.rows.specs.Rows.{four-more, row-more, RowsAdded, Four, Twice};
 ghost use Rattle.rows.specs.Room.{Above, turns};
 ghost use Rattle.rows.specs.Square.{Turned};
-ghost use Rattle.rows.specs.Sums.{ProductSums};
+ghost use Rattle.rows.specs.Sums.{Sums, ProductSums};
+ghost use Rattle.rows.specs.Product.{held, ThreeZeros};
 
 // s + w a + x b + y c + z d
 pub fn sum_more(s: u64, w: u64, a: u64, x: u64, b: u64, y: u64, c: u64, z: u64, d: u64) -> u64
@@ -175,6 +177,44 @@ pub fn square(a: &[u32], e: &mut [u64], acc: &mut [u64], p: u32)
     prepare(a, e);
     clear(acc);
     square_turns(a, e, acc, p);
+}
+
+// The word at k of a behind three zeros.
+fn behind(a: &[u32], k: usize) -> u64
+    ensures { λ r. ⌜ r ≡ getD (0 ∷ 0 ∷ 0 ∷ now (a .entry)) k 0 ⌝ }
+{
+    if k < 3 { 0 } else { word(a, k - 3) }
+}
+
+// e is a behind three zeros, with zeros after it.
+pub fn put_behind(a: &[u32], e: &mut [u64])
+    requires { ⌜ length (now a) + 3 ≤ length (now e) ⌝ }
+    ensures { λ _. ⌜ ThreeZeros (now (e .exit)) × ((j : ℕ) → getD (now (e .exit)) (3 + j) 0 ≡ getD (now (a .entry)) j 0) ⌝ }
+{
+    let mut k = 0;
+    while k < e.len() {
+        e[k] = behind(a, k);
+        k += 1;
+    }
+}
+
+// acc = acc + a b by rows, where e holds b behind three zeros: as many sums as acc has words. A sum of acc has one product at most.
+pub fn add_product(acc: &mut [u64], a: &[u32], e: &[u64], p: u32)
+    requires { ⌜ (length (now a) ≤ length (now acc)) × (length (now acc) + 3 ≤ length (now e)) × (length (now a) ≤ 252) × (1 < p) × (p ≤ 2 ^ 28) ⌝ }
+    requires { ⌜ ((k : ℕ) → getD (now acc) k 0 ≤ (p - 1) * (p - 1)) × (Reduced p (now a)) × (Reduced p (now e)) × ThreeZeros (now e) ⌝ }
+    ensures { λ _. ⌜ Sums p (sums (Zmod p) (poly p (now (acc .entry)))
+        (conv (Zmod p) (poly p (now (a .entry))) (held p (now (e .entry))))) (now (acc .exit)) ⌝ }
+{
+    let mut i = 0;
+    while i < a.len() {
+        let len = acc.len() - i;
+        let w = word(a, i);
+        let x = word(a, 1 + i);
+        let y = word(a, 2 + i);
+        let z = word(a, 3 + i);
+        add_rows(acc, i, len, e, w, x, y, z);
+        i += 4;
+    }
 }
 
 // Room of three sizes, so that small degrees clear little: for ℓ up to 21, up to 79, and for all. (As the result of a call its words stay out of the callers'

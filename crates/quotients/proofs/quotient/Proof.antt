@@ -5,6 +5,7 @@ use native.Mathlib.Omega.{arith}
 use lib.ListN.{length, drop, replicate, length-take, length-drop}
 use Rattle.slices.specs.Stored.{part-below}
 use Rattle.barrett.specs.Modulus.{prepared-positive, prepared-below}
+use Rattle.rows.specs.Product.{reduced-fits}
 use Rattle.quotients.specs.Division.{backwards-reduced, blank-reduced, quotient-to}
 use borrow.Author.Needs.{needs}
 use Rattle.quotients.proofs.quotient.Statement.{statement}
@@ -66,7 +67,8 @@ add-product-requires c κs =
         omega (arith, prepared-below (pre .0 .0)),
       ),
       (
-        blank-reduced p (length (a .acc .now)) (blank .last .0) (prepared-positive (pre .0 .0)) (blank .ensures),
+        reduced-fits (blank .last .0) (pre .0 .1)
+            (blank-reduced p (length (a .acc .now)) (blank .last .0) (prepared-positive (pre .0 .0)) (blank .ensures)),
         backwards-reduced (part-below (a .a .now) d (length (a .a .now) - d) p (prepared-positive (pre .0 .0)) (pre .0 .2)) (top .ensures),
         pre .0 .3,
         pre .0 .4,

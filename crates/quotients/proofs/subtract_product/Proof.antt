@@ -1,6 +1,7 @@
 -- `quotients::subtract_product` meets its contract. Assumes nothing.
 use native.Mathlib.Omega.{arith}
 use Rattle.barrett.specs.Modulus.{prepared-below}
+use Rattle.rows.specs.Product.{reduced-fits}
 use Rattle.quotients.specs.Division.{filled-reduced, subtracted}
 use borrow.Author.Needs.{needs}
 use Rattle.quotients.proofs.subtract_product.Statement.{statement}
@@ -17,7 +18,12 @@ add-product-requires c κs =
     let pre = start .pre in
     let wide = at-widen .widen in (
       (omega (arith, wide .kept, pre .1 .1), omega (arith, wide .kept, pre .1 .1, pre .1 .3), pre .1 .0, pre .0 .1, omega (arith, prepared-below (pre .0 .0))),
-      (filled-reduced (a .m .p) (a .a .now) (wide .last .1 .0) (pre .0 .2) (wide .ensures), pre .0 .3, pre .0 .4, pre .0 .5),
+      (
+        reduced-fits (wide .last .1 .0) (pre .0 .1) (filled-reduced (a .m .p) (a .a .now) (wide .last .1 .0) (pre .0 .2) (wide .ensures)),
+        pre .0 .3,
+        pre .0 .4,
+        pre .0 .5,
+      ),
     )
 
 remainders-requires : tie.Need-remainders-requires

@@ -1,6 +1,6 @@
 -- Products by rows: four words of a at a time, times all words of the other factor, which e holds behind three zeros, are added to the sums of acc.
 -- Assumes nothing.
-use mathlib.Core.Path.{_≡_, refl, sym, _∙_, ap, subst}
+use mathlib.Core.Path.{_≡_, refl, sym, _∙_, ap, subst, fun-ext}
 use mathlib.Core.List.{List, _∷_}
 use Prim.Native.Nat.{ℕ, zero, suc, _+_, _-_, _*_, _^_, _≤_, _<_}
 use native.Mathlib.Nat as N
@@ -11,11 +11,11 @@ use Rattle.slices.specs.Filling.{Filled}
 use lib.Seq.{take-all}
 use Rattle.series.specs.Series.{Seq, conv, sums, conv-sums}
 use Rattle.zmod.specs.Zmod.{Zmod, mk, plus, plus-assoc, plus-zero}
-use Rattle.zmod.specs.Residues.{Reduced, poly, poly-below}
+use Rattle.zmod.specs.Residues.{Reduced, poly, poly-at, poly-below}
 use Rattle.rows.specs.Rows.{row-more, row-le, RowsAdded, added-le}
 use Rattle.rows.specs.Block.{upper, upper-block, upper-none, block}
 use Rattle.rows.specs.Sums.{Sums, products-low}
 use Rattle.rows.specs.Turn.{turn-classes}
 
 -- what e holds behind three zeros
 abbrev pub held : (p : ℕ) → List ℕ → Seq (Zmod p)
@@ -81,21 +81,22 @@ module _ (p : ℕ) (a e acc₀ : List ℕ) where
             (getD a (3 + i) 0) acc′) (omega arith)
             (subst (λ l. RowsAdded acc l i (length acc - i) (getD a i 0) (getD a (1 + i) 0) (getD a (2 + i) 0) (getD a (3 + i) 0) acc′) (sym whole) added))
 
-    -- sums that began with residues
-    pub added-all : length a ≤ i → i ≤ 255 → 1 < p → p ≤ 2 ^ 28 → Reduced p acc₀
+    -- sums that began with one product at most
+    pub added-all : length a ≤ i → i ≤ 255 → 1 < p → p ≤ 2 ^ 28 → ((k : ℕ) → getD acc₀ k 0 ≤ (p - 1) * (p - 1))
         → Sums p (sums (Zmod p) (poly p acc₀) (conv (Zmod p) (poly p a) (held p e))) acc
     added-all end few large fits low = record {
       bounded = λ k. products-low (i + 1) p (getD acc k 0) (omega arith) (total (i + 1) (omega arith))
-          (omega (arith, h .bounded k, low k, one, N.add-mul i 1 ((p - 1) * (p - 1))));
+          (omega (arith, h .bounded k, low k, N.add-mul i 1 ((p - 1) * (p - 1))));
       classes = λ k l.
           sym (plus-zero p _) ∙ ap (plus p (poly p acc k)) (sym (upper-none (Zmod p) i (poly p a) (held p e) (poly-below p a i end) k)) ∙ h .classes k l;
     }
       where
-        one : p - 1 ≤ (p - 1) * (p - 1)
-        one = N.le-mul-of-pos-right (p - 1) (omega arith)
-
         total : (n : ℕ) → n ≤ 256 → n * p ≤ 2 ^ 36
         total n le = N.mul-le-mul {n₁ = n} {m₁ = p} {n₂ = 256} {m₂ = 268435456} le (omega arith)
+
+-- a residue is no more than a product of residues can be
+pub reduced-fits : {p : ℕ} (xs : List ℕ) → 1 < p → Reduced p xs → (k : ℕ) → getD xs k 0 ≤ (p - 1) * (p - 1)
+reduced-fits {p} xs large low k = omega (arith, low k, N.le-mul-of-pos-right {m = p - 1} (p - 1) (omega arith))
 
 -- the words of a behind three zeros
 pub behind-low : (a : List ℕ) (k : ℕ) → k < 3 → getD (0 ∷ 0 ∷ 0 ∷ a) k 0 ≡ 0
@@ -117,3 +118,13 @@ behind-all a e long all = (record { zeros = λ j l. all j (omega arith) ∙ behi
     go : (j : ℕ) → Dec (3 + j < length e) → getD e (3 + j) 0 ≡ getD a j 0
     go j (yes l) = all (3 + j) l ∙ sym (behind-high a (3 + j) (omega arith)) ∙ ap (λ n. getD a n 0) (omega arith)
     go j (no l) = List·getD-eq-default e 0 (omega arith) ∙ sym (List·getD-eq-default a 0 (omega arith))
+
+pub behind-reduced : (p : ℕ) (e a : List ℕ) → ThreeZeros e → ((j : ℕ) → getD e (3 + j) 0 ≡ getD a j 0) → Reduced p a → Reduced p e
+behind-reduced p e a zeros words low j = go (decLt j 3)
+  where
+    go : Dec (j < 3) → getD e j 0 < p
+    go (yes l) = omega (arith, zeros .zeros j l, low 0)
+    go (no l) = let at : 3 + (j - 3) ≡ j = omega arith in subst (λ k. getD e k 0 < p) at (omega (arith, words (j - 3), low (j - 3)))
+
+pub behind-held : (p : ℕ) (e a : List ℕ) → ((j : ℕ) → getD e (3 + j) 0 ≡ getD a j 0) → held p e ≡ poly p a
+behind-held p e a words = fun-ext λ j. ap (mk p) (words j) ∙ sym (poly-at p a j)

@@ -1,14 +1,14 @@
--- `quotients::put_behind` meets its contract. The invariant: the words before k are stored. Assumes nothing.
+-- `rows::put_behind` meets its contract. The invariant: the words before k are stored. Assumes nothing.
 use mathlib.Core.Path.{_≡_, refl}
 use mathlib.Core.List.{List, _∷_}
 use Prim.Native.Nat.{ℕ, _-_, _≤_}
 use native.Mathlib.Omega.{arith}
 use lib.ListN.{length, getD, length-set}
 use Rattle.slices.specs.Filling.{Filled, filled-none, filled-more}
-use Rattle.quotients.specs.Product.{behind-all}
+use Rattle.rows.specs.Product.{behind-all}
 use borrow.Author.Needs.{needs}
-use Rattle.quotients.proofs.put_behind.Statement.{statement}
-use Rattle.quotients.proofs.put_behind.Tie as tie
+use Rattle.rows.proofs.put_behind.Statement.{statement}
+use Rattle.rows.proofs.put_behind.Tie as tie
 
 abbrev Behind : List ℕ → ℕ → ℕ → Type 0
 Behind a j v = v ≡ getD (0 ∷ 0 ∷ 0 ∷ a) j 0

@@ -1,10 +1,10 @@
--- `quotients::behind` meets its contract. Assumes nothing.
+-- `rows::behind` meets its contract. Assumes nothing.
 use mathlib.Core.Path.{sym, _∙_}
 use native.Mathlib.Omega.{arith}
-use Rattle.quotients.specs.Product.{behind-low, behind-high}
+use Rattle.rows.specs.Product.{behind-low, behind-high}
 use borrow.Author.Needs.{needs}
-use Rattle.quotients.proofs.behind.Statement.{statement}
-use Rattle.quotients.proofs.behind.Tie as tie
+use Rattle.rows.proofs.behind.Statement.{statement}
+use Rattle.rows.proofs.behind.Tie as tie
 
 word-requires : tie.Need-word-requires
 word-requires c κs = search needs

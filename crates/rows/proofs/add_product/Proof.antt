@@ -1,14 +1,14 @@
--- `quotients::add_product` meets its contract. The invariant: acc has the products with the words of a before i. Assumes nothing.
+-- `rows::add_product` meets its contract. The invariant: acc has the products with the words of a before i. Assumes nothing.
 use mathlib.Core.Path.{_≡_}
 use Prim.Native.Nat.{ℕ, _+_, _-_, _*_, _^_, _≤_, _<_}
 use native.Mathlib.Nat as N
 use native.Mathlib.Omega.{arith}
 use lib.ListN.{length, getD}
 use Rattle.rows.specs.Rows.{row-more, RowsAdded, of-words, to-words}
-use Rattle.quotients.specs.Product.{ProductAdded, added-none, turn-fits, added-more, added-all}
+use Rattle.rows.specs.Product.{ProductAdded, added-none, turn-fits, added-more, added-all}
 use borrow.Author.Needs.{needs}
-use Rattle.quotients.proofs.add_product.Statement.{statement}
-use Rattle.quotients.proofs.add_product.Tie as tie
+use Rattle.rows.proofs.add_product.Statement.{statement}
+use Rattle.rows.proofs.add_product.Tie as tie
 
 abbrev Inv-loop : tie.InvT-loop
 Inv-loop acc₀ a e p i₀ acc i = (length acc ≡ length acc₀) × (i < length a + 4) × ProductAdded p a e acc₀ i acc
@@ -16,11 +16,11 @@ Inv-loop acc₀ a e p i₀ acc i = (length acc ≡ length acc₀) × (i < length
 abbrev μ-loop : tie.MeasureT-loop
 μ-loop acc₀ a e p i₀ acc i = length a + 4 - i
 
--- a residue and 256 products fit
-all-fit : (p x s n : ℕ) → p ≤ 2 ^ 28 → x < p → n ≤ 256 → s ≤ x + n * ((p - 1) * (p - 1)) → s < 2 ^ 64
+-- 256 products fit: one in the sum, and 255 added
+all-fit : (p x s n : ℕ) → p ≤ 2 ^ 28 → x ≤ (p - 1) * (p - 1) → n ≤ 255 → s ≤ x + n * ((p - 1) * (p - 1)) → s < 2 ^ 64
 all-fit p x s n small low few le =
     let square : (p - 1) * (p - 1) ≤ 72057593501057025 = N.mul-le-mul {n₁ = p - 1} {m₁ = p - 1} {n₂ = 268435455} {m₂ = 268435455} (omega arith) (omega arith) in
-    let total : n * ((p - 1) * (p - 1)) ≤ 256 * 72057593501057025 = N.mul-le-mul {n₁ = n} {m₁ = (p - 1) * (p - 1)} {n₂ = 256} {m₂ = 72057593501057025} few
+    let total : n * ((p - 1) * (p - 1)) ≤ 255 * 72057593501057025 = N.mul-le-mul {n₁ = n} {m₁ = (p - 1) * (p - 1)} {n₂ = 255} {m₂ = 72057593501057025} few
     square in
     omega arith
 
