@@ -22,7 +22,7 @@ use Rattle.promises.specs.declared.Image.the-variants as image
 use Rattle.promises.specs.declared.Named.{Named}
 use Rattle.promises.specs.Outcome.{verdictOutcome, writtenOutcome, imageOutcome, verdictNumber, writtenNumber, imageNumber, nameNumber}
 use Rattle.promises.specs.Asked.{Room, check-asks, Solvable, last-ask, Given}
-use Rattle.promises.specs.Answer.{Goes, CertificateIn, KernelIn, SolveRight, KernelRight, NameRight}
+use Rattle.promises.specs.Answer.{Goes, CertificateIn, KernelIn, SolveRight, KernelRight, ComposeRight, NameRight}
 
 -- question 2 of bytes: they are whole words
 abbrev pub WholeWords : List ℕ → Type 0
@@ -66,7 +66,7 @@ pub record PushInput (bytes : List ℕ) (answer : Image) : Type 0 where
   pub short : length bytes < 8 → answer ≡ image.Refused 2
   pub long : 8 ≤ length bytes → PushAnswer (drop 8 bytes) (wordAt bytes 0 + 2 ^ 32 * wordAt bytes 1) answer
 
--- ── solve and kernel on words, and name
+-- ── solve, kernel and compose on words, and name
 
 pub record SolveNumber (ws before after : List ℕ) (r : ℕ) : Type 0 where
   pub answer : Written
@@ -76,6 +76,11 @@ pub record SolveNumber (ws before after : List ℕ) (r : ℕ) : Type 0 where
 pub record KernelNumber (ws before after : List ℕ) (r : ℕ) : Type 0 where
   pub answer : Written
   pub right : KernelRight ws before after answer
+  pub number : r ≡ writtenNumber answer
+
+pub record ComposeNumber (first second before after : List ℕ) (r : ℕ) : Type 0 where
+  pub answer : Written
+  pub right : ComposeRight first second before after answer
   pub number : r ≡ writtenNumber answer
 
 pub record NameNumber (p a b r : ℕ) : Type 0 where

@@ -28,7 +28,9 @@ use Rattle.promises.specs.declared.Named.{Named}
 use Rattle.promises.specs.declared.Named.the-variants as named
 use Rattle.promises.specs.Outcome.{verdictNumber, imageNumber, writtenNumber, nameNumber}
 use Rattle.promises.specs.Asked.{solve-asks, kernel-asks, name-asks}
-use Rattle.promises.specs.Answer.{Goes, SolveRight, KernelRight, NameRight}
+use Rattle.promises.specs.Answer.{Goes, composed, SolveRight, KernelRight, ComposeRight, NameRight}
+use Rattle.sheet.specs.Ready.{half-most}
+use Rattle.services.specs.Compose.{composite-ready}
 use Rattle.sagepliers.specs.Entry.{
   bytes-ask,
   CheckAnswer,
@@ -39,6 +41,7 @@ use Rattle.sagepliers.specs.Entry.{
   PushNumber,
   SolveNumber,
   KernelNumber,
+  ComposeNumber,
   NameNumber,
 }
 
@@ -90,7 +93,7 @@ module _ (bytes : List ℕ) where
   pub check-read : (r : ℕ) → CheckNumber bytes r → CheckAnswer bytes (verdictOf r)
   check-read r h = subst (CheckAnswer bytes) (sym (ap verdictOf (h .number) ∙ verdict-back (h .answer) (h .right))) (h .right)
 
--- ── solve and kernel: no certificate has more words than the largest
+-- ── solve, kernel and compose: no certificate has more words than the largest
 
 written-count : (c : ℕ) → c ≤ mostWords → writtenOf c ≡ written.Count c
 written-count c small = ap (λ t. cond t (written.Count c) (written.Refused (c - 2 ^ 57))) (lt-ltb c (2 ^ 57) (omega arith))
@@ -120,6 +123,23 @@ module _ (ws before after : List ℕ) where
 
   pub kernel-read : (r : ℕ) → KernelNumber ws before after r → KernelRight ws before after (writtenOf r)
   kernel-read r h = subst (KernelRight ws before after) (sym (ap writtenOf (h .number) ∙ kernel-back (h .answer) (h .right))) (h .right)
+
+module _ (first second before after : List ℕ) where
+  pub compose-count : (c : ℕ) → ComposeRight first second before after (written.Count c) → c ≤ mostWords
+  compose-count c h =
+      omega (
+        arith,
+        half-most (composed (valuesOf Certificate first) (valuesOf Certificate second)) (composite-ready first second (length before) (h .0)),
+        h .1 .certificate .count-is,
+      )
+
+  compose-back : (w : Written) → ComposeRight first second before after w → writtenOf (writtenNumber w) ≡ w
+  compose-back (written.Count c) h = written-count c (compose-count c h)
+  compose-back (written.Refused n) h = written-refused n
+
+  pub compose-read : (r : ℕ) → ComposeNumber first second before after r → ComposeRight first second before after (writtenOf r)
+  compose-read r h =
+      subst (ComposeRight first second before after) (sym (ap writtenOf (h .number) ∙ compose-back (h .answer) (h .right))) (h .right)
 
 -- ── name: the j-value is below p, and p below 2^28
 

@@ -34,6 +34,7 @@ use Rattle.promises.specs.Answer.{Goes, CertificateIn, KernelIn}
 use Rattle.services.specs.Certified.{one-certificate}
 use Rattle.services.specs.Solve.{solve-unique}
 use Rattle.services.specs.Kernel.{one-kernel, kernel-unique}
+use Rattle.services.specs.Compose.{compose-unique}
 use Rattle.services.specs.Push.{goes-once}
 use Rattle.services.specs.Name.{name-unique}
 use Rattle.sagepliers.specs.Entry.{
@@ -49,6 +50,7 @@ use Rattle.sagepliers.specs.Entry.{
   PushInput,
   SolveNumber,
   KernelNumber,
+  ComposeNumber,
   NameNumber,
   SolveAnswer,
   KernelAnswer,
@@ -123,6 +125,14 @@ module _ (bytes before after after′ : List ℕ) where
       one-kernel (valuesOf Kernel us) (ready Kernel us (all-front (asked Kernel us) (last-ask (valuesOf Kernel us) (gOf Kernel us)) (all .1 .1)))
       (gOf Kernel us) before a b) (writtenOutcome r) (writtenOutcome s) after after′ h k in
       (same-written r s (same .0), same .1)
+
+-- ── compose
+
+pub compose-number-unique : (first second before after after′ : List ℕ) (r s : ℕ) → ComposeNumber first second before after r
+    → ComposeNumber first second before after′ s → (r ≡ s) × (after ≡ after′)
+compose-number-unique first second before after after′ r s h k =
+    let same = compose-unique first second before after after′ (h .answer) (k .answer) (h .right) (k .right) in
+    (h .number ∙ ap writtenNumber (same .0) ∙ sym (k .number), same .1)
 
 -- ── name
 

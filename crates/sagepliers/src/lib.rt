@@ -1,4 +1,4 @@
-// The C entries: the five services on bytes and words, one thin function each. `include/sagepliers.h` documents them.
+// The C entries: the six services on bytes and words, one thin function each. `include/sagepliers.h` documents them.
 pub mod files;
 
 use services::Image;
@@ -8,7 +8,7 @@ use services::Written;
 ghost use mathlib.Core.Path.{_≡_};
 ghost use Prim.Native.Nat.{_+_, _*_, _^_};
 ghost use Rattle.promises.specs.Outcome.{writtenNumber};
-ghost use Rattle.sagepliers.specs.Entry.{CheckNumber, PushNumber, SolveNumber, KernelNumber, NameNumber};
+ghost use Rattle.sagepliers.specs.Entry.{CheckNumber, PushNumber, SolveNumber, KernelNumber, ComposeNumber, NameNumber};
 
 #[no_mangle]
 pub extern "C" fn sagepliers_check(bytes: &[u8]) -> u32
@@ -48,7 +48,7 @@ pub extern "C" fn sagepliers_push(bytes: &[u8], point: u64) -> u64
     point_number(u, v)
 }
 
-// The number of what solve and kernel answer.
+// The number of what solve, kernel and compose answer.
 fn written_number(written: Written) -> u64
     ensures { λ r. ⌜ r ≡ writtenNumber written ⌝ }
 {
@@ -70,6 +70,13 @@ pub extern "C" fn sagepliers_kernel(sheet: &[u32], answer: &mut [u32]) -> u64
     ensures { λ r. ⌜ KernelNumber (now (sheet .entry)) (now (answer .entry)) (now (answer .exit)) r ⌝ }
 {
     written_number(services::kernel(sheet, answer))
+}
+
+#[no_mangle]
+pub extern "C" fn sagepliers_compose(first: &[u32], second: &[u32], answer: &mut [u32]) -> u64
+    ensures { λ r. ⌜ ComposeNumber (now (first .entry)) (now (second .entry)) (now (answer .entry)) (now (answer .exit)) r ⌝ }
+{
+    written_number(services::compose(first, second, answer))
 }
 
 #[no_mangle]
