@@ -28,10 +28,11 @@ INFINITY = 1 << 56
 REFUSED = 1 << 57
 
 
-def answer(ffi, library, entry, words):
-    """What solve or kernel answers to a sheet: the words of the certificate."""
+def answer(ffi, library, entry, *sheets):
+    """What solve or kernel answers to a sheet, or compose to two: the words of the certificate."""
     room = ffi.new("uint32_t[]", ROOM)
-    result = entry(ffi.new("uint32_t[]", words), len(words), room, ROOM)
+    lent = [argument for words in sheets for argument in (ffi.new("uint32_t[]", words), len(words))]
+    result = entry(*lent, room, ROOM)
     if result >= REFUSED:
         raise ValueError(ffi.string(library.sagepliers_meaning(result - REFUSED)).decode())
     return list(room[0:result])
@@ -40,11 +41,15 @@ def answer(ffi, library, entry, words):
 def main(arguments):
     header = arguments[0] if arguments else include_directory() + "/sagepliers.h"
     ffi, library = load(header, arguments[1] if len(arguments) > 1 else "libsagepliers.so.0")
-    values = [1009, 1, 3, 265, 877, 3, 46]
-    certificate = answer(ffi, library, library.sagepliers_solve, [(i + 1) << 28 | v for i, v in enumerate(values)] + [15 << 28])
+    certificate, second = (
+        answer(ffi, library, library.sagepliers_solve, [(i + 1) << 28 | v for i, v in enumerate(values)] + [15 << 28])
+        for values in ([1009, 1, 3, 265, 877, 3, 46], [1009, 265, 877, 81, 169, 3, 871])
+    )
     print(f"solve: {len(certificate)} words, rational abscissas: {certificate[-2] & 0xfffffff}")
     kernel = [1 << 28 | 1009, 2 << 28 | 1, 3 << 28 | 3, 6 << 28 | 3, 8 << 28 | 986, 8 << 28 | 1, 15 << 28]
     print(f"kernel: {len(answer(ffi, library, library.sagepliers_kernel, kernel))} words")
+    composed = answer(ffi, library, library.sagepliers_compose, certificate, second)
+    print(f"compose: {len(composed)} words, degree {composed[5] & 0xfffffff}, rational abscissas: {composed[-2] & 0xfffffff}")
     sheet = b"".join(word.to_bytes(4, "little") for word in certificate)
     print(f"check: {library.sagepliers_check(sheet, len(sheet))}")
     image = library.sagepliers_push(sheet, len(sheet), 1008 | 1 << 28)

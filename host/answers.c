@@ -23,20 +23,53 @@ static bool bytes_on_output(const struct options *options)
     return options->output != NULL && strcmp(options->output, "-") == 0;
 }
 
-enum status answer_refused(uint32_t number, const struct options *options)
+/* The members that say which files a refusal is about: one as check has it, several as a list of such objects. */
+static void put_json_names(const char *const *names, size_t count)
+{
+    if (count == 0)
+        return;
+    if (count == 1) {
+        put_json_file(names[0]);
+    } else {
+        printf("\"files\":[");
+        for (size_t i = 0; i < count; i++) {
+            printf(i == 0 ? "{" : ",{");
+            put_json_file(names[i]);
+            putchar('}');
+        }
+        putchar(']');
+    }
+    putchar(',');
+}
+
+static void put_refusal(FILE *stream, const char *const *names, size_t count, uint32_t number)
+{
+    for (size_t i = 0; i < count; i++)
+        fprintf(stream, "%s%s", i == 0 ? "" : i + 1 < count ? ", " : " and ", input_name(names[i]));
+    fprintf(stream, "%srefused %" PRIu32 ": %s\n", count > 0 ? ": " : "", number, sagepliers_meaning(number));
+}
+
+enum status answer_refused_files(const char *const *names, size_t count, uint32_t number, const struct options *options)
 {
     if (options->quiet)
         return REFUSED;
     if (bytes_on_output(options)) {
-        complain("refused %" PRIu32 ": %s", number, sagepliers_meaning(number));
+        fputs("sagepliers: ", stderr);
+        put_refusal(stderr, names, count, number);
     } else if (options->view == AS_JSON) {
         putchar('{');
+        put_json_names(names, count);
         put_json_refusal(number);
         printf("}\n");
     } else {
-        printf("refused %" PRIu32 ": %s\n", number, sagepliers_meaning(number));
+        put_refusal(stdout, names, count, number);
     }
     return REFUSED;
+}
+
+enum status answer_refused(uint32_t number, const struct options *options)
+{
+    return answer_refused_files(NULL, 0, number, options);
 }
 
 enum status answer_sheet(const struct sheet *sheet, enum form form, const struct options *options)

@@ -11,6 +11,9 @@ void put_json_refusal(uint32_t number);
 /* A refusal of the one sheet that a command was asked about. */
 enum status answer_refused(uint32_t number, const struct options *options);
 
+/* A refusal that is about these files, where a command was asked about several. */
+enum status answer_refused_files(const char *const *names, size_t count, uint32_t number, const struct options *options);
+
 /* Shows a sheet of a form and writes it to the file of the options. */
 enum status answer_sheet(const struct sheet *sheet, enum form form, const struct options *options);
 

@@ -12,6 +12,7 @@ enum status {
 /* Each takes its own part of the command line; argv[0] is the name for messages, as "sagepliers solve". */
 enum status command_solve(int argc, char **argv);
 enum status command_kernel(int argc, char **argv);
+enum status command_compose(int argc, char **argv);
 enum status command_check(int argc, char **argv);
 enum status command_push(int argc, char **argv);
 enum status command_name(int argc, char **argv);

@@ -1,5 +1,5 @@
 #!/bin/sh
-# Shows the command at work, from a question to a pushed point: each line after a $ is run, in an empty directory, and what it prints follows.
+# Shows the command at work, from a question to pushed points and composed maps: each line after a $ is run, in an empty directory, and what it prints follows.
 #
 #     host/demo.sh path/to/sagepliers
 set -eu
@@ -27,6 +27,10 @@ run 0 'sagepliers check certificate.bin'
 echo
 echo "It takes points of the domain to points of the codomain:"
 run 0 'sagepliers push certificate.bin 1008 1 infinity'
+echo
+echo "A second step follows, and both together are one map of degree 9:"
+run 0 'sagepliers solve -q 1009 265 877 81 169 3 871 -o second.bin'
+run 0 'sagepliers compose certificate.bin second.bin'
 echo
 echo "With the kernel polynomial g known, the codomain is found (here again the same), or there is none:"
 run 0 'sagepliers kernel 1009 1 3 3 -23 1'

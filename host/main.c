@@ -20,8 +20,13 @@ static const struct subcommand {
     char *title; /* the name for messages */
     enum status (*run)(int argc, char **argv);
 } subcommands[] = {
-    {"solve", "sagepliers solve", command_solve}, {"kernel", "sagepliers kernel", command_kernel}, {"check", "sagepliers check", command_check},
-    {"push", "sagepliers push", command_push},    {"name", "sagepliers name", command_name},       {"show", "sagepliers show", command_show},
+    {"solve", "sagepliers solve", command_solve},
+    {"kernel", "sagepliers kernel", command_kernel},
+    {"compose", "sagepliers compose", command_compose},
+    {"check", "sagepliers check", command_check},
+    {"push", "sagepliers push", command_push},
+    {"name", "sagepliers name", command_name},
+    {"show", "sagepliers show", command_show},
 };
 
 static void print_version(FILE *stream, struct argp_state *state)
@@ -29,7 +34,7 @@ static void print_version(FILE *stream, struct argp_state *state)
     (void)state;
     fprintf(stream,
             "sagepliers " SAGEPLIERS_VERSION "\n"
-            "Library " SAGEPLIERS_VERSION ": every function behind its five entries is proved to meet its contract (toolchain " TOOLCHAIN ").\n"
+            "Library " SAGEPLIERS_VERSION ": every function behind its six entries is proved to meet its contract (toolchain " TOOLCHAIN ").\n"
             "This command around it is C11: tested, not proved.\n");
 }
 
@@ -40,6 +45,7 @@ static const char after[] =
     "Commands:\n"
     "  solve    the certificate that answers a question\n"
     "  kernel   the certificate of a curve and a kernel polynomial\n"
+    "  compose  the certificate of one map followed by another\n"
     "  check    whether certificates pass, one or a folder of them\n"
     "  push     the images of points under a certificate\n"
     "  name     the j-value of a curve\n"

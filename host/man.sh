@@ -18,7 +18,7 @@ export ARGP_HELP_FMT SOURCE_DATE_EPOCH
 LC_ALL=C
 export LC_ALL
 
-for name in solve kernel check push name show; do
+for name in solve kernel compose check push name show; do
     printf '[SAGEPLIERS %s]\n' "$(echo "$name" | tr '[:lower:]' '[:upper:]')"
     # A literal block: help is laid out already. A backslash or a dot in front would be an order to roff.
     printf '.nf\n'

@@ -19,6 +19,8 @@ const char *sagepliers_meaning(uint32_t number)
         "rule R3 does not hold",
         "there is no answer: nothing meets the rules",
         "the point is not one of the domain",
+        "the two certificates have different primes, or the first codomain is not the second domain",
+        "the product l of the degrees is above 255, or 2 l - 1 is not below p",
     };
     return number < sizeof meanings / sizeof *meanings ? meanings[number] : "no refusal has this number";
 }

@@ -24,8 +24,8 @@ _sagepliers() {
     esac
 
     case $command in
-    '') mapfile -t COMPREPLY < <(compgen -W 'solve kernel check push name show --help --usage --version' -- "$current") && return ;;
-    solve | kernel) options="$common --output --hex --input" ;;
+    '') mapfile -t COMPREPLY < <(compgen -W 'solve kernel compose check push name show --help --usage --version' -- "$current") && return ;;
+    solve | kernel | compose) options="$common --output --hex --input" ;;
     check) options="$common --jobs --verbose --progress --match --follow --input" ;;
     push) options="$common --hex --input" ;;
     name) options=$common ;;

@@ -16,13 +16,13 @@
  * On a question and a kernel sheet A, B, A~, B~, sigma and the coefficients of g may have any value of 28 bits: it is taken modulo p, and what is
  * left stands in the certificate. On a certificate they are below p. p, l and the count are never reduced.
  *
- * Refusals. Each entry puts its questions to the sheet in a fixed order, and a sheet that does not pass is refused with the number of the first
- * question that is answered with no:
+ * Refusals. Each entry puts its questions to its sheets in a fixed order, and what does not pass is refused with the number of the first question
+ * that is answered with no:
  *    1  the answer has room for SAGEPLIERS_ROOM words
  *    2  the words before any coefficients are there, each of its kind; a sheet in bytes has whole words
  *    3  p is a prime from 11 to 2^28 - 1
  *    4  the degree l is odd, from 3 to 255, with 2 l - 1 < p
- *    5  the curve values, and on a certificate sigma, are below p (check, push and name; other sheets are reduced)
+ *    5  the curve values, and on a certificate sigma, are below p (certificates and name; other sheets are reduced)
  *    6  behind these words is what the form has and nothing else: coefficients, on a certificate below p; on a certificate then the count, of any
  *       value; then an end with value 0
  *    7  no curve on the sheet is singular
@@ -32,6 +32,8 @@
  *   10  f (N' g - 2 N g')^2 = N^3 + A~ N g^4 + B~ g^6 (rule R3)
  *   11  there is an answer: a g that meets the rules (solve), a codomain that is not singular and meets rule R3 (kernel)
  *   12  the point has coordinates below p and is on the domain, or is infinity (push)
+ *   13  both certificates have the same p, and the codomain of the first is the domain of the second (compose)
+ *   14  the product l of their degrees is at most 255, with 2 l - 1 < p (compose)
  * No input is undefined behaviour as long as the pointers are as said below: every sequence of bytes or words gets its answer.
  *
  * Lifetimes. A pointer with its count names that many elements in memory that is valid for the whole call: to read, and for `answer` also to write.
@@ -42,7 +44,8 @@
  * Alignment. A pointer is aligned for its type: 4 bytes for uint32_t. Bytes may start anywhere, so a file that was read or mapped can be handed on
  * as it is; bytes are not to be cast to uint32_t, for the sake of alignment and of the order of bytes.
  *
- * Aliasing. `answer` and the sheet must not overlap, not even in part and not even where the sheet will be refused: solving in place is not possible.
+ * Aliasing. `answer` and a sheet must not overlap, not even in part and not even where the sheet will be refused: solving in place is not possible, and
+ * neither is composing onto one of the two certificates. These two are only read, so they may overlap each other or be the same memory.
  * During the call nobody else writes to the arguments, and nobody else reads `answer`.
  *
  * Threads. The entries have no state and do no input or output. Calls in parallel on distinct buffers are safe, with no lock and no initialization;
@@ -61,7 +64,7 @@ extern "C" {
 /* The version of the library and of this header. */
 #define SAGEPLIERS_VERSION "0.1.0"
 
-/* The words that an answer of solve and kernel must have room for; no certificate has more. */
+/* The words that an answer of solve, kernel and compose must have room for; no certificate has more. */
 #define SAGEPLIERS_ROOM 393
 
 /* The number of the point at infinity. Smaller numbers are those of affine points: u + 2^28 v. */
@@ -89,12 +92,18 @@ uint64_t sagepliers_solve(const uint32_t *sheet, size_t words, uint32_t *answer,
  * of which 5 never fails, then 11. Returns and writes as solve does. */
 uint64_t sagepliers_kernel(const uint32_t *sheet, size_t words, uint32_t *answer, size_t room);
 
+/* Compose: the certificate of the map of the first certificate followed by that of the second: from the first domain to the second codomain, of degree
+ * l1 l2, with sigma2 + l2 sigma1 modulo p for sigma. Puts question 1, then 2 to 10 to the first certificate, then 2 to 10 to the second, then 13 and 14.
+ * A number from 2 to 10 does not say which of the two it is about; sagepliers_check on the first tells.
+ * Returns and writes as solve does. What it writes passes check, and takes each point to where the first and then the second take it. */
+uint64_t sagepliers_compose(const uint32_t *first, size_t first_words, const uint32_t *second, size_t second_words, uint32_t *answer, size_t room);
+
 /* Name: the j-value of the curve y^2 = x^3 + a x + b over the prime p, 1728 * 4 a^3 / (4 a^3 + 27 b^2). Puts questions 3, 5 and 7.
  * Returns the j-value, below p, or SAGEPLIERS_REFUSED plus the number of the refusal. */
 uint64_t sagepliers_name(uint32_t p, uint32_t a, uint32_t b);
 
 /* Meaning: the refusal with a number in words, as "rule R3 does not hold"; for any other number it says that there is no such refusal.
- * The text is constant, never NULL, and without a full stop. This function is plain C and not proved; the five above are. */
+ * The text is constant, never NULL, and without a full stop. This function is plain C and not proved; the six above are. */
 const char *sagepliers_meaning(uint32_t number);
 
 #ifdef __cplusplus

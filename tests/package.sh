@@ -6,8 +6,8 @@
 #
 # Any step that fails, or cannot be run here, ends the script with status 1 and says which. Needs a C and a C++ compiler (CC, CXX) with the address,
 # undefined and thread sanitizers, pkg-config (PKG_CONFIG), make, nm, readelf, /dev/full, and for root setpriv; needs.sh installs them. Expectations
-# come from documents 01 and 02: printed words and rows, the order of the questions, what request E2 reduces and what request E6 counts; two counts of
-# roots are PARI/GP's.
+# come from documents 01 and 02: printed words and rows, the order of the questions, what request E2 reduces, what request E6 counts and what request E1
+# composes; some counts of roots, and N where the documents print none, are PARI/GP's.
 set -eu
 here=$(pwd)
 cd "$(dirname "$0")"
@@ -52,10 +52,10 @@ sheet() {
 
 # ---- the library itself
 
-step "the library has the five entries, no state, and calls nothing but functions on memory"
+step "the library has the six entries, no state, and calls nothing but functions on memory"
 nm -g --defined-only "$lib/libsagepliers.a" | awk '$2 == "T" { print $3 }' | sort >"$work/entries"
-printf 'sagepliers_%s\n' check kernel name push solve >"$work/wanted"
-cmp "$work/entries" "$work/wanted" || fail "the entries are not the five of the header"
+printf 'sagepliers_%s\n' check compose kernel name push solve >"$work/wanted"
+cmp "$work/entries" "$work/wanted" || fail "the entries are not the six of the header"
 nm -u "$lib/libsagepliers.a" | awk '$1 == "U" { print $2 }' | sort -u >"$work/uses"
 while read -r used; do
     case $used in
@@ -84,7 +84,7 @@ version=$(sed -n 's/^.define SAGEPLIERS_VERSION "\(.*\)"/\1/p' include/sageplier
     echo ./prefix/share/man/man1/sagepliers.1
     echo ./prefix/share/bash-completion/completions/sagepliers
     printf './prefix/share/doc/sagepliers/%s\n' CHANGELOG.md LICENSE SPECIFICATION.md TRUST.md TUTORIAL.md
-    printf './prefix/share/doc/sagepliers/examples/%s\n' host.c host.py kernel.c name.c solve.c
+    printf './prefix/share/doc/sagepliers/examples/%s\n' compose.c host.c host.py kernel.c name.c solve.c
     printf './prefix/bin/sagepliers-%s\n' answer kernel verify push
 } | sort >"$work/wanted"
 diff "$work/wanted" "$work/installed" || fail "the installed files are not those wanted"
@@ -295,17 +295,19 @@ grep -q 'cannot write' err || { cat err; fail "host does not say that its answer
 
 # ---- C++
 
-step "the header in C++: included twice, all five entries linked and called"
+step "the header in C++: included twice, all six entries linked and called"
 cat >header.cpp <<'CPP'
 #include <sagepliers.h>
 #include <sagepliers.h>
 #include <cstdio>
 static_assert(SAGEPLIERS_INFINITY == 72057594037927936u && SAGEPLIERS_REFUSED == 2 * SAGEPLIERS_INFINITY, "2^56 and 2^57");
 int main() {
-    // Document 01: the first question and its certificate, (1008, 1) to (617, 44), the name of (1, 3) over 1009, the kernel sheet over 11.
+    // Document 01: the first question and its certificate, (1008, 1) to (617, 44), the name of (1, 3) over 1009, the kernel sheet over 11. Request E1:
+    // the second question, and that both certificates make the one of degree 9.
     const uint32_t question[8] = {0x100003f1, 0x20000001, 0x30000003, 0x40000109, 0x5000036d, 0x60000003, 0x7000002e, 0xf0000000};
     const uint32_t kernel[7] = {0x1000000b, 0x20000000, 0x30000001, 0x60000003, 0x80000000, 0x80000001, 0xf0000000};
-    uint32_t answer[SAGEPLIERS_ROOM];
+    const uint32_t second[8] = {0x100003f1, 0x20000109, 0x3000036d, 0x40000051, 0x500000a9, 0x60000003, 0x70000367, 0xf0000000};
+    uint32_t answer[SAGEPLIERS_ROOM], step[SAGEPLIERS_ROOM], composed[SAGEPLIERS_ROOM];
     uint8_t bytes[4 * 15];
     if (sagepliers_kernel(kernel, 7, answer, SAGEPLIERS_ROOM) != 15 || answer[4] != 0x50000006) return 1;
     if (sagepliers_solve(question, 8, answer, SAGEPLIERS_ROOM) != 15 || answer[7] != 0x800003da || answer[13] != 0xa0000001) return 2;
@@ -313,6 +315,10 @@ int main() {
     if (sagepliers_check(bytes, sizeof bytes) != 0) return 3;
     if (sagepliers_push(bytes, sizeof bytes, 1008 + (UINT64_C(1) << 28)) != 617 + (UINT64_C(44) << 28)) return 4;
     if (sagepliers_name(1009, 1, 3) != 269) return 5;
+    if (sagepliers_solve(second, 8, step, SAGEPLIERS_ROOM) != 15 || step[7] != 0x80000045) return 6;
+    if (sagepliers_compose(answer, 15, step, 15, composed, SAGEPLIERS_ROOM) != 24 || composed[5] != 0x60000009 || composed[7] != 0x80000150) return 7;
+    // One certificate in both places, which is lawful memory: no codomain is its own domain here.
+    if (sagepliers_compose(answer, 15, answer, 15, composed, SAGEPLIERS_ROOM) != SAGEPLIERS_REFUSED + 13 || composed[7] != 0x80000150) return 8;
     std::puts("ok");
 }
 CPP

@@ -2,7 +2,8 @@
 """Tests of tools/sheets.py, run as a program as its users run it.
 
 Expectations are document 01's: the words that it prints for the first question, its rows, its layout of words and bytes; request E2's, where values of p or
-more are lawful; and request E6's for the count of rational abscissas. The sheets in crates/ that the programs are run on are made anew and compared.
+more are lawful; request E6's for the count of rational abscissas; and request E1's for its two steps. The sheets in crates/ that the programs are run on are
+made anew and compared.
 """
 
 import os
@@ -67,6 +68,19 @@ class Making(unittest.TestCase):
         out = self.made("kernel", "1009", "1", "3", "9", "336", "12", "2", "0", "1")
         words = ["100003f1", "20000001", "30000003", "60000009", "80000150", "8000000c", "80000002", "80000000", "80000001", "f0000000"]
         self.assertEqual(out, in_bytes(words))
+
+    def test_composed_certificate(self):
+        # Request E1's two steps and the map of degree 9 that they make. Document 01 has its g; N by R2 and the counts of roots are PARI/GP's.
+        step = ["1009", "265", "877", "81", "169", "3", "-138", "69", "1", "394", "560", "138", "1", "1"]
+        words = "100003f1 20000109 3000036d 40000051 500000a9 60000003 70000367 80000045 80000001 9000018a 90000230 9000008a 90000001 a0000001 f0000000"
+        self.assertEqual(self.made("certificate", *step), in_bytes(words.split()))
+        g = ["336", "12", "2", "0", "1"]
+        n = ["743", "873", "144", "468", "937", "30", "721", "-12", "0", "1"]
+        data = self.made("certificate", "1009", "1", "3", "81", "169", "9", "0", *g, *n, "1")
+        words = "100003f1 20000001 30000003 40000051 500000a9 60000009 70000000 80000150 8000000c 80000002 80000000 80000001"
+        words += " 900002e7 90000369 90000090 900001d4 900003a9 9000001e 900002d1 900003e5 90000000 90000001 a0000001 f0000000"
+        self.assertEqual(data, in_bytes(words.split()))
+        self.assertEqual(run("show", given=data)[1].decode().splitlines()[0], "certificate, 24 words")
 
     def test_kernel_sheet_over_11(self):
         self.assertEqual(self.made("kernel", "11", "0", "1", "3", "0", "1"), stored("kernel"))

@@ -1,11 +1,11 @@
-/* Two threads call all five entries at once, many times, each on buffers of its own, and every answer is held against the rows of document 01 and
+/* Two threads call all six entries at once, many times, each on buffers of its own, and every answer is held against the rows of document 01 and
  * against the answer that the same call gave before any thread was started.
  *
  *     threads [ROUNDS]        10000 by default; exit status 0, or 1 with what differed
  *
- * The rows are those of document 01, "The marked sheets and their neighbours"; of the degree 9 row it prints g and no N, so N is compared with the
- * earlier answer alone. In every second round both threads read the one sheet of the row in place of their own copies: calls may share what they only
- * read. STACK, if defined, is the size in bytes of each thread's stack. Assumes POSIX threads with barriers.
+ * The rows are those of document 01, "The marked sheets and their neighbours", and of request E1; of the degree 9 row document 01 prints g and no N, so N
+ * is compared with the earlier answer alone. In every second round both threads read the one sheet of the row in place of their own copies: calls may
+ * share what they only read. STACK, if defined, is the size in bytes of each thread's stack. Assumes POSIX threads with barriers.
  */
 #define _POSIX_C_SOURCE 200809L
 #include <inttypes.h>
@@ -17,14 +17,18 @@
 
 #include <sagepliers.h>
 
-enum service { SOLVE, KERNEL, CHECK, PUSH, NAME };
+enum service { SOLVE, KERNEL, COMPOSE, STEPS, CHECK, PUSH, NAME };
 
-enum { THREADS = 2, MOST_WORDS = 16, GUARD = 8 };
+enum { THREADS = 2, MOST_WORDS = 30, GUARD = 8 };
+
+/* Compose takes two sheets, which stand one behind the other in a row: the first has 15 words. So do the two questions of STEPS, of 8 words each, which
+ * are solved and their answers composed. */
+enum { FIRST_WORDS = 15, QUESTION_WORDS = 8 };
 
 #define POINT(u, v) (UINT64_C(u) + (UINT64_C(v) << 28))
 #define NO(number) (SAGEPLIERS_REFUSED + UINT64_C(number))
 
-/* A call and what document 01 says of it, with the count of request E6: the result, and the words from `from` on that it prints of the answer. */
+/* A call and what the documents say of it, with the count of request E6: the result, and the words from `from` on that it prints of the answer. */
 struct row {
     const char *name;
     enum service service;
@@ -42,6 +46,17 @@ struct row {
 #define FIRST FIRST_BUT_COUNT, 0xa0000001, 0xf0000000
 #define OVER_11_HEADER 0x1000000b, 0x20000000, 0x30000001, 0x40000000, 0x50000006, 0x60000003, 0x70000000
 #define OVER_11 OVER_11_HEADER, 0x80000000, 0x80000001, 0x90000004, 0x90000000, 0x90000000, 0x90000001, 0xa0000001, 0xf0000000
+/* Request E1's second step, Q 1009, 265, 877, 81, 169, 3, 871, by R1 and R2; and over 11 and over 13 the step from (0, 6) to (0, -162) with g = x, whose N is
+ * x^3 + 24. */
+#define SECOND_BUT_END 0x100003f1, 0x20000109, 0x3000036d, 0x40000051, 0x500000a9, 0x60000003, 0x70000367, 0x80000045, 0x80000001, 0x9000018a, 0x90000230, \
+    0x9000008a, 0x90000001, 0xa0000001
+#define SECOND SECOND_BUT_END, 0xf0000000
+#define NEXT_OVER_11 0x1000000b, 0x20000000, 0x30000006, 0x40000000, 0x50000003, 0x60000003, 0x70000000, 0x80000000, 0x80000001, 0x90000002, 0x90000000, \
+    0x90000000, 0x90000001, 0xa0000001, 0xf0000000
+#define NEXT_OVER_13 0x1000000d, 0x20000000, 0x30000006, 0x40000000, 0x50000007, 0x60000003, 0x70000000, 0x80000000, 0x80000001, 0x9000000b, 0x90000000, \
+    0x90000000, 0x90000001, 0xa0000001, 0xf0000000
+#define DEGREE_9_HEADER 0x100003f1, 0x20000001, 0x30000003, 0x40000051, 0x500000a9, 0x60000009, 0x70000000
+#define DEGREE_9_G 0x80000150, 0x8000000c, 0x80000002, 0x80000000, 0x80000001
 
 static const struct row rows[] = {
     {"solve the first question", SOLVE, {FIRST_HEADER, 0xf0000000}, 8, SAGEPLIERS_ROOM, 0, 15, {FIRST}, 0, 15},
@@ -49,8 +64,7 @@ static const struct row rows[] = {
      SAGEPLIERS_ROOM, 0, NO(11), {0}, 0, 0},
     {"solve with B~ = 878", SOLVE, {0x100003f1, 0x20000001, 0x30000003, 0x40000109, 0x5000036e, 0x60000003, 0x7000002e, 0xf0000000}, 8,
      SAGEPLIERS_ROOM, 0, NO(11), {0}, 0, 0},
-    {"solve degree 9", SOLVE, {0x100003f1, 0x20000001, 0x30000003, 0x40000051, 0x500000a9, 0x60000009, 0x70000000, 0xf0000000}, 8, SAGEPLIERS_ROOM,
-     0, 24, {0x80000150, 0x8000000c, 0x80000002, 0x80000000, 0x80000001}, 7, 5},
+    {"solve degree 9", SOLVE, {DEGREE_9_HEADER, 0xf0000000}, 8, SAGEPLIERS_ROOM, 0, 24, {DEGREE_9_HEADER, DEGREE_9_G}, 0, 12},
     {"solve over 11", SOLVE, {OVER_11_HEADER, 0xf0000000}, 8, SAGEPLIERS_ROOM, 0, 15, {OVER_11}, 0, 15},
     {"solve with a buffer of 392", SOLVE, {FIRST_HEADER, 0xf0000000}, 8, SAGEPLIERS_ROOM - 1, 0, NO(1), {0}, 0, 0},
     {"solve with a ninth word", SOLVE, {FIRST_HEADER, 0xf0000000, 0xf0000000}, 9, SAGEPLIERS_ROOM, 0, NO(6), {0}, 0, 0},
@@ -58,6 +72,14 @@ static const struct row rows[] = {
      0, 15, {OVER_11}, 0, 15},
     {"kernel over 11 with g = x - 1", KERNEL, {0x1000000b, 0x20000000, 0x30000001, 0x60000003, 0x8000000a, 0x80000001, 0xf0000000}, 7,
      SAGEPLIERS_ROOM, 0, NO(11), {0}, 0, 0},
+    {"compose two steps of degree 3", COMPOSE, {FIRST, SECOND}, 30, SAGEPLIERS_ROOM, 0, 24, {DEGREE_9_HEADER, DEGREE_9_G}, 0, 12},
+    {"compose the second step and the first", COMPOSE, {SECOND, FIRST}, 30, SAGEPLIERS_ROOM, 0, NO(13), {0}, 0, 0},
+    {"compose to (0, 6) over 11 and from it over 13", COMPOSE, {OVER_11, NEXT_OVER_13}, 30, SAGEPLIERS_ROOM, 0, NO(13), {0}, 0, 0},
+    {"compose the one over 11 with itself", COMPOSE, {OVER_11, OVER_11}, 30, SAGEPLIERS_ROOM, 0, NO(13), {0}, 0, 0},
+    {"compose to degree 9 over 11", COMPOSE, {OVER_11, NEXT_OVER_11}, 30, SAGEPLIERS_ROOM, 0, NO(14), {0}, 0, 0},
+    {"compose with a buffer of 392", COMPOSE, {FIRST, SECOND}, 30, SAGEPLIERS_ROOM - 1, 0, NO(1), {0}, 0, 0},
+    {"compose with a count of two", COMPOSE, {FIRST_BUT_COUNT, 0xa0000002, 0xf0000000, SECOND_BUT_END}, 29, SAGEPLIERS_ROOM, 0, NO(9), {0}, 0, 0},
+    {"compose with no end on the second", COMPOSE, {FIRST, SECOND_BUT_END}, 29, SAGEPLIERS_ROOM, 0, NO(6), {0}, 0, 0},
     {"check the first certificate", CHECK, {FIRST}, 15, 0, 0, 0, {0}, 0, 0},
     {"check N that is not that of g", CHECK, {0x1000000b, 0x20000000, 0x30000001, 0x40000000, 0x50000001, 0x60000003, 0x70000002, 0x8000000a, 0x80000001,
      0x90000000, 0x90000001, 0x90000009, 0x90000001, 0xa0000001, 0xf0000000}, 15, 0, 0, 9, {0}, 0, 0},
@@ -84,9 +106,16 @@ enum { M4 = 15 * 15 * 15 * 15 };
     SOLVE, \
     {0x10000000 + p, 0x20000001, 0x30000003, 0x40000000 + M4 % p, 0x50000000 + (uint32_t)(UINT64_C(3) * 225 * M4 % p), 0x60000000 + 225, 0x70000000, 0xf0000000}, \
     8, SAGEPLIERS_ROOM, 0, 348, {0x80000000, 0x80000001}, 118, 2
+/* And as the multiplication by 3 followed by that by 5, which has to give the same words. */
+#define QUESTION(p, a, b, atilde, btilde, l) \
+    0x10000000 + p, 0x20000000 + a % p, 0x30000000 + b % p, 0x40000000 + atilde % p, 0x50000000 + btilde % p, 0x60000000 + l, 0x70000000, 0xf0000000
+#define BY_3_AND_5(p) \
+    STEPS, {QUESTION(p, 1, 3, 81, 3 * 729, 9), QUESTION(p, 81, 3 * 729, M4, 3 * 225 * M4, 25)}, 16, SAGEPLIERS_ROOM, 0, 348, {0x80000000, 0x80000001}, 118, 2
 static const struct row large[] = {
     {"solve degree 225 over 268435399", BY_15(268435399)},
+    {"compose to degree 225 over 268435399", BY_3_AND_5(268435399)},
     {"solve degree 225 over 457", BY_15(457)},
+    {"compose to degree 225 over 457", BY_3_AND_5(457)},
 };
 
 enum { LARGE = sizeof large / sizeof large[0] };
@@ -96,8 +125,21 @@ struct buffers {
     uint32_t sheet[MOST_WORDS];
     uint8_t bytes[4 * MOST_WORDS];
     uint32_t answer[SAGEPLIERS_ROOM + GUARD];
+    uint32_t steps[2][SAGEPLIERS_ROOM];
     uint64_t result;
 };
+
+/* Solves two questions and composes the answers; a refusal of a question is the result. */
+static uint64_t in_steps(const uint32_t *questions, struct buffers *own, size_t room)
+{
+    uint64_t counts[2];
+    for (size_t i = 0; i < 2; i++) {
+        counts[i] = sagepliers_solve(questions + i * QUESTION_WORDS, QUESTION_WORDS, own->steps[i], SAGEPLIERS_ROOM);
+        if (counts[i] >= SAGEPLIERS_REFUSED)
+            return counts[i];
+    }
+    return sagepliers_compose(own->steps[0], (size_t)counts[0], own->steps[1], (size_t)counts[1], own->answer, room);
+}
 
 static void call(const struct row *row, int shared, struct buffers *own, uint32_t pattern)
 {
@@ -110,20 +152,30 @@ static void call(const struct row *row, int shared, struct buffers *own, uint32_
     switch (row->service) {
     case SOLVE: own->result = sagepliers_solve(sheet, row->count, own->answer, row->room); break;
     case KERNEL: own->result = sagepliers_kernel(sheet, row->count, own->answer, row->room); break;
+    case COMPOSE:
+        own->result = sagepliers_compose(sheet, FIRST_WORDS, sheet + FIRST_WORDS, row->count - FIRST_WORDS, own->answer, row->room);
+        break;
+    case STEPS: own->result = in_steps(sheet, own, row->room); break;
     case CHECK: own->result = sagepliers_check(own->bytes, 4 * row->count); break;
     case PUSH: own->result = sagepliers_push(own->bytes, 4 * row->count, row->point); break;
     case NAME: own->result = sagepliers_name(own->sheet[0], own->sheet[1], own->sheet[2]); break;
     }
 }
 
-/* Whether the last call gave what document 01 prints, wrote no word beyond its count and left the sheet as it was. */
+/* Whether the service has an answer in words. */
+static int has_words(enum service service)
+{
+    return service == SOLVE || service == KERNEL || service == COMPOSE || service == STEPS;
+}
+
+/* Whether the last call gave what the documents print, wrote no word beyond its count and left the sheet as it was. */
 static int as_printed(const struct row *row, const struct buffers *own, uint32_t pattern)
 {
     if (own->result != row->result || memcmp(own->sheet, row->words, sizeof own->sheet) != 0)
         return 0;
     if (memcmp(own->answer + row->from, row->printed, row->printed_count * sizeof(uint32_t)) != 0)
         return 0;
-    int writes = (row->service == SOLVE || row->service == KERNEL) && own->result < SAGEPLIERS_REFUSED;
+    int writes = has_words(row->service) && own->result < SAGEPLIERS_REFUSED;
     for (size_t i = writes ? (size_t)own->result : 0; i < SAGEPLIERS_ROOM + GUARD; i++)
         if (own->answer[i] != pattern)
             return 0;
@@ -135,7 +187,7 @@ static int same(const struct row *row, const struct buffers *one, const struct b
 {
     if (one->result != other->result)
         return 0;
-    if ((row->service != SOLVE && row->service != KERNEL) || one->result >= SAGEPLIERS_REFUSED)
+    if (!has_words(row->service) || one->result >= SAGEPLIERS_REFUSED)
         return 1;
     return memcmp(one->answer, other->answer, (size_t)one->result * sizeof(uint32_t)) == 0;
 }
@@ -203,7 +255,7 @@ int main(int argc, char **argv)
     for (size_t k = 0; k < ROWS; k++) {
         call(&rows[k], 0, &before[k], 0x5a5a5a5au);
         if (!as_printed(&rows[k], &before[k], 0x5a5a5a5au)) {
-            printf("one thread: %s: not what document 01 prints (result %" PRIx64 ")\n", rows[k].name, before[k].result);
+            printf("one thread: %s: not what the documents print (result %" PRIx64 ")\n", rows[k].name, before[k].result);
             failed = 1;
         }
     }
@@ -214,6 +266,11 @@ int main(int argc, char **argv)
         printf("one thread: %s: not the multiplication by 15\n", large[i].name);
         failed = 1;
     }
+    for (size_t i = 0; i < LARGE; i += 2)
+        if (!same(&large[i], &before_large[i], &before_large[i + 1])) {
+            printf("one thread: %s: other words than %s\n", large[i + 1].name, large[i].name);
+            failed = 1;
+        }
     if (failed)
         return 1;
 
@@ -243,6 +300,6 @@ int main(int argc, char **argv)
         printf("%lu calls were made\n", calls);
         return 1;
     }
-    printf("%d threads, %d rows and two of degree 225, %lu calls: all as expected and as in one thread\n", THREADS, (int)ROWS, calls);
+    printf("%d threads, %d rows and four of degree 225, %lu calls: all as expected and as in one thread\n", THREADS, (int)ROWS, calls);
     return 0;
 }

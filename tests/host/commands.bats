@@ -92,6 +92,94 @@ load common
     gives 1 "$(refusal 11)" kernel 1009 1 3 3 -22 1
 }
 
+@test "compose: request E1's two steps are the marked sheet of degree 9, in every view" {
+    gives 0 "$degree_9_text" compose first.bin second.bin
+    # shellcheck disable=SC2086
+    gives 0 "$(printf '%s\n' $degree_9)" compose --hex first.bin second.bin
+    gives 0 "$(printf '%s' '{"form":"certificate","p":1009,"domain":[1,3],"codomain":[81,169],"degree":9,"sigma":0,"g":[336,12,2,0,1],' \
+        '"N":[743,873,144,468,937,30,721,997,0,1],"rational":1}')" compose --json first.bin second.bin
+    gives 0 '' compose -q first.bin second.bin
+    # The words of the two sheets that the documents do not print: N by R2 and the count of roots, by PARI/GP.
+    for given in '265 3 871 x+69 second' '1 9 0 x^4+2*x^2+12*x+336 degree_9'; do
+        read -r a l sigma g name <<<"$given"
+        b=$([ "$a" = 1 ] && echo 3 || echo 877)
+        echo "g = Mod(1, 1009)*($g); h = g'; f = x^3 + $a*x + $b; n = ($l*x - $sigma)*g^2 - 2*(3*x^2 + $a)*g*h - 4*f*(g*h' - h^2);
+              values = concat([[1009, $a, $b, 81, 169, $l, $sigma], Vecrev(lift(g)), Vecrev(lift(n)), [#polrootsmod(lift(g), 1009)]]);
+              print(strjoin(values, \" \"))" | gp -q -f >pari.txt
+        sagepliers show -o - pari.txt | cmp - "$name.bin"
+    done
+}
+
+@test "compose: -o writes the bytes, and a refusal leaves the file as it was" {
+    gives 0 "$degree_9_text" compose first.bin second.bin -o out.bin
+    cmp out.bin degree_9.bin
+    gives 1 "second.bin and first.bin: $(refusal 13)" compose second.bin first.bin -o out.bin
+    cmp out.bin degree_9.bin
+    gives 1 "question.bin: $(refusal 6)" compose first.bin question.bin -o out.bin
+    cmp out.bin degree_9.bin
+    gives 1 "second.bin and first.bin: $(refusal 13)" compose second.bin first.bin -o new.bin
+    [ ! -e new.bin ]
+    gives 0 '' compose -q first.bin second.bin --output=quiet.bin
+    cmp quiet.bin degree_9.bin
+    sagepliers compose first.bin second.bin -o - >out.bin
+    cmp out.bin degree_9.bin
+    run --separate-stderr sagepliers compose second.bin first.bin -o -
+    [ "$status" -eq 1 ]
+    [ -z "$output" ]
+    [ "$stderr" = "sagepliers: second.bin and first.bin: $(refusal 13)" ] || say "$stderr"
+    # All is read before anything is written.
+    cp first.bin both.bin
+    gives 0 "$degree_9_text" compose both.bin second.bin -o both.bin
+    cmp both.bin degree_9.bin
+}
+
+@test "compose: certificates in bytes, hexadecimal and decimal, and one of them in standard input" {
+    # shellcheck disable=SC2086
+    printf '%s\n' $first >first.hex
+    echo '1009 265 877 81 169 3 -138 69 1 394 560 138 1 1' >second.txt
+    gives 0 "$degree_9_text" compose first.hex second.txt
+    gives 0 "$degree_9_text" compose --input=bytes first.bin second.bin
+    fails 'second.txt: this looks like decimal text' compose --input=bytes first.bin second.txt
+    [ "$(sagepliers compose - second.txt <first.hex)" = "$degree_9_text" ]
+    [ "$(sagepliers compose first.bin - <second.bin)" = "$degree_9_text" ]
+    [ "$(sagepliers solve -o - 1009 265 877 81 169 3 871 | sagepliers compose first.bin -)" = "$degree_9_text" ]
+    run --separate-stderr sagepliers compose - first.bin <second.bin
+    [ "$status" -eq 1 ]
+    [ "$output" = "standard input and first.bin: $(refusal 13)" ] || say "$output"
+    run --separate-stderr sagepliers compose first.bin - --json <question.bin
+    [ "$status" -eq 1 ]
+    [ "$output" = '{"file":"-","result":"refused","number":6,"meaning":"the remaining words are not exactly those of the sheet"}' ] || say "$output"
+    fails 'standard input can be only one of the certificates' compose - - </dev/null
+}
+
+# Multiplication by m on y^2 = x^3 + A x + B goes to (m^4 A, m^6 B), once it is normalized, with degree m^2 and kernel sum 0; and by 3, then by m, is by 3 m.
+@test "compose: three files and more, from the left" {
+    sagepliers solve -q -o three.bin 1009 81 169 $((81 * 81)) $((169 * 729)) 9 0
+    sagepliers solve -q -o nine.bin 1009 1 3 $((81 * 81)) $((3 * 729 * 729)) 81 0
+    gives 0 '' compose -q first.bin second.bin three.bin -o out.bin
+    cmp out.bin nine.bin
+    sagepliers compose -q second.bin three.bin -o tail.bin
+    gives 0 '' compose -q first.bin tail.bin -o out.bin
+    cmp out.bin nine.bin
+    gives 0 'out.bin: passes' check out.bin
+    # The same points by the one map and by the three in turn.
+    read -r u v <<<"$(sagepliers push first.bin 1008 1 | sed 's/.*-> (\(.*\), \(.*\))/\1 \2/')"
+    read -r u v <<<"$(sagepliers push second.bin "$u" "$v" | sed 's/.*-> (\(.*\), \(.*\))/\1 \2/')"
+    gives 0 "(1008, 1) -> ($u, $v)" push degree_9.bin 1008 1
+    image=$(sagepliers push three.bin "$u" "$v" | sed 's/.*-> //')
+    gives 0 "(1008, 1) -> $image" push out.bin 1008 1
+    # Which files do not go together.
+    gives 1 "second.bin and first.bin: $(refusal 13)" compose first.bin second.bin first.bin three.bin
+    gives 1 "question.bin: $(refusal 6)" compose first.bin second.bin question.bin
+    gives 1 '{"files":[{"file":"second.bin"},{"file":"first.bin"}],"result":"refused","number":13,"meaning":"'"$(meaning 13)"'"}' \
+        compose --json first.bin second.bin first.bin
+    # 9 * 9 * 9 is too much, though 9 * 9 is not.
+    sagepliers solve -q -o third.bin 1009 $((81 * 81)) $((169 * 729)) $((81 * 81 * 81)) $((169 * 729 * 729)) 9 0
+    gives 0 '' compose -q three.bin third.bin
+    gives 1 "degree_9.bin, three.bin and third.bin: $(refusal 14)" compose degree_9.bin three.bin third.bin
+    gives 1 '' compose -q degree_9.bin three.bin third.bin
+}
+
 @test "push: points, infinity, points of the kernel, and pairs that are no points" {
     gives 0 '(1008, 1) -> (617, 44)
 infinity -> infinity' push first.bin 1008 1 infinity
@@ -166,6 +254,7 @@ question.bin: $(refusal 6)
     fails 'refusal.txt: this looks like text, and not like a sheet' solve refusal.txt
     fails 'refusal.txt: this looks like text, and not like a sheet' push refusal.txt 1008 1
     fails 'refusal.txt: this looks like text, and not like a sheet' show refusal.txt
+    fails 'refusal.txt: this looks like text, and not like a sheet' compose first.bin refusal.txt
     printf ' \n' >blank.txt
     fails 'not like a sheet' check blank.txt
     printf 'Grüße\n' >utf8.txt
@@ -315,6 +404,10 @@ g = 5*x' show --form=kernel 1009 0 1 3 0 5
     fails '-1009 has no place in a word' solve -1009 1 3 265 877 3 46
     fails '4294967296 is no number' solve 4294967296 1 3 265 877 3 46
     fails '5 numbers' kernel 1009 1 3 3 1
+    fails '0 files; wanted are two certificates or more' compose
+    fails '1 file; wanted are two certificates or more' compose first.bin
+    fails "unrecognized option '--words'" compose --words first.bin second.bin
+    fails '--input=words' compose --input=words first.bin second.bin
     fails 'a certificate and points are missing' push
     fails 'points are missing' push first.bin
     fails 'has no v' push first.bin 1008
@@ -337,9 +430,9 @@ g = 5*x' show --form=kernel 1009 0 1 3 0 5
     run --separate-stderr sagepliers --version
     [ "$status" -eq 0 ]
     [ "${lines[0]}" = "sagepliers $SAGEPLIERS_VERSION" ]
-    [[ $output == *'every function behind its five entries is proved'*"toolchain $SAGEPLIERS_TOOLCHAIN"* ]]
+    [[ $output == *'every function behind its six entries is proved'*"toolchain $SAGEPLIERS_TOOLCHAIN"* ]]
     [[ $output == *'not proved'* ]]
-    for name in solve kernel check push name show; do
+    for name in solve kernel compose check push name show; do
         run --separate-stderr sagepliers --help
         [ "$status" -eq 0 ]
         [[ $output == *"  $name  "* ]]

@@ -30,6 +30,13 @@ g = x
 N = x^3 + 4
 rational abscissas: 1'
 
+degree_9_text='certificate: p = 1009, degree 9, kernel sum 0
+domain: y^2 = x^3 + x + 3
+codomain: y^2 = x^3 + 81*x + 169
+g = x^4 + 2*x^2 + 12*x + 336
+N = x^9 + 997*x^7 + 721*x^6 + 30*x^5 + 937*x^4 + 468*x^3 + 144*x^2 + 873*x + 743
+rational abscissas: 1'
+
 # The refusals in words, by their numbers.
 meaning() {
     case $1 in
@@ -45,6 +52,8 @@ meaning() {
     10) echo 'rule R3 does not hold' ;;
     11) echo 'there is no answer: nothing meets the rules' ;;
     12) echo 'the point is not one of the domain' ;;
+    13) echo 'the two certificates have different primes, or the first codomain is not the second domain' ;;
+    14) echo 'the product l of the degrees is above 255, or 2 l - 1 is not below p' ;;
     esac
 }
 
@@ -93,6 +102,8 @@ setup() {
     # shellcheck disable=SC2086
     {
         words $first >first.bin
+        words $second >second.bin
+        words $degree_9 >degree_9.bin
         words $header f0000000 >question.bin
         words 1000000b 20000000 30000001 60000003 80000000 80000001 f0000000 >kernel.bin
     }

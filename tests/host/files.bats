@@ -3,12 +3,14 @@ load common
 
 @test "files that cannot be read: missing, a folder, nobody's" {
     mkdir folder
-    for command in 'check missing' 'solve missing' 'kernel missing' 'show missing' 'push missing 1 1'; do
+    for command in 'check missing' 'solve missing' 'kernel missing' 'show missing' 'push missing 1 1' 'compose missing first.bin' \
+        'compose first.bin missing' 'compose question.bin first.bin missing'; do
         # shellcheck disable=SC2086
         fails 'missing: No such file or directory' $command
     done
     fails 'folder: Is a directory' solve folder
     fails 'folder: Is a directory' push folder 1008 1
+    fails 'folder: Is a directory' compose first.bin folder
     fails ': No such file or directory' check ''
     fails 'there is no file to check' check folder
     fails 'there is no file to check' check --match '*.none' .
@@ -205,6 +207,12 @@ PY
     gives 0 '' solve -q -o -23 ./1009
     [ "$(sagepliers check -23)" = '-23: passes' ]
     gives 1 "$(refusal 6)" push infinity 1 1
+    cp ../first.bin -- -5
+    gives 1 "\$'bad\\377\\376': $(refusal 6)" compose -5 $'bad\xff\xfe'
+    gives 1 "-5 and -23: $(refusal 13)" compose -5 -23
+    gives 0 '' compose -q -5 ../second.bin -o -7
+    cmp ./-7 ../degree_9.bin
+    gives 1 '{"file":"bad\ufffd\ufffd","file_hex":"626164fffe","result":"refused","number":6,"meaning":"'"$(meaning 6)"'"}' compose --json -5 $'bad\xff\xfe'
 }
 
 @test "names in JSON: escaped, and with their bytes where they are no UTF-8" {
@@ -232,6 +240,7 @@ PY
 
 @test "a full disk" {
     for command in 'solve 1009 1 3 265 877 3 46' 'solve 1009 1 3 265 877 3 46 -o -' 'solve 1009 1 3 265 877 3 48' 'kernel kernel.bin' 'check first.bin' \
+        'compose first.bin second.bin' 'compose second.bin first.bin' 'compose first.bin second.bin -o -' \
         'check question.bin' 'check --json first.bin' 'push first.bin 1008 1' 'name 1009 1 3' 'show first.bin' \
         '--help' '--version' 'check --help' 'show --usage'; do
         got=0
@@ -242,6 +251,7 @@ PY
     done
     fails 'cannot write /dev/full: No space left on device' solve 1009 1 3 265 877 3 46 -o /dev/full
     fails 'cannot write /dev/full: No space left on device' show first.bin -o /dev/full
+    fails 'cannot write /dev/full: No space left on device' compose first.bin second.bin -o /dev/full
     fails 'cannot write no/file: No such file or directory' kernel kernel.bin -o no/file
     fails 'cannot write .: Is a directory' kernel kernel.bin -o .
     # Quiet answers need no disk.

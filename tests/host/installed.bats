@@ -8,7 +8,7 @@ flags() {
 strict='-std=c11 -Wall -Wextra -Wpedantic -Wconversion -Werror'
 
 @test "both libraries have the entries, and nothing else to see" {
-    printf 'sagepliers_%s\n' check kernel meaning name push solve >wanted
+    printf 'sagepliers_%s\n' check compose kernel meaning name push solve >wanted
     nm -g --defined-only "$PREFIX/lib/libsagepliers.a" | awk '$2 == "T" { print $3 }' | sort >got
     diff wanted got
     nm -D --defined-only "$PREFIX/lib/libsagepliers.so" | awk '$2 == "T" { sub("@@.*", "", $3); print $3 }' | sort >got
@@ -62,6 +62,8 @@ strict='-std=c11 -Wall -Wextra -Wpedantic -Wconversion -Werror'
         [ "$(./solve_$link)" = "$(printf '%s\n' $first)" ]
         # shellcheck disable=SC2086
         [ "$(./kernel_$link)" = "$(printf '%s\n' $over_11)" ]
+        # shellcheck disable=SC2086
+        [ "$(./compose_$link)" = "$(printf '%s\n' $degree_9)" ]
         [ "$(./name_$link)" = 269 ]
         [ "$(./host_$link first.bin 1008 1)" = 'the certificate passes; rational abscissas: 1 of 1
 (1008, 1) goes to (617, 44)' ]
@@ -76,6 +78,7 @@ strict='-std=c11 -Wall -Wextra -Wpedantic -Wconversion -Werror'
     [ "$status" -eq 0 ] || say "$output"
     [ "$output" = "solve: 15 words, rational abscissas: 1
 kernel: 15 words
+compose: 24 words, degree 9, rational abscissas: 1
 check: 0
 push: (617, 44)
 name: 269
@@ -87,7 +90,7 @@ meaning of 10: $(meaning 10)" ] || say "$output"
 #include <sagepliers.h>
 #include <cstdio>
 int main() {
-    for (uint32_t i = 0; i <= 13; i++) std::puts(sagepliers_meaning(i));
+    for (uint32_t i = 0; i <= 15; i++) std::puts(sagepliers_meaning(i));
     std::puts(sagepliers_meaning(UINT32_MAX));
     std::puts(SAGEPLIERS_VERSION);
 }
@@ -97,7 +100,7 @@ CPP
     ./meanings >got
     {
         echo 'nothing is refused'
-        for i in 1 2 3 4 5 6 7 8 9 10 11 12; do meaning $i; done
+        for i in $(seq 14); do meaning "$i"; done
         echo 'no refusal has this number'
         echo 'no refusal has this number'
         flags --modversion
@@ -111,7 +114,7 @@ CPP
     cmp "$ROOT/host/sagepliers.1" "$PREFIX/share/man/man1/sagepliers.1"
     LC_ALL=C man --warnings -l page >shown 2>warnings
     [ ! -s warnings ] || say "$(cat warnings)"
-    for name in solve kernel check push name show; do
+    for name in solve kernel compose check push name show; do
         grep -q "Usage: sagepliers $name" shown
     done
 }
@@ -130,6 +133,9 @@ completes() {
     source "$PREFIX/share/bash-completion/completions/sagepliers"
     [ "$(completes sagepliers s)" = 'solve show' ]
     [ "$(completes sagepliers che)" = check ]
+    [ "$(completes sagepliers co)" = compose ]
+    [ "$(completes sagepliers compose fi)" = first.bin ]
+    [ "$(completes sagepliers compose first.bin se)" = second.bin ]
     [ "$(completes sagepliers check --jo)" = --jobs ]
     [ "$(completes sagepliers check --input = h)" = hex ]
     [ "$(completes sagepliers check fi)" = first.bin ]
@@ -137,7 +143,7 @@ completes() {
     [ "$(completes sagepliers show --form k)" = kernel ]
     [ -z "$(completes sagepliers name fi)" ]
     # Every long option of every help text, and no other.
-    for name in solve kernel check push name show; do
+    for name in solve kernel compose check push name show; do
         sagepliers $name --help | grep -o -e '--[a-z0-9]*' | sort -u >wanted
         completes sagepliers $name -- | tr ' ' '\n' | sort -u >got
         diff wanted got || say "options of $name"

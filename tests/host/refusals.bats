@@ -89,6 +89,77 @@ pari_sheet() {
     gives 1 "$(refusal 11)" kernel 11 0 1 3 10 1
 }
 
+# compose_refuses NUMBER WORDS..: whichever of the two is damaged is named; of two damaged ones it is the first.
+compose_refuses() {
+    local number=$1
+    shift
+    words "$@" >damaged.bin
+    gives 1 "damaged.bin: $(refusal "$number")" compose damaged.bin second.bin
+    gives 1 "damaged.bin: $(refusal "$number")" compose first.bin damaged.bin
+    gives 1 "damaged.bin: $(refusal "$number")" compose damaged.bin question.bin
+}
+
+@test "compose: 2 to 10 of the first certificate, then of the second" {
+    each_refused compose_refuses
+    gives 1 "question.bin: $(refusal 6)" compose question.bin kernel.bin
+    gives 1 "kernel.bin: $(refusal 2)" compose kernel.bin question.bin
+    head -c 59 first.bin >short.bin
+    gives 1 "short.bin: $(refusal 2)" compose short.bin second.bin
+    gives 1 "short.bin: $(refusal 2)" compose first.bin short.bin
+    gives 1 "question.bin: $(refusal 6)" compose question.bin short.bin
+    { cat second.bin && printf '\0'; } >long.bin
+    gives 1 "long.bin: $(refusal 2)" compose first.bin long.bin
+    : >empty.bin
+    gives 1 "empty.bin: $(refusal 2)" compose first.bin empty.bin
+    gives 1 "empty.bin: $(refusal 2)" compose empty.bin empty.bin
+    gives 1 '{"file":"question.bin","result":"refused","number":6,"meaning":"the remaining words are not exactly those of the sheet"}' \
+        compose --json first.bin question.bin
+}
+
+@test "compose: 13 and 14, in this order" {
+    # shellcheck disable=SC2086
+    {
+        words $over_11 >over_11.bin
+        words $next_over_11 >next_over_11.bin
+    }
+    # Both values differ; A alone; B alone, where 14 would fail too; p alone, with (0, 6) over 13.
+    gives 1 "first.bin and first.bin: $(refusal 13)" compose first.bin first.bin
+    gives 1 "second.bin and first.bin: $(refusal 13)" compose second.bin first.bin
+    sagepliers solve -q -o other.bin 1009 1 877 81 $((877 * 729)) 9 0
+    gives 1 "first.bin and other.bin: $(refusal 13)" compose first.bin other.bin
+    gives 1 "over_11.bin and over_11.bin: $(refusal 13)" compose over_11.bin over_11.bin
+    sagepliers kernel -q -o over_13.bin 13 0 6 3 0 1
+    gives 1 "over_11.bin and over_13.bin: $(refusal 13)" compose over_11.bin over_13.bin
+    # 2 * 9 - 1 is not below 11; each of the two passes, and they meet.
+    gives 0 '2 files: 2 pass, 0 refused' check over_11.bin next_over_11.bin
+    gives 1 "over_11.bin and next_over_11.bin: $(refusal 14)" compose over_11.bin next_over_11.bin
+    gives 1 "{\"files\":[{\"file\":\"over_11.bin\"},{\"file\":\"next_over_11.bin\"}],\"result\":\"refused\",\"number\":14,\"meaning\":\"$(meaning 14)\"}" \
+        compose --json over_11.bin next_over_11.bin
+    gives 1 "next_over_11.bin and over_11.bin: $(refusal 13)" compose next_over_11.bin over_11.bin
+}
+
+@test "compose: 14 at its bounds" {
+    # By 3 and by 5 is by 15, of degree 225, which is at most 255. 2 * 225 - 1 = 449 is a prime, and 457 is the next.
+    for p in 457 449; do
+        sagepliers solve -q -o three.bin $p 1 3 81 $((3 * 729)) 9 0
+        sagepliers solve -q -o five.bin $p 81 $((3 * 729)) $((81 * 625)) $((3 * 729 * 15625)) 25 0
+        sagepliers solve -q -o fifteen.bin $p 1 3 $((81 * 625)) $((3 * 729 * 15625)) 225 0 || [ $p = 449 ]
+        if [ $p = 457 ]; then
+            gives 0 '' compose -q three.bin five.bin -o out.bin
+            cmp out.bin fifteen.bin
+        else
+            gives 1 "three.bin and five.bin: $(refusal 14)" compose three.bin five.bin
+        fi
+    done
+    # A large prime forbids nothing: 3 and 5 again, but 5 and 5 make 625.
+    p=268435399
+    sagepliers solve -q -o five.bin $p 1 3 625 $((3 * 15625)) 25 0
+    sagepliers solve -q -o three.bin $p 625 $((3 * 15625)) $((625 * 81)) $((3 * 15625 * 729)) 9 0
+    sagepliers solve -q -o again.bin $p 625 $((3 * 15625)) $((625 * 625)) $((3 * 15625 * 15625 % p)) 25 0
+    gives 0 '' compose -q five.bin three.bin
+    gives 1 "five.bin and again.bin: $(refusal 14)" compose five.bin again.bin
+}
+
 @test "name: 3, 5 and 7, for all of 32 bits" {
     gives 1 "$(refusal 3)" name 1001 1 3
     gives 1 "$(refusal 3)" name 268435456 1 3
