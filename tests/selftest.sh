@@ -39,14 +39,21 @@ must_find() {
     fi
 }
 
-for fault in $faults; do must_find "$fault" --quick; done
+# The groups that can find a fault; with no name it is any group.
+groups_of() {
+    case $1 in
+    *compose*) echo composition ;;
+    esac
+}
+
+for fault in $faults; do must_find "$fault" --quick --only "$(groups_of "$fault")"; done
 # What the quick form leaves out.
 must_find divisors-below-root --only 'every p'
 # Where every answer is taken for right, the watch on certificates has to do without expectations.
 for watched in 'factor- gcd(g, ' 'counted- [0-9]* abscissas are rational, and not '; do
     named=$(printf '%s\n' "$faults" | grep "^${watched%% *}") || fail "there is no fault ${watched%% *} for the watch on certificates"
     for fault in $named; do
-        must_find "$fault" --quick --watch-only
+        must_find "$fault" --quick --watch-only --only "$(groups_of "$fault")"
         grep -q "^  certificate: ${watched#* }" "$log" || fail "$fault: it was not the watch that found it"
     done
 done

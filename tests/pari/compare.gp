@@ -1,9 +1,9 @@
 \\ Computes with PARI what the library answered, for the calls that the driver writes: isogeny for each kernel, then goes for points through that
-\\ isogeny, beyond for certificates that question 4 alone refuses, parts for the N of any g, name for curves, permitted for primes, and finish with how
-\\ many of each there must have been. The last line is the verdict.
+\\ isogeny, composed for two kernels after the isogeny that is to be made of them, beyond for certificates that question 4 alone refuses, parts for the N
+\\ of any g, name for curves, permitted for primes, and finish with how many of each there must have been. The last line is the verdict.
 
 differences = 0;
-isogenies = points = infinities = refused = sums = names = numbers = 0;
+isogenies = points = infinities = compositions = refused = sums = names = numbers = 0;
 
 differs(what) = {
   differences++;
@@ -51,6 +51,20 @@ isogeny(p, a, b, at, bt, l, sigma, g, n, count) = {
   if (-2 * polcoef(G, (l - 3) / 2) != sigma * one, differs(["sigma", here]));
   free((x^3 + a * x + b) * one, G, N, l);
   counted(G, p, count);
+};
+
+\\ Request E1: the isogenies with these kernel polynomials, the second from where the first ends, composed by PARI. The last isogeny has to be the same map
+\\ with the same codomain. Points go through the composed one from now on.
+composed(p, a, b, kernels, at, bt) = {
+  my(one = Mod(1, p), first, second, last = map);
+  compositions++;
+  first = ellisogeny(ellinit([a, b], p), Polrev(kernels[1]) * one);
+  second = ellisogeny(ellinit(first[1], p), Polrev(kernels[2]) * one);
+  map = ellisogenyapply(second[2], first[2]);
+  if (second[1] != [0, 0, 0, at, bt] * one, differs(["composed codomain", here, kernels]));
+  if (map[1] * last[3]^2 != last[1] * map[3]^2, differs(["composed abscissa", here, kernels]));
+  if (map[2] * last[3]^3 != last[2] * map[3]^3, differs(["composed ordinate", here, kernels]));
+  if (poldegree(map[1]) - 2 * poldegree(map[3]) != 1 || map[3] / pollead(map[3]) != last[3], differs(["composed kernel", here, kernels]));
 };
 
 \\ The point P must go to Q through the last isogeny.
@@ -102,9 +116,9 @@ permitted(m, n, list) = {
   if (list != if (from <= to, primes([from, to]), []), differs(["primes", m, n]));
 };
 
-finish(i, m, f, r, s, k, n) = {
-  if ([isogenies, points, infinities, refused, sums, names, numbers] != [i, m, f, r, s, k, n], differs("the script was cut short"));
+finish(counts, n) = {
+  if ([isogenies, points, infinities, compositions, refused, sums, names] != counts || numbers != n, differs("the script was cut short"));
   print("PARI/GP ", strjoin(apply(n -> Str(n), version()[1..3]), "."), ": ", isogenies, " kernels, ", points, " points, ", infinities, " of them to infinity, ",
-    refused, " certificates beyond question 4, ", sums, " times the parts of N, ", names, " names, ", numbers, " numbers prime or not: ", differences,
-    " differences");
+    compositions, " compositions, ", refused, " certificates beyond question 4, ", sums, " times the parts of N, ", names, " names, ",
+    numbers, " numbers prime or not: ", differences, " differences");
 };

@@ -1,24 +1,25 @@
 //! Which outcomes the cases expected: for each entry, how often it had to
 //! accept and how often each number had to be given. A run of all groups in
-//! which an outcome of document 01 never came up would say too little, and one in
-//! which another came up would say something wrong.
+//! which an outcome of documents 01 and 02 never came up would say too little, and one
+//! in which another came up would say something wrong.
 
 use reference::call::{Call, Reply, REFUSED};
 
 /// Each entry with the questions that can stop it. Since request E2 question 5 stops
 /// neither solve nor kernel.
-const ENTRIES: [(&str, &[usize]); 5] = [
+const ENTRIES: [(&str, &[usize]); 6] = [
     ("check", &[2, 3, 4, 5, 6, 7, 8, 9, 10]),
     ("push", &[2, 3, 4, 5, 6, 7, 8, 9, 10, 12]),
     ("solve", &[1, 2, 3, 4, 6, 7, 11]),
     ("kernel", &[1, 2, 3, 4, 6, 7, 8, 11]),
     ("name", &[3, 5, 7]),
+    ("compose", &[1, 2, 3, 4, 5, 6, 7, 8, 9, 10, 13, 14]),
 ];
 
 /// Counts by entry and number; number 0 stands for accepting.
 #[derive(Clone, Default)]
 pub struct Coverage {
-    counts: [[u64; 13]; 5],
+    counts: [[u64; 15]; ENTRIES.len()],
 }
 
 impl Coverage {
@@ -30,6 +31,7 @@ impl Coverage {
             Call::Solve { .. } => (2, refused),
             Call::Kernel { .. } => (3, refused),
             Call::Name { .. } => (4, refused),
+            Call::Compose { .. } => (5, refused),
         };
         self.counts[entry][number as usize] += 1;
     }

@@ -8,6 +8,14 @@ extern "C" {
     fn sagepliers_solve(sheet: *const u32, words: usize, answer: *mut u32, room: usize) -> u64;
     fn sagepliers_kernel(sheet: *const u32, words: usize, answer: *mut u32, room: usize) -> u64;
     fn sagepliers_name(p: u32, a: u32, b: u32) -> u64;
+    fn sagepliers_compose(
+        first: *const u32,
+        first_words: usize,
+        second: *const u32,
+        second_words: usize,
+        answer: *mut u32,
+        room: usize,
+    ) -> u64;
 }
 
 /// 0, or the number of the first "no".
@@ -40,4 +48,21 @@ pub fn kernel(sheet: &[u32], answer: &mut [u32]) -> u64 {
 pub fn name(p: u32, a: u32, b: u32) -> u64 {
     // SAFETY: numbers only.
     unsafe { sagepliers_name(p, a, b) }
+}
+
+/// The count of words written, or 2^57 plus the number of the first "no". The two sheets
+/// may be one and the same.
+pub fn compose(first: &[u32], second: &[u32], answer: &mut [u32]) -> u64 {
+    let (room, start) = (answer.len(), answer.as_mut_ptr());
+    // SAFETY: the answer overlaps neither sheet and is writable, the sheets are readable.
+    unsafe {
+        sagepliers_compose(
+            first.as_ptr(),
+            first.len(),
+            second.as_ptr(),
+            second.len(),
+            start,
+            room,
+        )
+    }
 }

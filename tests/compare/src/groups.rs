@@ -3,6 +3,7 @@
 pub mod abscissas;
 pub mod almost;
 pub mod certificates;
+pub mod composition;
 pub mod damage;
 pub mod document;
 pub mod hostile;
@@ -44,6 +45,7 @@ pub fn all(options: &Options) -> Vec<Group> {
     groups.extend(by_sieve(options.quick));
     groups.extend(by_search(options.quick));
     groups.extend(by_generation(options.quick));
+    groups.extend(by_composition(options.quick, options.count));
     groups.extend(by_chance(options.count));
     groups
 }
@@ -127,6 +129,44 @@ fn by_generation(quick: bool) -> Vec<Group> {
         ("names", limits::names),
     ];
     groups.extend(others.map(|(name, run)| group(name, move |judge| run(judge, quick))));
+    groups
+}
+
+/// Request E1. A fortieth as many cases as the random ones are its own and as random.
+fn by_composition(quick: bool, count: u64) -> Vec<Group> {
+    let named: [(&str, WithQuick); 7] = [
+        ("order", composition::order),
+        ("rooms", |judge, _| composition::rooms(judge)),
+        ("meeting", composition::meeting),
+        ("products", composition::products),
+        ("duals", composition::duals),
+        ("steps", composition::steps),
+        ("damage", composition::damage),
+    ];
+    let mut groups: Vec<Group> = Vec::new();
+    groups.extend(named.map(|(name, run)| {
+        group(format!("composition, {name}"), move |judge| {
+            run(judge, quick)
+        })
+    }));
+    groups.extend(composition::primes(quick).into_iter().map(|p| {
+        group(format!("composition p={p}"), move |judge| {
+            composition::over(judge, p, quick);
+        })
+    }));
+    groups.push(group("composition, least primes", move |judge| {
+        composition::least_primes(judge, quick);
+    }));
+    groups.extend(composition::fields(quick).into_iter().map(|(p, degrees)| {
+        group(format!("composition, every p={p}"), move |judge| {
+            composition::every(judge, p, degrees);
+        })
+    }));
+    groups.extend((0..4).map(|seed| {
+        group(format!("composition, hostile {}", seed + 1), move |judge| {
+            composition::hostile(judge, seed, count / 160);
+        })
+    }));
     groups
 }
 

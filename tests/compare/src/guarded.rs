@@ -18,7 +18,8 @@ extern "C" {
 }
 
 const PROT_NONE: i32 = 0;
-const PROT_READ_WRITE: i32 = 1 | 2;
+const PROT_READ: i32 = 1;
+const PROT_READ_WRITE: i32 = PROT_READ | 2;
 const MAP_PRIVATE_ANONYMOUS: i32 = 0x02 | 0x20;
 
 /// A multiple of every page size that is met in practice.
@@ -56,12 +57,37 @@ impl Guarded {
                 0,
             );
             assert!(start as isize != -1, "mmap failed");
-            let middle = start.cast::<u8>().add(GUARD);
-            let done = mprotect(middle.cast(), size, PROT_READ_WRITE);
-            assert_eq!(done, 0, "mprotect failed");
-            middle
+            start.cast::<u8>().add(GUARD)
         };
-        Guarded { base, size }
+        let guarded = Guarded { base, size };
+        guarded.protect(PROT_READ_WRITE);
+        guarded
+    }
+
+    fn protect(&self, protection: i32) {
+        // SAFETY: exactly the middle of the mapping, which stays readable from now on.
+        let done = unsafe { mprotect(self.base.cast(), self.size, protection) };
+        assert_eq!(done, 0, "mprotect failed");
+    }
+
+    /// Lends a sheet, and says whether it was changed. If it is frozen, nobody can write to
+    /// it, so that a write faults even if what was there is put back.
+    pub fn lend<T>(
+        &mut self,
+        (side, frozen): (Side, bool),
+        sheet: &[u32],
+        run: impl FnOnce(&[u32]) -> T,
+    ) -> (T, bool) {
+        self.words(side, sheet.len()).copy_from_slice(sheet);
+        if frozen {
+            self.protect(PROT_READ);
+        }
+        let result = run(self.words(side, sheet.len()));
+        let changed = self.words(side, sheet.len()) != sheet;
+        if frozen {
+            self.protect(PROT_READ_WRITE);
+        }
+        (result, changed)
     }
 
     fn offset(&self, side: Side, count: usize) -> usize {

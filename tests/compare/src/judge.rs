@@ -1,14 +1,15 @@
 //! Puts calls to the library and compares everything it may touch: the
 //! returned number, every word of the answer buffer, the words around it, and
-//! the sheet, which must stay as it was. Certificates that it writes or lets pass
+//! the sheets, which must stay as they were. Certificates that it writes or lets pass
 //! are watched as requests E12 and E6 want.
 
 use std::sync::atomic::{AtomicBool, AtomicU64, Ordering};
 use std::time::{Duration, Instant};
 
-use reference::call::{Call, Reply, INFINITY};
+use reference::call::{point_number, Call, Reply, INFINITY};
 use reference::random::Random;
-use reference::sheet;
+use reference::services::{self, Point};
+use reference::sheet::{self, Certificate};
 
 use crate::coverage::Coverage;
 use crate::entries;
@@ -50,10 +51,29 @@ pub struct Judge {
     /// Time spent inside the library, with the comparing where the clock is read once for many calls.
     inside: Duration,
     sheet: Guarded,
-    answer: Guarded,
-    /// What the answer buffer holds before a call; two of them, so that no
-    /// word written can pass for an untouched one in both.
+    /// The second sheet of compose.
+    second: Guarded,
+    answer: Answer,
+    /// The number that the last call returned.
+    number: u64,
+    /// How often compose was called, for the turns of its buffers.
+    composed: usize,
+}
+
+/// The answer buffer.
+struct Answer {
+    memory: Guarded,
+    /// What it holds before a call; two of them, so that no word written can pass for an
+    /// untouched one in both.
     patterns: [Vec<u32>; 2],
+}
+
+/// What became of the answer buffer.
+struct Lent<'a> {
+    number: u64,
+    words: Vec<(isize, u32, u32)>,
+    /// As many words as the number says, if there are so many.
+    written: Option<&'a [u32]>,
 }
 
 /// What the library did.
@@ -100,8 +120,13 @@ impl Judge {
             watch: Watch::default(),
             inside: Duration::ZERO,
             sheet: Guarded::new(CAPACITY),
-            answer: Guarded::new(CAPACITY),
-            patterns: [pattern(), pattern()],
+            second: Guarded::new(CAPACITY),
+            answer: Answer {
+                memory: Guarded::new(CAPACITY),
+                patterns: [pattern(), pattern()],
+            },
+            number: 0,
+            composed: 0,
         }
     }
 
@@ -144,6 +169,23 @@ impl Judge {
         self.compare(call, expected, |judge| judge.put(call, expected));
     }
 
+    /// A point that goes through the first map, and what came out through the second, goes
+    /// to the same through the composed map: by the numbers that the entry returned.
+    pub fn in_turn(&mut self, maps: [&Certificate; 2], both: &Certificate, point: Point) {
+        let mut number = point_number(point);
+        let mut at = point;
+        for map in maps {
+            let image = services::image(map, at).expect("a point of its domain");
+            let expected = Reply::number(point_number(image));
+            self.expect(&Call::push(&map.words(), number), &expected);
+            (number, at) = (self.number, image);
+        }
+        if number <= INFINITY {
+            let call = Call::push(&both.words(), point_number(point));
+            self.expect(&call, &Reply::number(number));
+        }
+    }
+
     /// Name is expected to refuse each p, A and B with the number beside them.
     /// The clock is read once for all: twice a call would take longer than most
     /// of these calls.
@@ -163,6 +205,7 @@ impl Judge {
         report::running(call, self.group);
         let seen = put(self);
         report::finished();
+        self.number = seen.number;
         let compared = !WATCH_ONLY.load(Ordering::Relaxed) && seen.differs(expected);
         if compared || !seen.certificate.is_empty() {
             self.report(call, compared.then_some(expected), &seen);
@@ -188,6 +231,11 @@ impl Judge {
             Call::Name { p, a, b } => {
                 Seen::number(timed(&mut self.inside, || entries::name(*p, *a, *b)))
             }
+            Call::Compose {
+                first,
+                second,
+                room,
+            } => self.with_both(first, second, *room, &expected.words),
         }
     }
 
@@ -235,36 +283,60 @@ impl Judge {
         };
         let lent = self.sheet.words(sheet_side, sheet.len());
         lent.copy_from_slice(sheet);
-        // The margin lies on the side that has no guard page.
-        let first = if answer_side == Side::End { MARGIN } else { 0 };
-        let watched = self.answer.words(answer_side, room + MARGIN);
-        let pattern = &self.patterns[self.cases as usize % 2][..room + MARGIN];
-        watched.copy_from_slice(pattern);
-        let lent_answer = &mut watched[first..first + room];
-        let number = timed(&mut self.inside, || entry(lent, lent_answer));
-        let written_end = first + written.len();
-        let as_expected = watched[..first] == pattern[..first]
-            && watched[first..written_end] == *written
-            && watched[written_end..] == pattern[written_end..];
-        let mut words = Vec::new();
-        if !as_expected {
-            for (i, (&got, &before)) in watched.iter().zip(pattern).enumerate() {
-                let answer = i.checked_sub(first).and_then(|i| written.get(i));
-                let wanted = *answer.unwrap_or(&before);
-                if got != wanted {
-                    words.push((i as isize - first as isize, wanted, got));
-                }
-            }
-        }
-        let certificate = match watched[first..first + room].get(..number as usize) {
-            Some(answer) => self.watch.look(name, Ok(answer)),
-            None => Vec::new(),
-        };
+        let turn = self.cases as usize % 2;
+        let seen = self
+            .answer
+            .lend(answer_side, turn, room, written, |answer| {
+                timed(&mut self.inside, || entry(lent, answer))
+            });
+        let look = |words| self.watch.look(name, Ok(words));
         Seen {
-            number,
-            words,
+            number: seen.number,
+            words: seen.words,
             sheet_changed: lent != sheet,
-            certificate,
+            certificate: seen.written.map_or(Vec::new(), look),
+        }
+    }
+
+    /// Compose, with its sheets and its answer on either side of their memory in turn. In a
+    /// fifth of the cases the sheets cannot be written to, which takes time; two that are
+    /// equal are one in half of the cases.
+    fn with_both(&mut self, first: &[u32], second: &[u32], room: usize, written: &[u32]) -> Seen {
+        self.composed += 1;
+        let turn = self.composed;
+        let side = |bit: usize| match turn >> bit & 1 {
+            0 => Side::End,
+            _ => Side::Start,
+        };
+        let once = first == second && turn >> 4 & 1 == 0;
+        let frozen = turn % 5 == 3;
+        let inside = &mut self.inside;
+        let mut entry = |first: &[u32], second: &[u32], answer: &mut [u32]| {
+            timed(inside, || entries::compose(first, second, answer))
+        };
+        let (sheet, other) = (&mut self.sheet, &mut self.second);
+        let mut changed = false;
+        let seen = self
+            .answer
+            .lend(side(2), turn >> 3 & 1, room, written, |answer| {
+                let ((number, second), first) = sheet.lend((side(0), frozen), first, |lent| {
+                    if once {
+                        (entry(lent, lent, answer), false)
+                    } else {
+                        other.lend((side(1), frozen), second, |other| {
+                            entry(lent, other, answer)
+                        })
+                    }
+                });
+                changed = first || second;
+                number
+            });
+        let look = |words| self.watch.look("compose", Ok(words));
+        Seen {
+            number: seen.number,
+            words: seen.words,
+            sheet_changed: changed,
+            certificate: seen.written.map_or(Vec::new(), look),
         }
     }
 
@@ -284,7 +356,7 @@ impl Judge {
             text += &format!("  answer word {i}: expected {wanted:08x}, got {got:08x}\n");
         }
         if expected.is_some() && seen.sheet_changed {
-            text += "  the sheet was changed\n";
+            text += "  a sheet was changed\n";
         }
         for line in &seen.certificate {
             text += &format!("  certificate: {line}\n");
@@ -294,6 +366,45 @@ impl Judge {
         if differences >= ENOUGH.load(Ordering::SeqCst) {
             eprintln!("{differences} differences: stopped");
             std::process::exit(1);
+        }
+    }
+}
+
+impl Answer {
+    /// Lends the buffer, in which one of the patterns stands, and compares every word with
+    /// what it held or with what was to be written.
+    fn lend(
+        &mut self,
+        side: Side,
+        turn: usize,
+        room: usize,
+        written: &[u32],
+        entry: impl FnOnce(&mut [u32]) -> u64,
+    ) -> Lent<'_> {
+        // The margin lies on the side that has no guard page.
+        let first = if side == Side::End { MARGIN } else { 0 };
+        let watched = self.memory.words(side, room + MARGIN);
+        let pattern = &self.patterns[turn][..room + MARGIN];
+        watched.copy_from_slice(pattern);
+        let number = entry(&mut watched[first..first + room]);
+        let written_end = first + written.len();
+        let as_expected = watched[..first] == pattern[..first]
+            && watched[first..written_end] == *written
+            && watched[written_end..] == pattern[written_end..];
+        let mut words = Vec::new();
+        if !as_expected {
+            for (i, (&got, &before)) in watched.iter().zip(pattern).enumerate() {
+                let answer = i.checked_sub(first).and_then(|i| written.get(i));
+                let wanted = *answer.unwrap_or(&before);
+                if got != wanted {
+                    words.push((i as isize - first as isize, wanted, got));
+                }
+            }
+        }
+        Lent {
+            number,
+            words,
+            written: watched[first..first + room].get(..number as usize),
         }
     }
 }

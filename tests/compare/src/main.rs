@@ -133,7 +133,7 @@ fn main() -> ExitCode {
     }
     let whole = options.only.is_empty();
     if whole && !coverage.is_complete() {
-        eprintln!("some outcome of document 01 never came up");
+        eprintln!("some outcome of documents 01 and 02 never came up");
         return ExitCode::FAILURE;
     }
     if whole && !watch.is_complete(options.quick) {

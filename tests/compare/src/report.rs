@@ -80,8 +80,8 @@ pub fn catch_faults() {
     }
 }
 
-fn hex_words(out: &mut dyn Write, words: &[u32]) -> fmt::Result {
-    write!(out, "  sheet of {} words:", words.len())?;
+fn hex_words(out: &mut dyn Write, name: &str, words: &[u32]) -> fmt::Result {
+    write!(out, "  {name} of {} words:", words.len())?;
     words
         .iter()
         .try_for_each(|word| write!(out, " {word:08x}"))?;
@@ -109,14 +109,23 @@ pub fn describe(out: &mut dyn Write, call: &Call) -> fmt::Result {
         }
         Call::Solve { sheet, room } => {
             writeln!(out, "  entry: solve, room {room}")?;
-            hex_words(out, sheet)
+            hex_words(out, "sheet", sheet)
         }
         Call::Kernel { sheet, room } => {
             writeln!(out, "  entry: kernel, room {room}")?;
-            hex_words(out, sheet)
+            hex_words(out, "sheet", sheet)
         }
         Call::Name { p, a, b } => {
             writeln!(out, "  entry: name, p {p:#x}, a {a:#x}, b {b:#x}")
+        }
+        Call::Compose {
+            first,
+            second,
+            room,
+        } => {
+            writeln!(out, "  entry: compose, room {room}")?;
+            hex_words(out, "first sheet", first)?;
+            hex_words(out, "second sheet", second)
         }
     }
 }

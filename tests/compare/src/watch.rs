@@ -10,7 +10,7 @@ use reference::repetition::{common_factors, read_any_degree};
 use reference::sheet::{half, value, Certificate, Refusal};
 
 /// The entries that write certificates or let them pass.
-pub const ENTRIES: [&str; 4] = ["check", "push", "solve", "kernel"];
+pub const ENTRIES: [&str; 5] = ["check", "push", "solve", "kernel", "compose"];
 
 #[derive(Default)]
 pub struct Watch {

@@ -1,6 +1,7 @@
 //! Deliberate faults, one at a time: each is a program that breaks document 01 or
 //! 02 in one way and keeps it otherwise. The comparison must find every one.
 
+mod composition;
 mod numerator;
 mod primes;
 mod rational;
@@ -34,6 +35,8 @@ pub struct Memory<'a> {
     pub reply: &'a Reply,
     pub sheet: *const u8,
     pub bytes: usize,
+    /// The second sheet and its bytes, of compose alone.
+    pub second: Option<(*const u8, usize)>,
     /// The lent answer and its room; check and push have none.
     pub answer: Option<(*mut u32, usize)>,
 }
@@ -286,6 +289,144 @@ pub const FAULTS: &[(&str, Fault)] = &[
     ("read-beyond-bytes", Fault::Memory(read_beyond_bytes)),
     ("read-before-sheet", Fault::Memory(read_before_sheet)),
     ("sheet-changed", Fault::Memory(sheet_changed)),
+    (
+        "counted-composed-first",
+        Fault::Output(composition::counted_of_first),
+    ),
+    (
+        "counted-composed-second",
+        Fault::Output(composition::counted_of_second),
+    ),
+    (
+        "counted-composed-sum",
+        Fault::Output(composition::counted_added_up),
+    ),
+    (
+        "compose-sigma-turned",
+        Fault::Output(composition::sigma_turned),
+    ),
+    (
+        "compose-sigma-unreduced",
+        Fault::Output(composition::sigma_unreduced),
+    ),
+    ("compose-exchanged", Fault::Output(composition::exchanged)),
+    (
+        "compose-cleared-less",
+        Fault::Output(composition::cleared_less),
+    ),
+    (
+        "compose-cleared-more",
+        Fault::Output(composition::cleared_more),
+    ),
+    (
+        "compose-cleared-once",
+        Fault::Output(composition::cleared_once),
+    ),
+    (
+        "compose-kernel-of-second",
+        Fault::Output(composition::kernel_of_second),
+    ),
+    (
+        "compose-codomain-of-first",
+        Fault::Output(composition::codomain_of_first),
+    ),
+    (
+        "compose-domain-of-second",
+        Fault::Output(composition::domain_of_second),
+    ),
+    (
+        "compose-at-one-pair",
+        Fault::Output(composition::at_one_pair),
+    ),
+    (
+        "compose-13-without-a",
+        Fault::Output(composition::without_a),
+    ),
+    (
+        "compose-13-without-b",
+        Fault::Output(composition::without_b),
+    ),
+    (
+        "compose-13-without-p",
+        Fault::Output(composition::without_p),
+    ),
+    ("compose-13-by-name", Fault::Output(composition::by_name)),
+    ("compose-13-turned", Fault::Output(composition::turned)),
+    ("compose-14-unasked", Fault::Output(composition::unasked)),
+    (
+        "compose-14-without-p",
+        Fault::Output(composition::product_without_p),
+    ),
+    ("compose-14-up-to-p", Fault::Output(composition::up_to_p)),
+    ("compose-14-to-254", Fault::Output(composition::to_254)),
+    ("compose-14-to-259", Fault::Output(composition::to_259)),
+    (
+        "compose-14-in-8-bits",
+        Fault::Output(composition::in_8_bits),
+    ),
+    (
+        "compose-14-first",
+        Fault::Output(composition::fourteen_first),
+    ),
+    (
+        "compose-13-before-second",
+        Fault::Output(composition::before_second),
+    ),
+    (
+        "compose-second-first",
+        Fault::Output(composition::second_first),
+    ),
+    (
+        "compose-first-unchecked",
+        Fault::Output(composition::first_unchecked),
+    ),
+    (
+        "compose-second-without-r3",
+        Fault::Output(composition::second_without_r3),
+    ),
+    (
+        "compose-second-uncounted",
+        Fault::Output(composition::second_uncounted),
+    ),
+    ("compose-second-cut", Fault::Input(composition::second_cut)),
+    (
+        "compose-second-reduced",
+        Fault::Input(composition::second_reduced),
+    ),
+    ("compose-room-392", Fault::Input(composition::room_392)),
+    ("compose-room-last", Fault::Output(composition::room_last)),
+    (
+        "compose-room-of-answer",
+        Fault::Output(composition::room_of_answer),
+    ),
+    (
+        "compose-writes-first",
+        Fault::Memory(composition::writes_first),
+    ),
+    (
+        "compose-clears-rest",
+        Fault::Memory(composition::clears_rest),
+    ),
+    (
+        "compose-reads-beyond-first",
+        Fault::Memory(composition::reads_beyond_first),
+    ),
+    (
+        "compose-reads-beyond-second",
+        Fault::Memory(composition::reads_beyond_second),
+    ),
+    (
+        "compose-reads-before-second",
+        Fault::Memory(composition::reads_before_second),
+    ),
+    (
+        "compose-sheets-borrowed",
+        Fault::Memory(composition::sheets_borrowed),
+    ),
+    (
+        "compose-second-changed",
+        Fault::Memory(composition::second_changed),
+    ),
 ];
 
 /// The fault that the environment names, if it names one.
@@ -325,12 +466,14 @@ fn refusal(call: &Call, reply: &Reply) -> u32 {
     }
 }
 
+/// The words of the sheet; of compose those of the first one.
 fn words(call: &Call) -> Vec<u32> {
     match call {
         Call::Check { bytes } | Call::Push { bytes, .. } => {
             sheet::words_of(bytes).unwrap_or_default()
         }
         Call::Solve { sheet, .. } | Call::Kernel { sheet, .. } => sheet.clone(),
+        Call::Compose { first, .. } => first.clone(),
         Call::Name { .. } => Vec::new(),
     }
 }
@@ -349,7 +492,7 @@ fn certificate(call: &Call) -> Option<Certificate> {
     }
 }
 
-/// Changes the words of a sheet.
+/// Changes the words of each sheet.
 fn with_words(mut call: Call, change: impl Fn(&mut Vec<u32>)) -> Call {
     match &mut call {
         Call::Check { bytes } | Call::Push { bytes, .. } => {
@@ -359,13 +502,16 @@ fn with_words(mut call: Call, change: impl Fn(&mut Vec<u32>)) -> Call {
             }
         }
         Call::Solve { sheet, .. } | Call::Kernel { sheet, .. } => change(sheet),
+        Call::Compose { first, second, .. } => [first, second].into_iter().for_each(change),
         Call::Name { .. } => {}
     }
     call
 }
 
 fn with_room(mut call: Call, change: impl Fn(usize) -> usize) -> Call {
-    if let Call::Solve { room, .. } | Call::Kernel { room, .. } = &mut call {
+    if let Call::Solve { room, .. } | Call::Kernel { room, .. } | Call::Compose { room, .. } =
+        &mut call
+    {
         *room = change(*room);
     }
     call
@@ -528,7 +674,11 @@ fn codomain_singular(call: &Call, reply: Reply) -> Reply {
     if refusal(call, &reply) != 7 || p == 0 || sheet::ask_curve(p, a, b).is_err() {
         return reply;
     }
-    call.refusal(if certificate(call).is_some() { 10 } else { 11 })
+    match call {
+        Call::Compose { .. } => reply,
+        _ if certificate(call).is_some() => call.refusal(10),
+        _ => call.refusal(11),
+    }
 }
 
 // Questions 4 and 1.

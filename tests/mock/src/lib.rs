@@ -41,7 +41,7 @@ pub unsafe extern "C" fn sagepliers_solve(
         sheet: slice(sheet, words),
         room,
     };
-    answer_words(call, sheet, words, (answer, room))
+    answer_words(call, &[(sheet, words)], (answer, room))
 }
 
 /// # Safety
@@ -57,12 +57,32 @@ pub unsafe extern "C" fn sagepliers_kernel(
         sheet: slice(sheet, words),
         room,
     };
-    answer_words(call, sheet, words, (answer, room))
+    answer_words(call, &[(sheet, words)], (answer, room))
 }
 
 #[no_mangle]
 pub extern "C" fn sagepliers_name(p: u32, a: u32, b: u32) -> u64 {
     faults::reply(Call::Name { p, a, b }).number
+}
+
+/// # Safety
+/// Both sheets are readable for their words, the answer writable for its room.
+#[no_mangle]
+pub unsafe extern "C" fn sagepliers_compose(
+    first: *const u32,
+    first_words: usize,
+    second: *const u32,
+    second_words: usize,
+    answer: *mut u32,
+    room: usize,
+) -> u64 {
+    let call = Call::Compose {
+        first: slice(first, first_words),
+        second: slice(second, second_words),
+        room,
+    };
+    let sheets = [(first, first_words), (second, second_words)];
+    answer_words(call, &sheets, (answer, room))
 }
 
 /// # Safety
@@ -77,6 +97,7 @@ fn answer_bytes(call: Call, bytes: *const u8, count: usize) -> u64 {
         reply: &reply,
         sheet: bytes,
         bytes: count,
+        second: None,
         answer: None,
     });
     reply.number
@@ -86,18 +107,20 @@ fn answer_bytes(call: Call, bytes: *const u8, count: usize) -> u64 {
 /// The answer is writable for its room.
 unsafe fn answer_words(
     call: Call,
-    sheet: *const u32,
-    words: usize,
+    sheets: &[(*const u32, usize)],
     (answer, room): (*mut u32, usize),
 ) -> u64 {
     let reply = faults::reply(call);
+    let bytes = |&(sheet, words): &(*const u32, usize)| (sheet.cast(), 4 * words);
+    let (sheet, count) = bytes(&sheets[0]);
     for (i, &word) in reply.words.iter().enumerate().take(room) {
         answer.add(i).write(word);
     }
     faults::touch(&Memory {
         reply: &reply,
-        sheet: sheet.cast(),
-        bytes: 4 * words,
+        sheet,
+        bytes: count,
+        second: sheets.get(1).map(bytes),
         answer: Some((answer, room)),
     });
     reply.number

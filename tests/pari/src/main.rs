@@ -5,6 +5,7 @@
 //! size, which PARI is given as they stand and reduces by its own means too. N is
 //! also put for any g, in the parts of the reference, and with l = p + 2 certificates
 //! that question 4 alone refuses. With each g goes the count of its rational abscissas.
+//! Maps that meet are composed, and PARI composes its own maps with these kernels.
 //! Usage: pari SCRIPT
 
 #[path = "../../compare/src/entries.rs"]
@@ -16,7 +17,7 @@ use std::process::ExitCode;
 use reference::call::{point_number, point_of, INFINITY, REFUSED};
 use reference::curve::Curve;
 use reference::field::Field;
-use reference::generate::{self, random_curve, random_monic};
+use reference::generate::{self, factors, random_curve, random_monic};
 use reference::marked;
 use reference::poly::Poly;
 use reference::primes::{next_prime, previous_prime, sieve};
@@ -109,6 +110,9 @@ struct Script {
     isogenies: usize,
     points: usize,
     infinities: usize,
+    /// Pairs of maps that were composed, and their degrees.
+    compositions: usize,
+    composed: std::collections::BTreeSet<(u64, u64)>,
     /// Certificates that question 4 alone refuses.
     beyond: usize,
     /// Polynomials g of which the parts of N are written.
@@ -401,6 +405,46 @@ impl Script {
         self.dual(random, &certificate);
     }
 
+    /// What compose makes of two maps. PARI composes those that it computes itself from
+    /// both kernels, and computes that of the composed kernel, too.
+    fn composed(&mut self, random: &mut Random, maps: &[Certificate; 2]) {
+        let [first, second] = maps.each_ref().map(Certificate::words);
+        let what =
+            |maps: &[Certificate; 2]| format!("compose {:?}", maps.each_ref().map(|c| &c.question));
+        let Some(words) = self.answer(&what(maps), |answer| {
+            entries::compose(&first, &second, answer)
+        }) else {
+            return;
+        };
+        let Some(both) = self.certificate(&what(maps), &words) else {
+            return;
+        };
+        let checked = entries::check(&sheet::bytes_of(&words));
+        if checked != 0 {
+            self.difference(format!("check refuses what compose wrote with {checked}"));
+        }
+        self.isogeny(&both);
+        let q = &both.question;
+        let kernels = maps.each_ref().map(|c| list(&c.g)).join(",");
+        let (a, b) = (q.a_t, q.b_t);
+        self.line(format!(
+            "composed({},{},{},[{kernels}],{a},{b});",
+            q.p, q.a, q.b
+        ));
+        self.compositions += 1;
+        self.composed
+            .insert((maps[0].question.l, maps[1].question.l));
+        let domain = Curve::new(q.p, q.a, q.b);
+        let any = domain.random_point(random);
+        self.push(&words, any);
+        if let [u, ..] = rational_roots(&maps[0])[..] {
+            let ordinate = domain.field.sqrt(domain.cubic(u));
+            if let Some(v) = ordinate {
+                self.push(&words, Point::Affine(u, v));
+            }
+        }
+    }
+
     /// j-values 0 and 1728 over every prime that was met.
     fn special_names(&mut self, random: &mut Random) {
         for p in self.primes.clone() {
@@ -409,6 +453,56 @@ impl Script {
             self.name(p, value, 0);
         }
     }
+}
+
+/// The first abscissas of a kernel of degree 3, and none of others.
+fn rational_roots(certificate: &Certificate) -> Vec<u64> {
+    match certificate.g[..] {
+        [constant, 1] => vec![certificate.question.field().neg(constant)],
+        _ => Vec::new(),
+    }
+}
+
+/// Pairs of maps that meet: document 02's; cyclic kernels in two steps of every pair of
+/// degrees over one prime and of some over others, and over the least primes that permit
+/// them; a step and its dual; the duals of two steps.
+fn pairs(random: &mut Random) -> Vec<[Certificate; 2]> {
+    let mut pairs = vec![[marked::first(), marked::second()]];
+    let dual = |certificate: &Certificate| {
+        let question = generate::dual_question(certificate);
+        services::solution(&question).expect("every isogeny has a dual")
+    };
+    let composite: Vec<u64> = (9..=255)
+        .filter(|l| l % 2 == 1 && !factors(*l).is_empty())
+        .collect();
+    for (i, p) in [65_537, 1009, 16_777_213, 268_435_399]
+        .into_iter()
+        .enumerate()
+    {
+        let wanted = composite
+            .iter()
+            .copied()
+            .step_by(if i == 0 { 1 } else { 4 });
+        for cyclic in generate::cyclic(random, p, &wanted.collect::<Vec<u64>>(), 20_000) {
+            for (m, _) in factors(cyclic.l()) {
+                pairs.push(cyclic.split(m));
+            }
+            if cyclic.l() % 8 == 1 {
+                let (m, n) = factors(cyclic.l())[0];
+                let [first, second] = cyclic.split(m).map(|map| dual(&map));
+                pairs.push([second, generate::rescale(&first, n)]);
+            }
+        }
+        for step in generate::from_points(random, p, &[3, 5, 7, 9, 11, 13, 15], 5000) {
+            let back = dual(&step);
+            pairs.push([step, back]);
+        }
+    }
+    for &l in composite.iter().step_by(3) {
+        let found = generate::cyclic(random, next_prime(2 * l), &[l], 500);
+        pairs.extend(found.iter().map(|cyclic| cyclic.split(factors(l)[0].0)));
+    }
+    pairs
 }
 
 fn main() -> ExitCode {
@@ -422,29 +516,45 @@ fn main() -> ExitCode {
     script.primes(&mut random);
     script.numerators(&mut random);
     script.beyond_question_4(&mut random);
+    for pair in pairs(&mut random) {
+        script.composed(&mut random, &pair);
+    }
     let Script {
         isogenies,
         points,
         infinities,
+        compositions,
         beyond,
         sums,
         names,
         numbers,
         ..
     } = script;
-    let counts = format!("{isogenies},{points},{infinities},{beyond},{sums},{names},{numbers}");
-    writeln!(script.text, "finish({counts});").expect("a string takes any text");
+    let all = [
+        isogenies,
+        points,
+        infinities,
+        compositions,
+        beyond,
+        sums,
+        names,
+    ];
+    let all = all.map(|count| count as u64);
+    writeln!(script.text, "finish({},{numbers});", list(&all)).expect("a string takes any text");
     std::fs::write(&path, &script.text).unwrap_or_else(|e| panic!("{path}: {e}"));
     let (degrees, primes) = (script.degrees.len(), script.primes.len());
+    let pairs = script.composed.len();
     let [none, some, all] = script.shares;
     println!(
         "{isogenies} kernels of {degrees} degrees over {primes} primes, {none} with no, {some} with \
-        some and {all} with all abscissas rational, {} questions solved",
+        some and {all} with all abscissas rational, {} questions solved, {compositions} pairs of maps composed",
         script.solved
     );
-    if degrees != 127 || script.shares.contains(&0) || script.differences != 0 {
+    // So many pairs of odd degrees have a product of at most 255.
+    let all = degrees == 127 && pairs == 201;
+    if !all || script.shares.contains(&0) || script.differences != 0 {
         eprintln!(
-            "{} differences before PARI, {degrees} of 127 degrees",
+            "{} differences before PARI, {degrees} of 127 degrees, {pairs} of 201 pairs",
             script.differences
         );
         return ExitCode::FAILURE;

@@ -1,4 +1,4 @@
-//! Calls of the C entries as values, and the reply that document 01 wants of
+//! Calls of the C entries as values, and the reply that the documents want of
 //! each: the returned number in its 64-bit encoding, and the words at the start
 //! of the answer buffer.
 
@@ -12,11 +12,31 @@ pub const REFUSED: u64 = 1 << 57;
 
 #[derive(Clone, Debug, PartialEq, Eq)]
 pub enum Call {
-    Check { bytes: Vec<u8> },
-    Push { bytes: Vec<u8>, point: u64 },
-    Solve { sheet: Vec<u32>, room: usize },
-    Kernel { sheet: Vec<u32>, room: usize },
-    Name { p: u32, a: u32, b: u32 },
+    Check {
+        bytes: Vec<u8>,
+    },
+    Push {
+        bytes: Vec<u8>,
+        point: u64,
+    },
+    Solve {
+        sheet: Vec<u32>,
+        room: usize,
+    },
+    Kernel {
+        sheet: Vec<u32>,
+        room: usize,
+    },
+    Name {
+        p: u32,
+        a: u32,
+        b: u32,
+    },
+    Compose {
+        first: Vec<u32>,
+        second: Vec<u32>,
+        room: usize,
+    },
 }
 
 #[derive(Clone, Debug, PartialEq, Eq)]
@@ -103,6 +123,15 @@ impl Call {
         }
     }
 
+    /// Compose with exactly the room that question 1 wants.
+    pub fn compose(first: &[u32], second: &[u32]) -> Call {
+        Call::Compose {
+            first: first.to_vec(),
+            second: second.to_vec(),
+            room: sheet::LARGEST_CERTIFICATE,
+        }
+    }
+
     pub fn reply(&self) -> Reply {
         match self {
             Call::Check { bytes } => Reply::number(u64::from(check_number(bytes))),
@@ -115,6 +144,11 @@ impl Call {
                     Named::Refused(number) => Reply::refused(number),
                 }
             }
+            Call::Compose {
+                first,
+                second,
+                room,
+            } => written_reply(services::compose(first, second, *room)),
         }
     }
 

@@ -13,9 +13,11 @@
 
 pub mod brute;
 pub mod call;
+pub mod composition;
 pub mod curve;
 pub mod euclid;
 pub mod field;
+pub mod fraction;
 pub mod generate;
 pub mod marked;
 pub mod miscounts;

@@ -2,7 +2,7 @@
 //! the output that it prints. Every expectation is copied from there; where it
 //! prints a g but no N, N is taken from R2. The parts of N are document 02's, and so
 //! are what became of A = p, the room of 393 words and the first sheet's count of
-//! rational abscissas; the other counts are those that PARI/GP gives.
+//! rational abscissas, and request E1's case; the other counts are those that PARI/GP gives.
 
 use crate::call::{point_number, Call, Reply};
 use crate::field::Field;
@@ -52,6 +52,15 @@ pub fn not_cyclic() -> Certificate {
     certificate([1009, 1, 3, 81, 169, 9, 0], &g, &n)
 }
 
+/// Request E1's second map, from the first one's codomain. Its g comes from sigma, which
+/// is 2r for g = x - r, and r = 871/2 = 940.
+pub fn second() -> Certificate {
+    let g = [-940, 1];
+    let n = rules::r2(265, 877, 3, 871, &Poly::of(Field::new(1009), &g));
+    let n: Vec<i64> = n.coefficients().iter().map(|&c| c as i64).collect();
+    certificate([1009, 265, 877, 81, 169, 3, 871], &g, &n)
+}
+
 pub fn smallest() -> Certificate {
     certificate([11, 0, 1, 0, 6, 3, 0], &[0, 1], &[4, 0, 0, 1])
 }
@@ -66,6 +75,7 @@ pub fn rows() -> Vec<Row> {
     rows.extend(neighbours());
     rows.extend(unreduced());
     rows.extend(rational());
+    rows.extend(composed());
     rows
 }
 
@@ -284,5 +294,36 @@ fn rational() -> Vec<Row> {
             changed(|words| words.swap(13, 14)),
             Reply::number(6),
         ),
+    ]
+}
+
+/// Request E1's case, what its questions 13 and 14 refuse beside it, and its room, which
+/// is that of request E6.
+fn composed() -> Vec<Row> {
+    let (first, second, smallest) = (first().words(), second().words(), smallest().words());
+    let compose = |room: usize| Call::Compose {
+        first: first.clone(),
+        second: second.clone(),
+        room,
+    };
+    let whole = Reply::written(not_cyclic().words());
+    let refused = |name, first: &[u32], second: &[u32], number| {
+        row(name, Call::compose(first, second), Reply::refused(number))
+    };
+    // g = x takes (0, b) to (0, -27b); 2 * 9 - 1 is not below 11.
+    let meets = certificate([11, 0, 6, 0, 3, 3, 0], &[0, 1], &[2, 0, 0, 1]).words();
+    let mut leading = second.clone();
+    leading[8] = word(8, 2);
+    vec![
+        solved("the second map", &self::second()),
+        row("two maps as one", compose(393), whole.clone()),
+        row("two maps as one, more room", compose(394), whole),
+        row("two maps in a room of 392", compose(392), Reply::refused(1)),
+        refused("the second map first", &second, &first, 13),
+        refused("the first map twice", &first, &first, 13),
+        refused("maps over two primes", &first, &smallest, 13),
+        refused("degree 9 over 11", &smallest, &meets, 14),
+        refused("the second has leading 2", &first, &leading, 8),
+        refused("the first has leading 2", &leading, &smallest[1..], 8),
     ]
 }

@@ -1,6 +1,7 @@
-//! The five services of document 01. Each asks its questions in the document's
-//! order and answers an enum; a refusal carries the number of the first "no".
+//! The five services of document 01 and request E1's. Each asks its questions in the
+//! document's order and answers an enum; a refusal carries the number of the first "no".
 
+use crate::composition;
 use crate::field::Field;
 use crate::poly::Poly;
 use crate::rational;
@@ -134,6 +135,15 @@ pub fn kernel(words: &[u32], room: usize) -> Written {
         let KernelSheet { p, a, b, l, g } = KernelSheet::read(words)?;
         let g = Poly::new(Field::new(p), g);
         from_kernel(p, a, b, l, &g).ok_or(11)
+    }))
+}
+
+/// The first certificate is asked 2 to 10 before anything of the second.
+pub fn compose(first: &[u32], second: &[u32], room: usize) -> Written {
+    written(sheet::ask_room(room).and_then(|()| {
+        let first = read_valid(first)?;
+        let second = read_valid(second)?;
+        composition::composed(&first, &second)
     }))
 }
 

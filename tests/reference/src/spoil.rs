@@ -335,6 +335,19 @@ pub fn cases(service: Service, certificate: &Certificate) -> Vec<(Call, Refusal)
     cases
 }
 
+/// The words of a certificate that fails one question, with its number.
+pub fn certificates(certificate: &Certificate) -> Vec<(Vec<u32>, Refusal)> {
+    let draft = Draft::new(Service::Check, certificate);
+    let spoiled = spoilers(Service::Check).into_iter().map(|spoiler| {
+        let mut draft = draft.clone();
+        (spoiler.spoil)(&mut draft);
+        (draft, spoiler.number)
+    });
+    // Those with a byte too many are no words.
+    let words = spoiled.filter(|(draft, _)| draft.stray.is_empty());
+    words.map(|(draft, number)| (draft.words, number)).collect()
+}
+
 fn extend_cases(draft: &Draft, left: &[Spoiler], depth: usize, cases: &mut Vec<(Call, Refusal)>) {
     for (i, spoiler) in left.iter().enumerate() {
         let mut spoiled = draft.clone();

@@ -77,7 +77,7 @@ fn damage_all(judge: &mut Judge, certificate: &Certificate) {
 }
 
 /// Calls with every damaged copy; the flag marks the first damage of a place.
-fn each_damage(words: &[u32], p: u64, mut put: impl FnMut(&[u32], bool)) {
+pub fn each_damage(words: &[u32], p: u64, mut put: impl FnMut(&[u32], bool)) {
     let mut damaged = words.to_vec();
     for (i, &original) in words.iter().enumerate() {
         for (count, new) in damages(original, p).into_iter().enumerate() {

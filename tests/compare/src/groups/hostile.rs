@@ -61,7 +61,7 @@ impl Spoiled {
             Call::Solve { sheet, .. } | Call::Kernel { sheet, .. } => {
                 self.sound.contains(&bytes_of(&reduced(sheet)))
             }
-            Call::Name { .. } => true,
+            Call::Name { .. } | Call::Compose { .. } => true,
         };
         self.count += u64::from(!sound && !LAWFUL.contains(&kind));
     }
@@ -107,7 +107,7 @@ fn case(random: &mut Random, pool: &[Certificate], kind: u64) -> Call {
     }
 }
 
-fn room(random: &mut Random) -> usize {
+pub fn room(random: &mut Random) -> usize {
     if random.once_in(10) {
         *random.pick(&[0, 1, 14, 392, 394, 1000])
     } else {
@@ -126,7 +126,7 @@ fn kernel(random: &mut Random, sheet: Vec<u32>) -> Call {
 }
 
 /// Up to three damages, or none.
-fn damage(random: &mut Random, words: &mut Vec<u32>, p: u64) {
+pub fn damage(random: &mut Random, words: &mut Vec<u32>, p: u64) {
     for _ in 0..random.below(4) {
         damage_once(random, words, p);
     }

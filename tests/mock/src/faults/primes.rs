@@ -13,6 +13,8 @@ use super::{first, refusal};
 fn asks(call: &Call, reply: Reply, test: impl Fn(u64) -> bool) -> Reply {
     let (p, next) = match call {
         Call::Name { p, .. } => (u64::from(*p), 5),
+        // Its second sheet has a p too.
+        Call::Compose { .. } => return reply,
         _ => (first(call, P), 4),
     };
     match (refusal(call, &reply), test(p)) {
