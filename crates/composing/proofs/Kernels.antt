@@ -90,30 +90,30 @@ module _ (v w : Values) (g₁ n₁ g₂ : List ℕ) (j : Joined v w g₁ n₁ g�
       (j .n₁-is) (omega (arith, j .g₂-words .count)))
       (subst
       (λ p. Residues p
-        (conv (Zmod p) (poly p g₁) (homogenize (Zmod p) (poly p n₁) (pow (Series (Zmod p)) (poly p g₁) 2) (length g₂ - 1) (poly p g₂))) xs) e h)
+      (conv (Zmod p) (poly p g₁) (homogenize (Zmod p) (poly p n₁) (pow (Series (Zmod p)) (poly p g₁) 2) (length g₂ - 1) (poly p g₂))) xs) e h)
 
   module _ (p : ℕ) (same : p ≡ v .p) (g : List ℕ) (count : length g ≡ half (composed v w) + 1)
       (made : Residues p (conv (Zmod p) (poly p g₁) (homogenize (Zmod p) (poly p n₁) (pow (Series (Zmod p)) (poly p g₁) 2) (length g₂ - 1) (poly p g₂))) g)
-      where
-    residues : Residues (v .p) G g
-    residues = composite-at p same g made
+    where
+      residues : Residues (v .p) G g
+      residues = composite-at p same g made
 
-    pub both-g : HoldsG (composed v w) g
-    both-g = record { count = count; reduced = residues .reduced }
+      pub both-g : HoldsG (composed v w) g
+      both-g = record { count = count; reduced = residues .reduced }
 
-    pub g-whole : poly (v .p) g ≡ composite-g (Zmod (v .p)) (question v) (half w) (poly (v .p) g₁) (poly (v .p) g₂)
-    g-whole = whole-composite v w (j .ready₁) (j .ready₂) (j .meet) (j .allowed) g₁ g₂ (j .meets₁) (j .meets₂) g count residues
+      pub g-whole : poly (v .p) g ≡ composite-g (Zmod (v .p)) (question v) (half w) (poly (v .p) g₁) (poly (v .p) g₂)
+      g-whole = whole-composite v w (j .ready₁) (j .ready₂) (j .meet) (j .allowed) g₁ g₂ (j .meets₁) (j .meets₂) g count residues
 
-    pub both-meets : Meets (Zmod (v .p)) (question (composed v w)) (poly (v .p) g)
-    both-meets =
-        subst (Meets (Zmod (v .p)) (question (composed v w))) (sym g-whole)
-        (composed-meets v w (j .ready₁) (j .ready₂) (j .meet) (j .allowed) g₁ g₂ (j .meets₁) (j .meets₂))
+      pub both-meets : Meets (Zmod (v .p)) (question (composed v w)) (poly (v .p) g)
+      both-meets =
+          subst (Meets (Zmod (v .p)) (question (composed v w))) (sym g-whole)
+          (composed-meets v w (j .ready₁) (j .ready₂) (j .meet) (j .allowed) g₁ g₂ (j .meets₁) (j .meets₂))
 
-    -- R3 holds, so it need not be evaluated
-    pub third-rule : (n : List ℕ) → poly (v .p) n ≡ N (Zmod (v .p)) (question (composed v w)) (poly (v .p) g)
-        → (true ≡ true) ↔ R3 (Zmod (v .p)) (question (composed v w)) (poly (v .p) g) (poly (v .p) n)
-    third-rule n e = (λ _. subst (R3 (Zmod (v .p)) (question (composed v w)) (poly (v .p) g)) (sym e) (both-meets .r3), λ _. refl)
+      -- R3 holds, so it need not be evaluated
+      pub third-rule : (n : List ℕ) → poly (v .p) n ≡ N (Zmod (v .p)) (question (composed v w)) (poly (v .p) g)
+          → (true ≡ true) ↔ R3 (Zmod (v .p)) (question (composed v w)) (poly (v .p) g) (poly (v .p) n)
+      third-rule n e = (λ _. subst (R3 (Zmod (v .p)) (question (composed v w)) (poly (v .p) g)) (sym e) (both-meets .r3), λ _. refl)
 
-    pub both-composed : (before after : List ℕ) (r : Written) → Certified (composed v w) g before after r → Composed v w g₁ g₂ before after r
-    both-composed before after (Count c) h = record { certificate = h .certificate; g-is = ap (poly (v .p)) (h .same-g) ∙ g-whole }
-    both-composed before after (Refused k) h = absurd (h .unmet both-meets)
+      pub both-composed : (before after : List ℕ) (r : Written) → Certified (composed v w) g before after r → Composed v w g₁ g₂ before after r
+      both-composed before after (Count c) h = record { certificate = h .certificate; g-is = ap (poly (v .p)) (h .same-g) ∙ g-whole }
+      both-composed before after (Refused k) h = absurd (h .unmet both-meets)

@@ -1,12 +1,12 @@
 -- Whether a row of the table holds, by computing: `test` is a boolean that the checker computes, and a row that passes it holds.
 -- Assumes nothing.
-use mathlib.Core.Path.{_≡_, refl, sym, _∙_, ap, subst}
+use mathlib.Core.Path.{_≡_, refl, sym, _∙_, ap, ap₂, subst}
 use mathlib.Core.Bool.{Bool, true, false, not}
 use mathlib.Core.Logic.{inl, inr}
 use mathlib.Core.List.{List, [], _∷_, _++_}
-use Prim.Native.Nat.{ℕ, suc, _+_, _*_, _%_, _^_, _<_, _≤_}
+use Prim.Native.Nat.{ℕ, suc, _+_, _-_, _*_, _%_, _^_, _<_, _≤_}
 use native.Mathlib.Omega.{arith}
-use borrow.Author.Tests.{eqb-false}
+use borrow.Author.Tests.{eqb-false, eq-eqb, lt-ltb, le-leb}
 use lib.Dec.{T, eqb, eqb→eq, leb, leb→le, ltb, ltb→lt}
 use lib.ListN.{length, getD, drop}
 use Rattle.ring.specs.Test.{both, both-left, both-right}
@@ -19,10 +19,13 @@ use Rattle.roots.specs.Computed.{found, roots-computed}
 use Rattle.isogeny.specs.Curve.{Nonsingular}
 use Rattle.isogeny.specs.Rules as Rules
 use Rattle.isogeny.specs.Rules.{N, R1, R3, Meets}
+use Rattle.isogeny.specs.Theorems.{unique}
+use Rattle.composition.specs.Composite.{composite-g}
 use Rattle.sheet.specs.declared.Form.the-variants.{Question, Certificate, Kernel}
 use Rattle.sheet.specs.declared.Values.{Values}
 use Rattle.sheet.specs.Form.{certificateWords}
-use Rattle.sheet.specs.Values.{gOf, nOf, abscissasOf, valuesOf, half}
+use Rattle.sheet.specs.Values.{gOf, nOf, abscissasOf, valuesOf, question, half}
+use Rattle.sheet.specs.Ready.{Ready, half-least, degree-half}
 use Rattle.sheet.specs.Asked.{asked}
 use Rattle.certificate.specs.Certificate.{certificate}
 use Rattle.questions.specs.Questions.{Questions, AllYes, FirstNo}
@@ -34,7 +37,10 @@ use Rattle.promises.specs.declared.Image.{Image}
 use Rattle.promises.specs.declared.Image.the-variants as image
 use Rattle.promises.specs.Abscissas.{rational-abscissas}
 use Rattle.promises.specs.Asked.{prime, put, g, n, Room, check-asks, push-asks, name-asks, Solvable, last-ask, Passing, Leading, Given}
-use Rattle.promises.specs.Answer.{SolveRight, KernelRight, PushRight, CertificateIn, with}
+use Rattle.promises.specs.Asked.{Meet, ProductAllowed, join-asks}
+use Rattle.promises.specs.Composed.{composed-ready, composed-meets}
+use Rattle.promises.specs.Certificates.{certificate-ready, certificate-meets}
+use Rattle.promises.specs.Answer.{SolveRight, KernelRight, ComposeRight, PushRight, CertificateIn, with, composed}
 use Rattle.marked.specs.Tests.{one, one-of, every, Every, every-yes, same-list, same-list-yes, below, below-yes}
 use Rattle.marked.specs.Rules.{
   numerator,
@@ -72,8 +78,8 @@ use Rattle.marked.specs.Sheets.{
   no-by-computing,
 }
 use Rattle.marked.specs.NoCodomain.{candidate, no-codomain}
-use Rattle.marked.specs.Row.{Row, Claim, Listed, question-words, kernel-words, count, filled}
-use Rattle.marked.specs.Row.Row.{solves, unsolved, pushes, kernel, no-kernel, refused, refused-though, unnamed, parts}
+use Rattle.marked.specs.Row.{Row, Printed, Claim, Listed, question-words, kernel-words, printed-words, count, filled}
+use Rattle.marked.specs.Row.Row.{solves, unsolved, pushes, kernel, no-kernel, composes, no-composite, refused, refused-though, unnamed, parts}
 
 -- ── the count of rational abscissas, by trying each u
 
@@ -385,6 +391,131 @@ module _ (v : Values) (g₀ : List ℕ) where
         refl,
       )
 
+-- ── compose
+
+module _ (s t : Printed) where
+  abbrev ws₁ : List ℕ
+  ws₁ = printed-words s
+
+  abbrev ws₂ : List ℕ
+  ws₂ = printed-words t
+
+  abbrev v₁ : Values
+  v₁ = valuesOf Certificate ws₁
+
+  abbrev v₂ : Values
+  v₂ = valuesOf Certificate ws₂
+
+  abbrev both-pass : Bool
+  both-pass = both (every (pass-tests ws₁)) (every (pass-tests ws₂))
+
+  passes₁ : T both-pass → AllYes (check-asks ws₁)
+  passes₁ b = pass-by-computing ws₁ (every-yes (pass-tests ws₁) (both-left (every (pass-tests ws₁)) _ b))
+
+  passes₂ : T both-pass → AllYes (check-asks ws₂)
+  passes₂ b = pass-by-computing ws₂ (every-yes (pass-tests ws₂) (both-right (every (pass-tests ws₁)) _ b))
+
+  -- 13 and 14
+  abbrev meet-tests : List Bool
+  meet-tests = eqb (v₁ .p) (v₂ .p) ∷ eqb (v₁ .atilde) (v₂ .a) ∷ eqb (v₁ .btilde) (v₂ .b) ∷ []
+
+  meet-by-computing : T (every meet-tests) → Meet v₁ v₂
+  meet-by-computing b =
+      let e : Every meet-tests = every-yes meet-tests b in
+      record { p = eqb→eq _ _ (e 0); a = eqb→eq _ _ (e 1); b = eqb→eq _ _ (e 2) }
+
+  abbrev product-tests : List Bool
+  product-tests = leb (v₁ .degree * v₂ .degree) 255 ∷ ltb (2 * (v₁ .degree * v₂ .degree) - 1) (v₁ .p) ∷ []
+
+  product-by-computing : T (every product-tests) → ProductAllowed v₁ v₂
+  product-by-computing b =
+      let e : Every product-tests = every-yes product-tests b in
+      record { most = leb→le _ _ (e 0); small = ltb→lt _ _ (e 1) }
+
+  abbrev compose-tests : Printed → List Bool
+  compose-tests u =
+      both-pass ∷ every meet-tests ∷ every product-tests ∷ ltb 0 (v₁ .p)
+      ∷ every (fill-tests (composed v₁ v₂) (u .g) (u .n) (u .values) (u .g) (u .abscissas)) ∷ []
+
+  -- the composite's g is the one g that meets the rules
+  compose-by-computing : (u : Printed) → Every (compose-tests u) → (before : List ℕ) → Room (length before)
+      → ComposeRight ws₁ ws₂ before (filled (u .values) (u .g) (u .n) (u .abscissas) before) (written.Count (count (u .values)))
+  compose-by-computing u b before room = (
+    (
+      room,
+      all-all (check-asks ws₁) (check-asks ws₂ ++ join-asks v₁ v₂) (passes₁ (b 0))
+          (all-all (check-asks ws₂) (join-asks v₁ v₂) (passes₂ (b 0)) (meet, (allowed, tt))),
+    ),
+    record { certificate = fill; g-is = same },
+  )
+    where
+      meet : Meet v₁ v₂
+      meet = meet-by-computing (b 1)
+
+      allowed : ProductAllowed v₁ v₂
+      allowed = product-by-computing (b 2)
+
+      ready₁ : Ready v₁
+      ready₁ = certificate-ready ws₁ (passes₁ (b 0))
+
+      ready₂ : Ready v₂
+      ready₂ = certificate-ready ws₂ (passes₂ (b 0))
+
+      known : Ready (composed v₁ v₂)
+      known = composed-ready v₁ v₂ ready₁ ready₂ meet allowed
+
+      fill : CertificateIn (composed v₁ v₂) before (filled (u .values) (u .g) (u .n) (u .abscissas) before) (count (u .values))
+      fill =
+          fill-by-computing (composed v₁ v₂) (u .g) (u .n) (u .values) (u .g) (u .abscissas) (ltb→lt 0 (v₁ .p) (b 3))
+          (every-yes (fill-tests (composed v₁ v₂) (u .g) (u .n) (u .values) (u .g) (u .abscissas)) (b 4)) before
+
+      same : poly (v₁ .p) (u .g)
+          ≡ composite-g (Zmod (v₁ .p)) (question v₁) (half v₂) (poly (v₁ .p) (gOf Certificate ws₁)) (poly (v₁ .p) (gOf Certificate ws₂))
+      same =
+          unique (ready₁ .prime .prime) (question (composed v₁ v₂)) (half-least (composed v₁ v₂) known)
+          (omega (arith, known .degree, degree-half (composed v₁ v₂) known)) (poly (v₁ .p) (u .g)) _ (fill .meets)
+          (composed-meets v₁ v₂ ready₁ ready₂ meet allowed (gOf Certificate ws₁) (gOf Certificate ws₂) (certificate-meets ws₁ (passes₁ (b 0)))
+          (certificate-meets ws₂ (passes₂ (b 0))))
+
+  -- the first no is 13 or 14
+  abbrev unmet-tests : ℕ → List Bool
+  unmet-tests k = both-pass ∷ not (every meet-tests) ∷ eqb k 13 ∷ []
+
+  abbrev large-tests : ℕ → List Bool
+  large-tests k = both-pass ∷ every meet-tests ∷ not (every product-tests) ∷ eqb k 14 ∷ []
+
+  meet-yes : Meet v₁ v₂ → every meet-tests ≡ true
+  meet-yes h = ap₂ both (eq-eqb _ _ (h .p)) (ap₂ both (eq-eqb _ _ (h .a)) (ap (λ b. both b true) (eq-eqb _ _ (h .b))))
+
+  product-yes : ProductAllowed v₁ v₂ → every product-tests ≡ true
+  product-yes h = ap₂ both (le-leb _ _ (h .most)) (ap (λ b. both b true) (lt-ltb _ _ (h .small)))
+
+  no-join : {k : ℕ} → T both-pass → FirstNo (join-asks v₁ v₂) k → (before : List ℕ) → Room (length before)
+      → ComposeRight ws₁ ws₂ before before (written.Refused k)
+  no-join {k} b h before room = (
+    inr (
+      room,
+      no-after (check-asks ws₁) (check-asks ws₂ ++ join-asks v₁ v₂) k (passes₁ b)
+          (no-after (check-asks ws₂) (join-asks v₁ v₂) k (passes₂ b) h),
+    ),
+    refl,
+  )
+
+  abbrev no-composite-test : ℕ → Bool
+  no-composite-test k = one (every (unmet-tests k)) (every (large-tests k))
+
+  no-composite-by-computing : (k : ℕ) → T (no-composite-test k) → (before : List ℕ) → Room (length before)
+      → ComposeRight ws₁ ws₂ before before (written.Refused k)
+  no-composite-by-computing k t before room =
+      one-of (every (unmet-tests k)) (every (large-tests k))
+      (λ t.
+      let b : Every (unmet-tests k) = every-yes (unmet-tests k) t in
+      no-join (b 0) (inl (eqb→eq k 13 (b 2), λ h. subst (λ x. T (not x)) (meet-yes h) (b 1))) before room)
+      (λ t.
+      let b : Every (large-tests k) = every-yes (large-tests k) t in
+      no-join (b 0) (inr (meet-by-computing (b 1), inl (eqb→eq k 14 (b 3), λ h. subst (λ x. T (not x)) (product-yes h) (b 2)))) before room)
+      t
+
 -- ── the rows
 
 abbrev though-tests : Values → List ℕ → List ℕ → ℕ → ℕ → List Bool
@@ -430,6 +561,8 @@ test (unsolved v k) = unsolved-test v k
 test (pushes v g n c from to) = every (push-tests (certificate v g n c) from to)
 test (kernel q h v g n c) = every (codomain-tests q h v g n c)
 test (no-kernel v g k) = every (no-kernel-tests v g k)
+test (composes s t u) = every (compose-tests s t u)
+test (no-composite s t k) = no-composite-test s t k
 test (refused v g n c k) = refused-test (certificate v g n c) k
 test (refused-though v g n c k) = every (though-tests v g n c k)
 test (unnamed p a b k) = every (unnamed-tests p a b k)
@@ -442,6 +575,8 @@ row-holds (unsolved v k) t = unsolved-by-computing v k t
 row-holds (pushes v g n c from to) t = push-by-computing (certificate v g n c) from to (every-yes (push-tests (certificate v g n c) from to) t)
 row-holds (kernel q h v g n c) t = kernel-by-computing q h v g n c (every-yes (codomain-tests q h v g n c) t)
 row-holds (no-kernel v g k) t = no-kernel-by-computing v g k (every-yes (no-kernel-tests v g k) t)
+row-holds (composes s u w) t = compose-by-computing s u w (every-yes (compose-tests s u w) t)
+row-holds (no-composite s u k) t = no-composite-by-computing s u k t
 row-holds (refused v g n c k) t = refused-holds (certificate v g n c) k t
 row-holds (refused-though v g n c k) t =
     let s : Every (though-tests v g n c k) = every-yes (though-tests v g n c k) t in (

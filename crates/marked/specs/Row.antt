@@ -21,13 +21,21 @@ use Rattle.promises.specs.declared.Point.{Point}
 use Rattle.promises.specs.declared.Image.{Image}
 use Rattle.promises.specs.declared.Named.the-variants as named
 use Rattle.promises.specs.Asked.{Room}
-use Rattle.promises.specs.Answer.{CheckRight, SolveRight, KernelRight, PushRight, NameRight}
+use Rattle.promises.specs.Answer.{CheckRight, SolveRight, KernelRight, ComposeRight, PushRight, NameRight}
 
 -- p, A, B, Ã, B̃, ℓ, σ, in the order in which document 01 lists them
 abbrev pub Q : ℕ → ℕ → ℕ → ℕ → ℕ → ℕ → ℕ → Values
 Q p A B Ã B̃ ℓ σ = record { p = p; a = A; b = B; atilde = Ã; btilde = B̃; degree = ℓ; sigma = σ }
 
 -- Polynomials are lists of coefficients, the constant term first.
+
+-- what is on a certificate
+pub record Printed : Type 0 where
+  pub values : Values
+  pub g : List ℕ
+  pub n : List ℕ
+  pub abscissas : ℕ
+
 pub data Row : Type 0 where
   -- solve answers the question of the first values with the certificate of the second, g, N and the count of rational abscissas
   solves : Values → Values → List ℕ → List ℕ → ℕ → Row
@@ -39,6 +47,10 @@ pub data Row : Type 0 where
   kernel : Values → List ℕ → Values → List ℕ → List ℕ → ℕ → Row
   -- kernel refuses the sheet of p, A, B, ℓ and g with a number; of the values, no others are on the sheet
   no-kernel : Values → List ℕ → ℕ → Row
+  -- compose answers the first two certificates with the third
+  composes : Printed → Printed → Printed → Row
+  -- compose refuses two certificates with a number
+  no-composite : Printed → Printed → ℕ → Row
   -- check refuses the certificate of g, N and the count with a number
   refused : Values → List ℕ → List ℕ → ℕ → ℕ → Row
   -- the same, though R3 holds
@@ -56,6 +68,9 @@ question-words v =
 
 abbrev pub kernel-words : Values → List ℕ → List ℕ
 kernel-words v g = word 1 (v .p) ∷ word 2 (v .a) ∷ word 3 (v .b) ∷ word 6 (v .degree) ∷ map (word 8) g ++ word 15 0 ∷ []
+
+abbrev pub printed-words : Printed → List ℕ
+printed-words s = certificate (s .values) (s .g) (s .n) (s .abscissas)
 
 -- how many words the certificate has, and a certificate in a lent buffer
 abbrev pub count : Values → ℕ
@@ -78,6 +93,11 @@ Claim (pushes v g n c from to) = PushRight (certificate v g n c) from to
 Claim (kernel q h v g n c) =
     (before : List ℕ) → Room (length before) → KernelRight (kernel-words q h) before (filled v g n c before) (written.Count (count v))
 Claim (no-kernel v g k) = (before : List ℕ) → Room (length before) → KernelRight (kernel-words v g) before before (written.Refused k)
+Claim (composes s t u) =
+    (before : List ℕ) → Room (length before)
+    → ComposeRight (printed-words s) (printed-words t) before (filled (u .values) (u .g) (u .n) (u .abscissas) before) (written.Count (count (u .values)))
+Claim (no-composite s t k) =
+    (before : List ℕ) → Room (length before) → ComposeRight (printed-words s) (printed-words t) before before (written.Refused k)
 Claim (refused v g n c k) = CheckRight (certificate v g n c) (verdict.Refused k)
 Claim (refused-though v g n c k) =
     CheckRight (certificate v g n c) (verdict.Refused k) × R3 (Zmod (v .p)) (question v) (poly (v .p) g) (poly (v .p) n)

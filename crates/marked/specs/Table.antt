@@ -1,4 +1,4 @@
--- Document 01's marked sheets (◆ there) and document 02's cases of E2, E5 and E6 as one table, with neighbours that neither document has, and the one theorem
+-- Document 01's marked sheets (◆ there) and document 02's cases of E1, E2, E5 and E6 as one table, with neighbours that neither document has, and the one theorem
 -- that covers it: every row holds, from the rules, by computing.
 -- Assumes nothing.
 use mathlib.Core.Bool.{Bool, true}
@@ -10,8 +10,8 @@ use Rattle.sheet.specs.declared.Values.{Values}
 use Rattle.promises.specs.declared.Point.the-variants as point
 use Rattle.promises.specs.declared.Image.the-variants as image
 use Rattle.marked.specs.Rules.{numerator}
-use Rattle.marked.specs.Row.{Row, Q, Claim}
-use Rattle.marked.specs.Row.Row.{solves, unsolved, pushes, kernel, no-kernel, refused, refused-though, unnamed, parts}
+use Rattle.marked.specs.Row.{Row, Q, Printed, Claim}
+use Rattle.marked.specs.Row.Row.{solves, unsolved, pushes, kernel, no-kernel, composes, no-composite, refused, refused-though, unnamed, parts}
 use Rattle.marked.specs.Holds.{test, row-holds}
 
 -- the first marked question, over 1009: g = x − 23, N = x³ + 963x² + 678x + 949
@@ -65,6 +65,26 @@ x² = 0 ∷ 0 ∷ 1 ∷ []
 abbrev x³+4 : List ℕ
 x³+4 = 4 ∷ 0 ∷ 0 ∷ 1 ∷ []
 
+-- E1's certificates: the first marked one, the step behind it with g = x + 69 and R2's N = x³ + 138x² + 560x + 394, and the one of degree 9
+abbrev first-step : Printed
+first-step = record { values = first; g = first-g; n = first-n; abscissas = 1 }
+
+abbrev second-step : Printed
+second-step = record { values = Q 1009 265 877 81 169 3 871; g = 69 ∷ 1 ∷ []; n = 394 ∷ 560 ∷ 138 ∷ 1 ∷ []; abscissas = 1 }
+
+abbrev both-steps : Printed
+both-steps = record { values = ninth; g = ninth-g; n = numerator ninth ninth-g; abscissas = 1 }
+
+-- g = x over 11 from (0, 1) to (0, 6) and from there to (0, 3), and over 29 from (0, 6) to (0, 12)
+abbrev on-11 : Printed
+on-11 = record { values = eleven; g = x; n = x³+4; abscissas = 1 }
+
+abbrev behind-11 : Printed
+behind-11 = record { values = Q 11 0 6 0 3 3 0; g = x; n = 2 ∷ 0 ∷ 0 ∷ 1 ∷ []; abscissas = 1 }
+
+abbrev on-29 : Printed
+on-29 = record { values = Q 29 0 6 0 12 3 0; g = x; n = 24 ∷ 0 ∷ 0 ∷ 1 ∷ []; abscissas = 1 }
+
 unfoldable pub rows : List Row
 rows =
     solves first first first-g first-n 1
@@ -108,6 +128,13 @@ rows =
     -- a root is counted once, also where g has it twice: the count 2 is wrong, and with 1 it is R3 that fails
     ∷ refused twice x² (numerator twice x²) 2 9
     ∷ refused twice x² (numerator twice x²) 1 10
+    -- E1: the first marked sheet, and the step behind it, give the one of degree 9; in the other order they do not meet
+    ∷ composes first-step second-step both-steps
+    ∷ no-composite second-step first-step 13
+    -- curves that agree in Ã alone, and in both values over another prime; and a product of degrees that is too large for 11
+    ∷ no-composite on-11 on-11 13
+    ∷ no-composite on-11 on-29 13
+    ∷ no-composite on-11 behind-11 14
     -- E5: the parts of the first one's N
     ∷ parts first first-g part₁ part₂ part₃
     ∷ []

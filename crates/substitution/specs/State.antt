@@ -36,11 +36,11 @@ module _ (p : ℕ) (X Y P : Seq (Zmod p)) (L n : ℕ) (pos : 0 < L) (long : Belo
   -- before the first turn
   pub horner-start : (i : ℕ) (h den : List ℕ) → 0 < p → n ≡ suc i → Residues p (homogenize (Zmod p) X Y 1 (dropped (Zmod p) i P)) (take (L + 1) h)
       → Residues p Y den → Horner p X Y P L n i h (L + 1) den L
-  horner-start i h den prime last first-h first-den = record {
+  horner-start i h den positive last first-h first-den = record {
     size-h = omega (arith, ap (λ k. k * L) one);
     size-den = omega (arith, ap (λ k. k * (L - 1)) one);
     numerator = residues-same (ap (λ k. homogenize (Zmod p) X Y k (dropped (Zmod p) i P)) one) first-h;
-    denominator = residues-same (sym (power-one (Zmod p) Y) ∙ ap (pow (Series (Zmod p)) Y) one) (residues-take prime L first-den);
+    denominator = residues-same (sym (power-one (Zmod p) Y) ∙ ap (pow (Series (Zmod p)) Y) one) (residues-take positive L first-den);
   }
     where
       one : 1 ≡ n - i

@@ -137,12 +137,11 @@ finish-requires c κs =
     let whole = whole-numerator (joint values) known g n (g-words at) (n-count numerator) (n-is numerator) in
     subst
     (λ (u : Values).
-      (Ready u × Over u (modulus .modulus .result))
-      × ((HoldsG u g × R1 (Zmod (u .p)) (question u) (poly (u .p) g))
-      × ((HoldsN u n × (poly (u .p) n ≡ N (Zmod (u .p)) (question u) (poly (u .p) g)))
-      × (((true ≡ true) ↔ R3 (Zmod (u .p)) (question u) (poly (u .p) g) (poly (u .p) n)) × Room (length (a .answer .now))))))
-    (sym (values-are values))
-    (
+    (Ready u × Over u (modulus .modulus .result))
+    × ((HoldsG u g × R1 (Zmod (u .p)) (question u) (poly (u .p) g))
+    × ((HoldsN u n × (poly (u .p) n ≡ N (Zmod (u .p)) (question u) (poly (u .p) g)))
+    × (((true ≡ true) ↔ R3 (Zmod (u .p)) (question u) (poly (u .p) g) (poly (u .p) n)) × Room (length (a .answer .now))))))
+    (sym (values-are values)) (
       (known, over modulus),
       (
         (
