@@ -48,7 +48,7 @@ fn certify_in(v: Values, m: Modulus, g: &[u32], n: &mut [u32], answer: &mut [u32
     requires { ⌜ (length (now n) ≡ 2 * half v + 2) × Room (length (now answer)) ⌝ }
     ensures { λ r. ⌜ Certified v (now (g .entry)) (now (answer .entry)) (now (answer .exit)) r ⌝ }
 {
-    rules::numerator(v, m, g, n);
+    numerator::numerator(v, m, g, n);
     let holds = equation::rule_three(v, m, g, n);
     finish(v, m, g, n, holds, answer)
 }

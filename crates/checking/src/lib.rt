@@ -30,7 +30,7 @@ fn same_numerator_in(v: Values, m: Modulus, g: &[u32], n: &[u32], room: &mut [u3
     requires { ⌜ HoldsN v (now n) × (length (now room) ≡ 2 * half v + 2) ⌝ }
     ensures { λ r. ⌜ (r ≡ true) ↔ (poly (v .p) (now (n .entry)) ≡ N (Zmod (v .p)) (question v) (poly (v .p) (now (g .entry)))) ⌝ }
 {
-    rules::numerator(v, m, g, room);
+    numerator::numerator(v, m, g, room);
     poly::equal(n, room)
 }
 

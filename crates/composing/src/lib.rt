@@ -78,7 +78,7 @@ fn compose_in(
     let u = composite_values(v, w);
     let m = barrett::modulus(u.p);
     substitution::composite(n1, g1, g2, g, m);
-    rules::numerator(u, m, g, n);
+    numerator::numerator(u, m, g, n);
     certifying::finish(u, m, g, n, true, answer)
 }
 

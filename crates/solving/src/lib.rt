@@ -33,7 +33,7 @@ fn solve_in(
 {
     candidate::candidate(v, table, h, s, n, g);
     let m = barrett::modulus(v.p);
-    rules::numerator(v, m, g, n);
+    numerator::numerator(v, m, g, n);
     let d = g.len() - 1;
     let k = table.len() - 3;
     let holds = equation::rule_three_from(v, m, g, n, e, acc, s, h, &mut table[..k], d);

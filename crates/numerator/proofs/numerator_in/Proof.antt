@@ -1,7 +1,7 @@
--- `rules::numerator_in` meets its contract: the products are formed, and their multiples summed. Assumes nothing.
+-- `numerator::numerator_in` meets its contract: the products are formed, and their multiples summed. Assumes nothing.
 use borrow.Author.Needs.{needs}
-use Rattle.rules.proofs.numerator_in.Statement.{statement}
-use Rattle.rules.proofs.numerator_in.Tie as tie
+use Rattle.numerator.proofs.numerator_in.Statement.{statement}
+use Rattle.numerator.proofs.numerator_in.Tie as tie
 
 products-requires : tie.Need-products-requires
 products-requires c κs = search needs

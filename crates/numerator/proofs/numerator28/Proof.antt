@@ -1,9 +1,9 @@
--- `rules::numerator88` meets its contract. Assumes nothing.
+-- `numerator::numerator28` meets its contract. Assumes nothing.
 use native.Mathlib.Omega.{arith}
 use lib.ListN.{length-take}
 use borrow.Author.Needs.{needs}
-use Rattle.rules.proofs.numerator88.Statement.{statement}
-use Rattle.rules.proofs.numerator88.Tie as tie
+use Rattle.numerator.proofs.numerator28.Statement.{statement}
+use Rattle.numerator.proofs.numerator28.Tie as tie
 
 sub-d : tie.Need-sub-d
 sub-d c = search needs
@@ -26,26 +26,26 @@ sub-k c = search needs
 add-c : tie.Need-add-c
 add-c c = search needs
 
-sums88-requires : tie.Need-sums88-requires
-sums88-requires c κs = search needs
+sums28-requires : tie.Need-sums28-requires
+sums28-requires c κs = search needs
 
-sums88-requires-2 : tie.Need-sums88-requires-2
-sums88-requires-2 c κs = search needs
+sums28-requires-2 : tie.Need-sums28-requires-2
+sums28-requires-2 c κs = search needs
 
-blank88-requires : tie.Need-blank88-requires
-blank88-requires c κs = search needs
+blank28-requires : tie.Need-blank28-requires
+blank28-requires c κs = search needs
 
-blank88-requires-2 : tie.Need-blank88-requires-2
-blank88-requires-2 c κs = search needs
+blank28-requires-2 : tie.Need-blank28-requires-2
+blank28-requires-2 c κs = search needs
 
-blank88-requires-3 : tie.Need-blank88-requires-3
-blank88-requires-3 c κs = search needs
+blank28-requires-3 : tie.Need-blank28-requires-3
+blank28-requires-3 c κs = search needs
 
-blank88-requires-4 : tie.Need-blank88-requires-4
-blank88-requires-4 c κs = search needs
+blank28-requires-4 : tie.Need-blank28-requires-4
+blank28-requires-4 c κs = search needs
 
-blank88-requires-5 : tie.Need-blank88-requires-5
-blank88-requires-5 c κs = search needs
+blank28-requires-5 : tie.Need-blank28-requires-5
+blank28-requires-5 c κs = search needs
 
 array-borrow-prefix-e : tie.Need-array-borrow-prefix-e
 array-borrow-prefix-e c = search needs
@@ -100,9 +100,9 @@ same-length c = search needs
 returns : tie.Need-returns
 returns c = search needs
 
-pub numerator88-spec : {M : Type 1} → statement M
-numerator88-spec = tie.close (tie.spec sub-d mul-i add-i mul-j mul-k sub-k add-c sums88-requires sums88-requires-2 blank88-requires blank88-requires-2
-    blank88-requires-3 blank88-requires-4 blank88-requires-5 array-borrow-prefix-e slice-aggregate-numerator-in array-borrow-prefix-acc
+pub numerator28-spec : {M : Type 1} → statement M
+numerator28-spec = tie.close (tie.spec sub-d mul-i add-i mul-j mul-k sub-k add-c sums28-requires sums28-requires-2 blank28-requires blank28-requires-2
+    blank28-requires-3 blank28-requires-4 blank28-requires-5 array-borrow-prefix-e slice-aggregate-numerator-in array-borrow-prefix-acc
     slice-aggregate-numerator-in-2 array-borrow-prefix-h slice-aggregate-numerator-in-3 array-borrow-prefix-q slice-aggregate-numerator-in-4
     array-borrow-prefix-square slice-aggregate-numerator-in-5 array-borrow-prefix-slope slice-aggregate-numerator-in-6 array-borrow-prefix-bend
     slice-aggregate-numerator-in-7 numerator-in-requires same-length returns)

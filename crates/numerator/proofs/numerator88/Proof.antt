@@ -1,9 +1,9 @@
--- `rules::numerator264` meets its contract. Assumes nothing.
+-- `numerator::numerator88` meets its contract. Assumes nothing.
 use native.Mathlib.Omega.{arith}
 use lib.ListN.{length-take}
 use borrow.Author.Needs.{needs}
-use Rattle.rules.proofs.numerator264.Statement.{statement}
-use Rattle.rules.proofs.numerator264.Tie as tie
+use Rattle.numerator.proofs.numerator88.Statement.{statement}
+use Rattle.numerator.proofs.numerator88.Tie as tie
 
 sub-d : tie.Need-sub-d
 sub-d c = search needs
@@ -26,26 +26,26 @@ sub-k c = search needs
 add-c : tie.Need-add-c
 add-c c = search needs
 
-sums264-requires : tie.Need-sums264-requires
-sums264-requires c κs = search needs
+sums88-requires : tie.Need-sums88-requires
+sums88-requires c κs = search needs
 
-sums264-requires-2 : tie.Need-sums264-requires-2
-sums264-requires-2 c κs = search needs
+sums88-requires-2 : tie.Need-sums88-requires-2
+sums88-requires-2 c κs = search needs
 
-blank264-requires : tie.Need-blank264-requires
-blank264-requires c κs = search needs
+blank88-requires : tie.Need-blank88-requires
+blank88-requires c κs = search needs
 
-blank264-requires-2 : tie.Need-blank264-requires-2
-blank264-requires-2 c κs = search needs
+blank88-requires-2 : tie.Need-blank88-requires-2
+blank88-requires-2 c κs = search needs
 
-blank264-requires-3 : tie.Need-blank264-requires-3
-blank264-requires-3 c κs = search needs
+blank88-requires-3 : tie.Need-blank88-requires-3
+blank88-requires-3 c κs = search needs
 
-blank264-requires-4 : tie.Need-blank264-requires-4
-blank264-requires-4 c κs = search needs
+blank88-requires-4 : tie.Need-blank88-requires-4
+blank88-requires-4 c κs = search needs
 
-blank264-requires-5 : tie.Need-blank264-requires-5
-blank264-requires-5 c κs = search needs
+blank88-requires-5 : tie.Need-blank88-requires-5
+blank88-requires-5 c κs = search needs
 
 array-borrow-prefix-e : tie.Need-array-borrow-prefix-e
 array-borrow-prefix-e c = search needs
@@ -100,9 +100,9 @@ same-length c = search needs
 returns : tie.Need-returns
 returns c = search needs
 
-pub numerator264-spec : {M : Type 1} → statement M
-numerator264-spec = tie.close (tie.spec sub-d mul-i add-i mul-j mul-k sub-k add-c sums264-requires sums264-requires-2 blank264-requires blank264-requires-2
-    blank264-requires-3 blank264-requires-4 blank264-requires-5 array-borrow-prefix-e slice-aggregate-numerator-in array-borrow-prefix-acc
+pub numerator88-spec : {M : Type 1} → statement M
+numerator88-spec = tie.close (tie.spec sub-d mul-i add-i mul-j mul-k sub-k add-c sums88-requires sums88-requires-2 blank88-requires blank88-requires-2
+    blank88-requires-3 blank88-requires-4 blank88-requires-5 array-borrow-prefix-e slice-aggregate-numerator-in array-borrow-prefix-acc
     slice-aggregate-numerator-in-2 array-borrow-prefix-h slice-aggregate-numerator-in-3 array-borrow-prefix-q slice-aggregate-numerator-in-4
     array-borrow-prefix-square slice-aggregate-numerator-in-5 array-borrow-prefix-slope slice-aggregate-numerator-in-6 array-borrow-prefix-bend
     slice-aggregate-numerator-in-7 numerator-in-requires same-length returns)
