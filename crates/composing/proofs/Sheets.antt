@@ -14,7 +14,7 @@ use Rattle.sheet.specs.Ready.{Ready}
 use Rattle.sheet.specs.Accepted.{certificate-g, certificate-n}
 use Rattle.promises.specs.declared.Written.{Written}
 use Rattle.promises.specs.declared.Written.the-variants.{Count, Refused}
-use Rattle.promises.specs.Asked.{Room, Meet, ProductAllowed, check-asks, join-asks, compose-asks}
+use Rattle.promises.specs.Asked.{Room, ComposableValues, ProductAllowed, check-asks, join-asks, compose-asks}
 use Rattle.promises.specs.Answer.{ComposeRight}
 use Rattle.promises.specs.Certificates.{check-asked, certificate-ready, certificate-N, certificate-meets}
 use Rattle.composing.specs.Joined.{Joined, Composed}
@@ -46,11 +46,11 @@ module _ (first second before : List ℕ) (room : Room (length before)) where
       no-join : (k : ℕ) → FirstNo (join-asks v₀ w₀) k → FirstNo (compose-asks first second (length before)) k
       no-join k h = inr (room, no-after (check-asks first) later k all₁ (no-after (check-asks second) (join-asks v₀ w₀) k all₂ h))
 
-      joined-asks : Meet v₀ w₀ → ProductAllowed v₀ w₀ → AllYes (compose-asks first second (length before))
+      joined-asks : ComposableValues v₀ w₀ → ProductAllowed v₀ w₀ → AllYes (compose-asks first second (length before))
       joined-asks meet allowed =
           (room, all-all (check-asks first) later all₁ (all-all (check-asks second) (join-asks v₀ w₀) all₂ (meet, (allowed, tt))))
 
-      joined : Meet v₀ w₀ → ProductAllowed v₀ w₀ → Joined v₀ w₀ (gOf Certificate first) (nOf Certificate first) (gOf Certificate second)
+      joined : ComposableValues v₀ w₀ → ProductAllowed v₀ w₀ → Joined v₀ w₀ (gOf Certificate first) (nOf Certificate first) (gOf Certificate second)
       joined meet allowed = record {
         ready₁ = certificate-ready first all₁;
         ready₂ = certificate-ready second all₂;
@@ -64,7 +64,7 @@ module _ (first second before : List ℕ) (room : Room (length before)) where
         n₁-is = certificate-N first all₁;
       }
 
-      answered : (after : List ℕ) (r : Written) → Meet v₀ w₀ → ProductAllowed v₀ w₀
+      answered : (after : List ℕ) (r : Written) → ComposableValues v₀ w₀ → ProductAllowed v₀ w₀
           → Composed v₀ w₀ (gOf Certificate first) (gOf Certificate second) before after r → ComposeRight first second before after r
       answered after (Count c) meet allowed h = (joined-asks meet allowed, h)
       answered after (Refused k) meet allowed h = absurd h
@@ -78,13 +78,13 @@ module _ (first second before : List ℕ) (room : Room (length before)) where
         from-sheets : (P : Values → Values → Type 0) → P (valuesOf Certificate first) (valuesOf Certificate second) → P v w
         from-sheets P h = subst (λ x. P x w) (sym v-is) (subst (P v₀) (sym w-is) h)
 
-        pub unmet : (Meet v w → ⊥) → FirstNo (compose-asks first second (length before)) 13
-        unmet not = no-join 13 (inl (refl, λ meet. not (from-sheets Meet meet)))
+        pub unmet : (ComposableValues v w → ⊥) → FirstNo (compose-asks first second (length before)) 13
+        unmet not = no-join 13 (inl (refl, λ meet. not (from-sheets ComposableValues meet)))
 
-        pub disallowed : Meet v w → (ProductAllowed v w → ⊥) → FirstNo (compose-asks first second (length before)) 14
-        disallowed meet not = no-join 14 (inr (to-sheets Meet meet, inl (refl, λ allowed. not (from-sheets ProductAllowed allowed))))
+        pub disallowed : ComposableValues v w → (ProductAllowed v w → ⊥) → FirstNo (compose-asks first second (length before)) 14
+        disallowed meet not = no-join 14 (inr (to-sheets ComposableValues meet, inl (refl, λ allowed. not (from-sheets ProductAllowed allowed))))
 
-        module _ (meet : Meet v w) (allowed : ProductAllowed v w) (g₁ n₁ g₂ : List ℕ) (g₁-is : g₁ ≡ gOf Certificate first)
+        module _ (meet : ComposableValues v w) (allowed : ProductAllowed v w) (g₁ n₁ g₂ : List ℕ) (g₁-is : g₁ ≡ gOf Certificate first)
             (n₁-is : n₁ ≡ nOf Certificate first) (g₂-is : g₂ ≡ gOf Certificate second) where
           pub joined-read : Joined v w g₁ n₁ g₂
           joined-read =
@@ -92,10 +92,10 @@ module _ (first second before : List ℕ) (room : Room (length before)) where
               (subst (λ n. Joined v w (gOf Certificate first) n g₂) (sym n₁-is)
               (subst (Joined v w (gOf Certificate first) (nOf Certificate first)) (sym g₂-is)
               (from-sheets (λ v w. Joined v w (gOf Certificate first) (nOf Certificate first) (gOf Certificate second))
-              (joined (to-sheets Meet meet) (to-sheets ProductAllowed allowed)))))
+              (joined (to-sheets ComposableValues meet) (to-sheets ProductAllowed allowed)))))
 
           pub answered-read : (after : List ℕ) (r : Written) → Composed v w g₁ g₂ before after r → ComposeRight first second before after r
           answered-read after r h =
-              answered after r (to-sheets Meet meet) (to-sheets ProductAllowed allowed)
+              answered after r (to-sheets ComposableValues meet) (to-sheets ProductAllowed allowed)
               (to-sheets (λ v w. Composed v w (gOf Certificate first) (gOf Certificate second) before after r)
               (subst (λ g. Composed v w g (gOf Certificate second) before after r) g₁-is (subst (λ g. Composed v w g₁ g before after r) g₂-is h)))

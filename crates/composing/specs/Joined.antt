@@ -11,13 +11,13 @@ use Rattle.sheet.specs.Values.{question}
 use Rattle.sheet.specs.Ready.{Ready, HoldsG, HoldsN}
 use Rattle.promises.specs.declared.Written.{Written}
 use Rattle.promises.specs.declared.Written.the-variants.{Count, Refused}
-use Rattle.promises.specs.Asked.{Meet, ProductAllowed}
+use Rattle.promises.specs.Asked.{ComposableValues, ProductAllowed}
 use Rattle.promises.specs.Answer.{ComposeIn}
 
 pub record Joined (v w : Values) (g₁ n₁ g₂ : List ℕ) : Type 0 where
   pub ready₁ : Ready v
   pub ready₂ : Ready w
-  pub meet : Meet v w
+  pub meet : ComposableValues v w
   pub allowed : ProductAllowed v w
   pub g₁-words : HoldsG v g₁
   pub n₁-words : HoldsN v n₁

@@ -12,13 +12,13 @@ ghost use Rattle.questions.specs.Questions.{AllYes};
 ghost use Rattle.sheet.specs.declared.Form.the-variants.{Certificate};
 ghost use Rattle.sheet.specs.Values.{valuesOf, half, gOf, nOf};
 ghost use Rattle.sheet.specs.Ready.{Ready};
-ghost use Rattle.promises.specs.Asked.{Room, Meet, ProductAllowed, check-asks};
+ghost use Rattle.promises.specs.Asked.{Room, ComposableValues, ProductAllowed, check-asks};
 ghost use Rattle.promises.specs.Answer.{composed, ComposeRight};
 ghost use Rattle.composing.specs.Joined.{Joined, Composed};
 
 // Question 13.
 fn meet(v: Values, w: Values) -> bool
-    ensures { λ r. ⌜ (r ≡ true) ↔ Meet v w ⌝ }
+    ensures { λ r. ⌜ (r ≡ true) ↔ ComposableValues v w ⌝ }
 {
     if v.p != w.p {
         return false;
@@ -154,8 +154,8 @@ fn compose_second(
     }
 }
 
-// The certificate of the first map followed by the second, in the answer; or the number of the first of the questions 1, 2 to 10 of the first certificate, 2 to
-// 10 of the second, 13 and 14 with a no, and then the answer is as it was.
+// The certificate of the composite, first the first map and then the second, in the answer; or the number of the first no among the questions 1, 2 to 10 of the
+// first certificate, 2 to 10 of the second, 13 and 14, and then the answer is as it was.
 pub fn compose(first: &[u32], second: &[u32], answer: &mut [u32]) -> Written
     ensures { λ r. ⌜ ComposeRight (now (first .entry)) (now (second .entry)) (now (answer .entry)) (now (answer .exit)) r ⌝ }
 {

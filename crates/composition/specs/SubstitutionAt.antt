@@ -16,10 +16,12 @@ module _ (R : CRing) where
     pub homogenize-poly : Poly R X → Poly R Y → (n : ℕ) (P : Seq R) → Poly R (homogenize R X Y n P)
     homogenize-poly px py zero P = subst (Poly R) (sym (homogenize-zero R X Y P)) (poly-const R (P 0))
     homogenize-poly px py (suc n) P =
-        subst (Poly R) (sym (homogenize-suc R X Y n P)) (poly-add R _ _ (poly-mul R _ _ (poly-const R (P 0)) (poly-pow R Y py (suc n))) (poly-mul R X _ px (homogenize-poly px py n (tail R P))))
+        subst (Poly R) (sym (homogenize-suc R X Y n P))
+        (poly-add R _ _ (poly-mul R _ _ (poly-const R (P 0)) (poly-pow R Y py (suc n))) (poly-mul R X _ px (homogenize-poly px py n (tail R P))))
 
     pub homogenize-at : (px : Poly R X) (py : Poly R Y) (u u′ : R .Car) → R .mul u′ (Value.at R Y py u) ≡ Value.at R X px u
-        → (n : ℕ) (P : Seq R) (p : Poly R (homogenize R X Y n P)) → Value.at R (homogenize R X Y n P) p u ≡ R .mul (pow R (Value.at R Y py u) n) (value R (suc n) P u′)
+        → (n : ℕ) (P : Seq R) (p : Poly R (homogenize R X Y n P))
+        → Value.at R (homogenize R X Y n P) p u ≡ R .mul (pow R (Value.at R Y py u) n) (value R (suc n) P u′)
     unfolding value
     homogenize-at px py u u′ e zero P p =
         at-same R (homogenize R X Y 0 P) (const R (P 0)) p (poly-const R (P 0)) u (homogenize-zero R X Y P)

@@ -37,7 +37,7 @@ use Rattle.promises.specs.declared.Image.{Image}
 use Rattle.promises.specs.declared.Image.the-variants as image
 use Rattle.promises.specs.Abscissas.{rational-abscissas}
 use Rattle.promises.specs.Asked.{prime, put, g, n, Room, check-asks, push-asks, name-asks, Solvable, last-ask, Passing, Leading, Given}
-use Rattle.promises.specs.Asked.{Meet, ProductAllowed, join-asks}
+use Rattle.promises.specs.Asked.{ComposableValues, ProductAllowed, join-asks}
 use Rattle.promises.specs.Composed.{composed-ready, composed-meets}
 use Rattle.promises.specs.Certificates.{certificate-ready, certificate-meets}
 use Rattle.promises.specs.Answer.{SolveRight, KernelRight, ComposeRight, PushRight, CertificateIn, with, composed}
@@ -419,7 +419,7 @@ module _ (s t : Printed) where
   abbrev meet-tests : List Bool
   meet-tests = eqb (v₁ .p) (v₂ .p) ∷ eqb (v₁ .atilde) (v₂ .a) ∷ eqb (v₁ .btilde) (v₂ .b) ∷ []
 
-  meet-by-computing : T (every meet-tests) → Meet v₁ v₂
+  meet-by-computing : T (every meet-tests) → ComposableValues v₁ v₂
   meet-by-computing b =
       let e : Every meet-tests = every-yes meet-tests b in
       record { p = eqb→eq _ _ (e 0); a = eqb→eq _ _ (e 1); b = eqb→eq _ _ (e 2) }
@@ -449,7 +449,7 @@ module _ (s t : Printed) where
     record { certificate = fill; g-is = same },
   )
     where
-      meet : Meet v₁ v₂
+      meet : ComposableValues v₁ v₂
       meet = meet-by-computing (b 1)
 
       allowed : ProductAllowed v₁ v₂
@@ -484,7 +484,7 @@ module _ (s t : Printed) where
   abbrev large-tests : ℕ → List Bool
   large-tests k = both-pass ∷ every meet-tests ∷ not (every product-tests) ∷ eqb k 14 ∷ []
 
-  meet-yes : Meet v₁ v₂ → every meet-tests ≡ true
+  meet-yes : ComposableValues v₁ v₂ → every meet-tests ≡ true
   meet-yes h = ap₂ both (eq-eqb _ _ (h .p)) (ap₂ both (eq-eqb _ _ (h .a)) (ap (λ b. both b true) (eq-eqb _ _ (h .b))))
 
   product-yes : ProductAllowed v₁ v₂ → every product-tests ≡ true

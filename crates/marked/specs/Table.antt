@@ -1,5 +1,5 @@
--- Document 01's marked sheets (◆ there) and document 02's cases of E1, E2, E5 and E6 as one table, with neighbours that neither document has, and the one theorem
--- that covers it: every row holds, from the rules, by computing.
+-- Document 01's marked sheets (◆ there) and document 02's cases of E1, E2, E5 and E6 as one table, with neighbours that neither document has, and the one
+-- theorem that covers it: every row holds, from the rules, by computing.
 -- Assumes nothing.
 use mathlib.Core.Bool.{Bool, true}
 use mathlib.Core.List.{List, [], _∷_}

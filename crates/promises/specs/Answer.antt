@@ -1,4 +1,4 @@
--- What each service has to answer: the first no among its questions, or the result that document 01 names, with every word of the lent answer buffer.
+-- What each service has to answer: the first no among its questions, or the result that documents 01 and 02 name, with every word of the lent answer buffer.
 -- Assumes nothing.
 use mathlib.Core.Path.{_≡_}
 use mathlib.Core.List.{List, _++_}
@@ -81,7 +81,7 @@ KernelRight ws before after r =
     Writes (kernel-asks ws (length before)) (λ count after. KernelIn (valuesOf Kernel ws) (gOf Kernel ws) before after count) before after
     (writtenOutcome r)
 
--- ── compose: the certificate of the first map followed by the second
+-- ── compose: the certificate of the composite of two maps
 
 -- from the first domain to the second codomain, with the degree ℓ₁ℓ₂ and the kernel sum σ₂ + ℓ₂σ₁
 abbrev pub composed : Values → Values → Values
@@ -95,7 +95,7 @@ composed v w = record {
   sigma = (w .sigma + w .degree * v .sigma) % v .p;
 }
 
--- its g is g₁ times g₂ at N₁/g₁², cleared by g₁^(2d₂)
+-- with the kernel polynomial of the composite
 pub record ComposeIn (v w : Values) (g₁ g₂ before after : List ℕ) (count : ℕ) : Type 0 where
   pub certificate : CertificateIn (composed v w) before after count
   pub g-is : poly (v .p) (certificate .g) ≡ composite-g (Zmod (v .p)) (question v) (half w) (poly (v .p) g₁) (poly (v .p) g₂)

@@ -1,4 +1,4 @@
--- The questions that each service puts, in document 01's order: 2 to 7 are those of the sheet's form, and 1 and 8 to 14 are here, each asked of values and
+-- The questions that each service puts, in the order of documents 01 and 02: 2 to 7 are those of the sheet's form, and 1 and 8 to 14 are here, each asked of values and
 -- coefficients; a sheet is asked by what it says.
 -- Assumes nothing.
 use mathlib.Core.Path.{_≡_}
@@ -83,7 +83,7 @@ abbrev pub push-asks : List ℕ → Point → Questions
 push-asks ws point = check-asks ws ++ (12, Given (valuesOf Certificate ws) point) ∷ []
 
 -- 13: both have the same prime, and the first codomain is the second domain
-pub record Meet (v w : Values) : Type 0 where
+pub record ComposableValues (v w : Values) : Type 0 where
   pub p : v .p ≡ w .p
   pub a : v .atilde ≡ w .a
   pub b : v .btilde ≡ w .b
@@ -94,7 +94,7 @@ pub record ProductAllowed (v w : Values) : Type 0 where
   pub small : 2 * (v .degree * w .degree) - 1 < v .p
 
 abbrev pub join-asks : Values → Values → Questions
-join-asks v w = (13, Meet v w) ∷ (14, ProductAllowed v w) ∷ []
+join-asks v w = (13, ComposableValues v w) ∷ (14, ProductAllowed v w) ∷ []
 
 -- compose: 1, what check asks of the first certificate, the same of the second, 13, 14
 abbrev pub compose-asks : List ℕ → List ℕ → ℕ → Questions

@@ -18,7 +18,7 @@ use Rattle.composition.specs.Theorems as T
 use Rattle.sheet.specs.declared.Values.{Values}
 use Rattle.sheet.specs.Values.{half, question}
 use Rattle.sheet.specs.Ready.{Ready, HoldsG, half-least, degree-half}
-use Rattle.promises.specs.Asked.{Meet, ProductAllowed}
+use Rattle.promises.specs.Asked.{ComposableValues, ProductAllowed}
 use Rattle.promises.specs.Answer.{composed}
 
 -- values with another p
@@ -37,7 +37,7 @@ over p w = record {
 pub over-same : {p : ℕ} (w : Values) → p ≡ w .p → over p w ≡ w
 over-same w e i = over (e i) w
 
-module _ (v w : Values) (ready : Ready v) (ready′ : Ready w) (meet : Meet v w) (allowed : ProductAllowed v w) where
+module _ (v w : Values) (ready : Ready v) (ready′ : Ready w) (meet : ComposableValues v w) (allowed : ProductAllowed v w) where
   abbrev p : ℕ
   p = v .p
 

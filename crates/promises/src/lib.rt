@@ -8,7 +8,7 @@ pub enum Verdict {
     Refused(u32),
 }
 
-// What solve and kernel answer: how many words they wrote, or a refusal.
+// What solve, kernel and compose answer: how many words they wrote, or a refusal.
 pub enum Written {
     Count(u32),
     Refused(u32),

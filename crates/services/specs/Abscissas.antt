@@ -1,5 +1,5 @@
--- The count of rational abscissas on a certificate (document 02, E6), about sheets: on every one that check lets pass, and on those that solve and kernel
--- write, it is the number of u from 0 to p − 1 with g(u) = 0, which is d at most; and what check says of a wrong or missing one.
+-- The count of rational abscissas on a certificate (document 02, E6), about sheets: on every one that check lets pass, and on those that solve, kernel and
+-- compose write, it is the number of u from 0 to p − 1 with g(u) = 0, which is d at most; and what check says of a wrong or missing one.
 -- Assumes nothing.
 use mathlib.Core.Path.{_≡_, refl, _∙_}
 use mathlib.Core.Logic.{_↔_, inl, inr}
@@ -27,11 +27,12 @@ use Rattle.promises.specs.declared.Verdict.the-variants as verdict
 use Rattle.promises.specs.declared.Written.the-variants as written
 use Rattle.promises.specs.Abscissas.{rational-abscissas, abscissas-most}
 use Rattle.promises.specs.Asked.{prime, put, g, n, certificate-rules, check-asks}
-use Rattle.promises.specs.Answer.{CheckRight, SolveRight, KernelRight}
+use Rattle.promises.specs.Answer.{CheckRight, SolveRight, KernelRight, ComposeRight}
 use Rattle.services.specs.Check.{check-unique}
 use Rattle.promises.specs.Certificates.{check-asked}
 use Rattle.services.specs.Solve.{solve-certified}
 use Rattle.services.specs.Kernel.{kernel-certified}
+use Rattle.services.specs.Compose.{compose-certified}
 use Rattle.services.specs.Demands.{passes-exactly}
 
 -- The sheet's count is right.
@@ -54,9 +55,13 @@ certificate-abscissas-most ws passes =
 pub solve-abscissas : (ws before after : List ℕ) (c : ℕ) → SolveRight ws before after (written.Count c) → Counted (take c after)
 solve-abscissas ws before after c h = certificate-abscissas (take c after) (solve-certified ws before after c h)
 
--- and on what kernel writes.
+-- on what kernel writes,
 pub kernel-abscissas : (ws before after : List ℕ) (c : ℕ) → KernelRight ws before after (written.Count c) → Counted (take c after)
 kernel-abscissas ws before after c h = certificate-abscissas (take c after) (kernel-certified ws before after c h)
+
+-- and on what compose writes: a composed map carries its own count.
+pub compose-abscissas : (first second before after : List ℕ) (c : ℕ) → ComposeRight first second before after (written.Count c) → Counted (take c after)
+compose-abscissas first second before after c h = certificate-abscissas (take c after) (compose-certified first second before after c h)
 
 -- ── what check says of the count
 

@@ -8,19 +8,20 @@ use lib.ListN.{length, take}
 use Rattle.zmod.specs.Zmod.{Zmod}
 use Rattle.zmod.specs.Residues.{poly}
 use Rattle.composition.specs.Composite.{composite-g}
-use Rattle.questions.specs.Questions.{Questions, AllYes}
+use Rattle.questions.specs.Questions.{Questions, AllYes, not-both}
 use Rattle.questions.specs.Joined.{all-front, all-back}
 use Rattle.questions.specs.Numbered.{yes-to}
 use Rattle.questions.specs.Answers.{writes-unique}
 use Rattle.sheet.specs.declared.Form.the-variants.{Certificate}
 use Rattle.sheet.specs.declared.Values.{Values}
+use Rattle.sheet.specs.Form.{certificateWords}
 use Rattle.sheet.specs.Values.{gOf, valuesOf, question, half}
 use Rattle.sheet.specs.Asked.{Curves}
 use Rattle.sheet.specs.Ready.{Ready}
 use Rattle.promises.specs.declared.Written.{Written}
 use Rattle.promises.specs.declared.Written.the-variants as written
 use Rattle.promises.specs.Outcome.{writtenOutcome, same-written}
-use Rattle.promises.specs.Asked.{Meet, ProductAllowed, check-asks, join-asks, compose-asks}
+use Rattle.promises.specs.Asked.{ComposableValues, ProductAllowed, check-asks, join-asks, compose-asks}
 use Rattle.promises.specs.Answer.{composed, ComposeIn, ComposeRight}
 use Rattle.promises.specs.Composed.{over, over-same, composed-ready}
 use Rattle.promises.specs.Certificates.{certificate-ready}
@@ -52,7 +53,7 @@ module _ (first second : List ℕ) where
     joined : AllYes (join-asks v w)
     joined = all-back (check-asks second) (join-asks v w) after-first
 
-    pub they-meet : Meet v w
+    pub they-meet : ComposableValues v w
     they-meet = yes-to (join-asks v w) 13 joined
 
     pub product-allowed : ProductAllowed v w
@@ -89,6 +90,12 @@ module _ (first second : List ℕ) where
         (writtenOutcome r) (writtenOutcome r′) after after′ h k in
         (same-written r r′ (same .0), same .1)
 
+    -- Where all questions are answered with yes, compose writes a certificate, of as many words as its degree has.
+    pub compose-written : (after : List ℕ) (r : Written) → AllYes (compose-asks first second (length before)) → ComposeRight first second before after r
+        → r ≡ written.Count (certificateWords (half (composed v w)))
+    compose-written after (written.Count c) all h = ap written.Count (h .1 .certificate .count-is)
+    compose-written after (written.Refused k) all h = absurd (not-both (compose-asks first second (length before)) k all (h .0))
+
     module _ (after : List ℕ) (c : ℕ) (right : ComposeRight first second before after (written.Count c)) where
       abbrev all : AllYes (compose-asks first second (length before))
       all = right .0
@@ -111,7 +118,7 @@ module _ (first second : List ℕ) where
       pub compose-values : valuesOf Certificate (take c after) ≡ composed v w
       compose-values = written-values (composed v w) known curves before after c (held .certificate)
 
-      -- and its g is g₁ times g₂ at N₁/g₁², cleared by g₁^(2d₂).
+      -- and its g is the composite's.
       pub compose-g : poly (v .p) (gOf Certificate (take c after))
           ≡ composite-g (Zmod (v .p)) (question v) (half w) (poly (v .p) (gOf Certificate first)) (poly (v .p) (gOf Certificate second))
       compose-g =

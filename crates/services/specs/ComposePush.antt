@@ -1,8 +1,8 @@
 -- Points under what compose writes: pushing a point through it is pushing it through the first certificate and then through the second, infinity and the
 -- points of both kernels included, and a point that the first refuses is refused.
 -- Assumes nothing.
-use mathlib.Core.Path.{_≡_, sym, subst}
-use mathlib.Core.Logic.{_⊎_, inl, inr}
+use mathlib.Core.Path.{_≡_, refl, sym, subst}
+use mathlib.Core.Logic.{_↔_, _⊎_, inl, inr}
 use mathlib.Core.List.{List, [], _∷_}
 use Prim.Native.Nat.{ℕ, _<_}
 use lib.ListN.{length, take}
@@ -28,12 +28,12 @@ use Rattle.promises.specs.declared.Point.{Point}
 use Rattle.promises.specs.declared.Point.the-variants as point
 use Rattle.promises.specs.declared.Image.{Image}
 use Rattle.promises.specs.declared.Image.the-variants as image
-use Rattle.promises.specs.Asked.{OnDomain, Given, Meet, ProductAllowed, check-asks, push-asks, compose-asks}
+use Rattle.promises.specs.Asked.{OnDomain, Given, ComposableValues, ProductAllowed, check-asks, push-asks, compose-asks}
 use Rattle.promises.specs.Answer.{CertificateIn, composed, ComposeIn, ComposeRight, ToPoint, Goes, PushRight}
 use Rattle.promises.specs.Composed.{over, over-same, composable, composed-question, meets-over}
 use Rattle.promises.specs.Certificates.{certificate-N, certificate-meets}
 use Rattle.services.specs.Certified.{written-values, written-g, written-n}
-use Rattle.services.specs.Push.{push-unique, push-on-codomain}
+use Rattle.services.specs.Push.{push-answers, push-unique, push-on-codomain}
 use Rattle.services.specs.Compose as C
 
 -- Where a point goes under the first, and from there under the second; what the first refuses stays refused.
@@ -73,7 +73,7 @@ module _ (first second before after : List ℕ) (c : ℕ) (right : ComposeRight 
   abbrev held : CertificateIn (composed v w) before after c
   held = right .1 .certificate
 
-  -- the second's question, over the first one's p, and the composite's
+  -- the two questions, over the first one's p, and the composite's kernel polynomial
   abbrev q₁ : Question R
   q₁ = question v
 
@@ -97,7 +97,7 @@ module _ (first second before after : List ℕ) (c : ℕ) (right : ComposeRight 
   ready₂ : Ready w
   ready₂ = C.second-ready first second (length before) (right .0)
 
-  meet : Meet v w
+  meet : ComposableValues v w
   meet = C.they-meet first second (length before) (right .0)
 
   allowed : ProductAllowed v w
@@ -245,16 +245,28 @@ module _ (first second before after : List ℕ) (c : ℕ) (right : ComposeRight 
 
   -- ── the theorem
 
-  -- Where a point goes in turn, there it goes under what compose has written;
-  pub compose-push : (at : Point) (r : Image) → InTurn first second at r → PushRight (take c after) at r
-  compose-push at (image.Affine u t) (image.Affine u′ t′, h, k) = goes-there at (point.Affine u′ t′) (point.Affine u t) (h .0) (h .1) (k .1)
-  compose-push at image.Infinity (image.Affine u′ t′, h, k) = goes-there at (point.Affine u′ t′) point.Infinity (h .0) (h .1) (k .1)
-  compose-push at (image.Refused n) (image.Affine u′ t′, h, k) = absurd (none-refused (point.Affine u′ t′) n (given-between at u′ t′ h) k)
-  compose-push at (image.Affine u t) (image.Infinity, h, k) = absurd (k .1)
-  compose-push at image.Infinity (image.Infinity, h, k) = goes-there at point.Infinity point.Infinity (h .0) (h .1) (k .1)
-  compose-push at (image.Refused n) (image.Infinity, h, k) = absurd (none-refused point.Infinity n tt k)
-  compose-push at r (image.Refused n, h, k) = subst (PushRight ws at) (sym k) (refused-there at n h)
+  in-turn-goes : (at : Point) (r : Image) → InTurn first second at r → PushRight ws at r
+  in-turn-goes at (image.Affine u t) (image.Affine u′ t′, h, k) = goes-there at (point.Affine u′ t′) (point.Affine u t) (h .0) (h .1) (k .1)
+  in-turn-goes at image.Infinity (image.Affine u′ t′, h, k) = goes-there at (point.Affine u′ t′) point.Infinity (h .0) (h .1) (k .1)
+  in-turn-goes at (image.Refused n) (image.Affine u′ t′, h, k) = absurd (none-refused (point.Affine u′ t′) n (given-between at u′ t′ h) k)
+  in-turn-goes at (image.Affine u t) (image.Infinity, h, k) = absurd (k .1)
+  in-turn-goes at image.Infinity (image.Infinity, h, k) = goes-there at point.Infinity point.Infinity (h .0) (h .1) (k .1)
+  in-turn-goes at (image.Refused n) (image.Infinity, h, k) = absurd (none-refused point.Infinity n tt k)
+  in-turn-goes at r (image.Refused n, h, k) = subst (PushRight ws at) (sym k) (refused-there at n h)
 
-  -- so that it is the same to push a point through the two in turn, and through what compose has written.
-  pub compose-push-same : (at : Point) (r r′ : Image) → InTurn first second at r → PushRight (take c after) at r′ → r ≡ r′
-  compose-push-same at r r′ h k = push-unique ws at r r′ (compose-push at r h) k
+  -- every point has an answer in turn
+  in-turn : (at : Point) → (r : Image) × InTurn first second at r
+  in-turn at = let (between, h) = push-answers first passes₁ at in onward between h
+    where
+      onward : (between : Image) → PushRight first at between → (r : Image) × InTurn first second at r
+      onward (image.Affine u t) h = let (r, k) = push-answers second passes₂ (point.Affine u t) in (r, (image.Affine u t, h, k))
+      onward image.Infinity h = let (r, k) = push-answers second passes₂ point.Infinity in (r, (image.Infinity, h, k))
+      onward (image.Refused n) h = (image.Refused n, (image.Refused n, h, refl))
+
+  -- Pushing a point through what compose has written is pushing it through the first and then through the second: the one gives an answer exactly when the
+  -- other does.
+  pub compose-push : (at : Point) (r : Image) → PushRight (take c after) at r ↔ InTurn first second at r
+  compose-push at r = (back, in-turn-goes at r)
+    where
+      back : PushRight ws at r → InTurn first second at r
+      back h = let (r′, k) = in-turn at in subst (InTurn first second at) (push-unique ws at r′ r (in-turn-goes at r′ k) h) k

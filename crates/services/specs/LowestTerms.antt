@@ -1,5 +1,5 @@
--- Kernels free of repetition (document 02, E12), about the words of every sheet that check lets pass, whoever wrote them; what solve and kernel write is
--- such a sheet. Polynomials and their factors are over ℤ/p, the field of the sheet's p; ℓ, g and N are those on the sheet.
+-- Kernels free of repetition (document 02, E12), about the words of every sheet that check lets pass, whoever wrote them; what solve, kernel and compose
+-- write is such a sheet. Polynomials and their factors are over ℤ/p, the field of the sheet's p; ℓ, g and N are those on the sheet.
 -- Assumes nothing.
 use mathlib.Core.Logic.{_≢_}
 use mathlib.Core.Path.{_≡_, sym, _∙_, ap, subst}
@@ -28,9 +28,10 @@ use Rattle.promises.specs.declared.Verdict.the-variants as verdict
 use Rattle.promises.specs.declared.Written.the-variants as written
 use Rattle.promises.specs.Asked as Asked
 use Rattle.promises.specs.Asked.{OnDomain, prime, put, check-asks}
-use Rattle.promises.specs.Answer.{CheckRight, SolveRight, KernelRight}
+use Rattle.promises.specs.Answer.{CheckRight, SolveRight, KernelRight, ComposeRight}
 use Rattle.services.specs.Solve.{solve-certified}
 use Rattle.services.specs.Kernel.{kernel-certified}
+use Rattle.services.specs.Compose.{compose-certified}
 use Rattle.promises.specs.Certificates.{certificate-ready, certificate-N, certificate-meets}
 
 -- Check's verdict on the words is that they pass.
@@ -169,6 +170,11 @@ module _ (ws : List ℕ) (passes : CheckRight ws verdict.Passes) where
 pub solve-passes : (ws before after : List ℕ) (c : ℕ) → SolveRight ws before after (written.Count c) → CheckRight (take c after) verdict.Passes
 solve-passes ws before after c h = (solve-certified ws before after c h, tt)
 
--- and so is what kernel writes.
+-- so is what kernel writes,
 pub kernel-passes : (ws before after : List ℕ) (c : ℕ) → KernelRight ws before after (written.Count c) → CheckRight (take c after) verdict.Passes
 kernel-passes ws before after c h = (kernel-certified ws before after c h, tt)
+
+-- and so is what compose writes.
+pub compose-passes : (first second before after : List ℕ) (c : ℕ) → ComposeRight first second before after (written.Count c)
+    → CheckRight (take c after) verdict.Passes
+compose-passes first second before after c h = (compose-certified first second before after c h, tt)

@@ -1,18 +1,22 @@
--- What a customer can cite of push: one answer is right and no other, and an affine image is a point of the codomain.
+-- What a customer can cite of push: for every point of every certificate that passes one answer is right and no other, and an affine image is a point of
+-- the codomain.
 -- Assumes nothing.
-use mathlib.Core.Path.{_≡_, refl, ap₂}
+use mathlib.Core.Path.{_≡_, refl, sym, ap₂, subst}
+use mathlib.Core.Logic.{inl}
 use mathlib.Core.List.{List, [], _∷_}
-use Prim.Native.Nat.{ℕ, suc}
+use Prim.Native.Nat.{ℕ, suc, _<_}
+use native.Mathlib.Decide.{decLt}
 use native.Mathlib.Omega.{arith}
 use Rattle.series.specs.Degree.{Below}
-use Rattle.zmod.specs.Zmod.{Zmod, mk, mk-apart}
+use Rattle.zmod.specs.Zmod.{Zmod, mk, mk-apart, val, val-lt, mk-val, same?}
 use Rattle.zmod.specs.Prime.{Prime, prime-pos}
 use Rattle.zmod.specs.Residues.{poly-past}
 use Rattle.isogeny.specs.Curve.{OnCurve}
-use Rattle.isogeny.specs.Rules.{ℓ}
+use Rattle.isogeny.specs.Rules as Rules
+use Rattle.isogeny.specs.Rules.{ℓ, g-at}
 use Rattle.isogeny.specs.Theorems as T
 use Rattle.questions.specs.Questions.{AllYes}
-use Rattle.questions.specs.Joined.{all-front}
+use Rattle.questions.specs.Joined.{all-front, all-all, no-after}
 use Rattle.questions.specs.Numbered.{yes-to}
 use Rattle.questions.specs.Answers.{answers-unique}
 use Rattle.sheet.specs.declared.Form.the-variants.{Certificate}
@@ -24,7 +28,7 @@ use Rattle.promises.specs.declared.Point.the-variants as point
 use Rattle.promises.specs.declared.Image.{Image}
 use Rattle.promises.specs.declared.Image.the-variants as image
 use Rattle.promises.specs.Outcome.{imageOutcome, same-image}
-use Rattle.promises.specs.Asked.{prime, put, g, n, certificate-rules, check-asks, push-asks, Given}
+use Rattle.promises.specs.Asked.{prime, put, g, n, OnDomain, check-asks, push-asks, Given}
 use Rattle.promises.specs.Answer.{ToPoint, Goes, PushRight}
 use Rattle.promises.specs.Certificates.{check-asked}
 
@@ -64,6 +68,55 @@ module _ (ws : List ℕ) (all : AllYes (check-asks ws)) where
   goes-once point.Infinity (point.Affine u w) b h k = absurd h
   goes-once point.Infinity point.Infinity (point.Affine u w) h k = absurd k
   goes-once point.Infinity point.Infinity point.Infinity h k = refl
+
+  -- ── every point has an answer
+
+  on-domain? : (x y : ℕ) → Dec (OnDomain (valuesOf Certificate ws) x y)
+  unfolding OnCurve
+  on-domain? x y = go (decLt x p) (decLt y p) (same? p _ _)
+    where
+      go : Dec (x < p) → Dec (y < p)
+          → Dec (OnCurve (Zmod p) (put Certificate ws .A) (put Certificate ws .B) (mk p x) (mk p y)) → Dec (OnDomain (valuesOf Certificate ws) x y)
+      go (yes a) (yes b) (yes on) = yes (record { x-below = a; y-below = b; on = on })
+      go (yes a) (yes b) (no off) = no (λ h. off (h .on))
+      go (yes a) (no b) on = no (λ h. b (h .y-below))
+      go (no a) b on = no (λ h. a (h .x-below))
+
+  affine-answer : (x y : ℕ) → OnDomain (valuesOf Certificate ws) x y → (r : Image) × PushRight ws (point.Affine x y) r
+  affine-answer x y on = go (same? p (g-at (Zmod p) (put Certificate ws) (g Certificate ws) (mk p x)) (mk p 0))
+    where
+      asked-all : AllYes (push-asks ws (point.Affine x y))
+      asked-all = all-all (check-asks ws) ((12, Given (valuesOf Certificate ws) (point.Affine x y)) ∷ []) all (on, tt)
+
+      go : Dec (g-at (Zmod p) (put Certificate ws) (g Certificate ws) (mk p x) ≡ mk p 0) → (r : Image) × PushRight ws (point.Affine x y) r
+      go (yes zero) = (image.Infinity, (asked-all, zero))
+      go (no nonzero) =
+          let (u, w, h) =
+          T.image-exists is-prime (put Certificate ws) (g Certificate ws) (n Certificate ws) g-below n-below (mk p x) (mk p y) nonzero in (
+            image.Affine (val p u) (val p w),
+            (
+              asked-all,
+              record {
+                u-below = val-lt (prime-pos is-prime) u;
+                w-below = val-lt (prime-pos is-prime) w;
+                image =
+                    subst (λ w. Rules.Image (Zmod p) (put Certificate ws) (g Certificate ws) (n Certificate ws) (mk p x) (mk p y) (mk p (val p u)) w)
+                    (sym (mk-val p w))
+                    (subst (λ u. Rules.Image (Zmod p) (put Certificate ws) (g Certificate ws) (n Certificate ws) (mk p x) (mk p y) u w) (sym (mk-val p u)) h);
+              },
+            ),
+          )
+
+  -- Whatever the point, some answer is right.
+  pub push-answers : (at : Point) → (r : Image) × PushRight ws at r
+  push-answers point.Infinity =
+      (image.Infinity, (all-all (check-asks ws) ((12, Given (valuesOf Certificate ws) point.Infinity) ∷ []) all (tt, tt), tt))
+  push-answers (point.Affine x y) = go (on-domain? x y)
+    where
+      go : Dec (OnDomain (valuesOf Certificate ws) x y) → (r : Image) × PushRight ws (point.Affine x y) r
+      go (yes on) = affine-answer x y on
+      go (no off) =
+          (image.Refused 12, no-after (check-asks ws) ((12, Given (valuesOf Certificate ws) (point.Affine x y)) ∷ []) 12 all (inl (refl, off)))
 
 module _ (ws : List ℕ) (at : Point) where
   -- One answer is right at most.

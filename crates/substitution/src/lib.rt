@@ -103,7 +103,7 @@ fn begin(
 }
 
 // A step of Horner's rule: the denominator, the first `dl` words of den, takes a factor g₁², and the numerator, the first `hl` words of h, becomes n times
-// itself and c times the denominator. e and acc are room.
+// itself plus c times the new denominator. e and acc are room.
 fn step(
     h: &mut [u32],
     hl: usize,

@@ -166,7 +166,8 @@ module _ (R : CRing) (q₁ q₂ : Question R) (d₁≥1 : 1 ≤ q₁ .d) (d₂�
   linear =
       ap₂ (λ m s. m ⊗ x ⊖ s)
       (ap #_ (sym (composite-degree R q₁ q₂)) ∙ cast-mul (Series R) (ℓ R q₂) (ℓ R q₁))
-      (sym (const-add R (q₂ .σ) _) ∙ ap (λ y. κ (q₂ .σ) ⊕ y) (sym (const-mul R (cast R (ℓ R q₂)) (q₁ .σ)) ∙ ap (λ y. y ⊗ κ (q₁ .σ)) (sym (cast-series R (ℓ R q₂)))))
+      (sym (const-add R (q₂ .σ) _)
+      ∙ ap (λ y. κ (q₂ .σ) ⊕ y) (sym (const-mul R (cast R (ℓ R q₂)) (q₁ .σ)) ∙ ap (λ y. y ⊗ κ (q₁ .σ)) (sym (cast-series R (ℓ R q₂)))))
       ∙ solve5 (Series R) (λ l m x s r. l :* m :* x :- (r :+ l :* s)) (λ l m x s r. l :* (m :* x :- s) :- r) tt
       (# (ℓ R q₂)) (# (ℓ R q₁)) x (κ (q₁ .σ)) (κ (q₂ .σ))
       ∙ ap (λ l. l ⊗ (# (ℓ R q₁) ⊗ x ⊖ κ (q₁ .σ)) ⊖ κ (q₂ .σ)) cast-ℓ₂
