@@ -1,7 +1,9 @@
 //! What is measured: certificates of isogenies that the independent implementation makes from points of odd order, and sheets beside them that are
-//! refused after a known part of the work; and sheets for the count of rational abscissas, of such certificates and of random g.
+//! refused after a known part of the work; sheets for the count of rational abscissas, of such certificates and of random g; and pairs of certificates to be
+//! composed.
 
 use reference::call::point_number;
+use reference::composition;
 use reference::curve::Curve;
 use reference::field::Field;
 use reference::generate;
@@ -193,6 +195,52 @@ pub fn any_g(p: u64) -> Vec<Counted> {
         let curve = generate::random_curve(&mut random, p);
         let g = generate::random_monic(&mut random, Field::new(p), sheet::half(l));
         found.push(Counted::of(&generate::candidate(&curve, l, &g)));
+    }
+    found
+}
+
+/// The degrees of two maps, one after the other.
+pub const STEPS: [(u64, u64); 10] = [
+    (3, 3),
+    (3, 31),
+    (31, 3),
+    (15, 15),
+    (3, 85),
+    (85, 3),
+    (5, 51),
+    (51, 5),
+    (15, 17),
+    (17, 15),
+];
+
+/// Two certificates, the second from where the first ends, and that of the one map followed by the other.
+pub struct Steps {
+    pub first: Input,
+    pub second: Input,
+    pub composite: Input,
+}
+
+/// A pair for each two degrees. Those of one product are the steps of one isogeny, whose kernel is that of a point, so that all its roots are in the field.
+/// Where no point has this order, as none has 225 over 1009, the kernel of each step is that of a point, and some roots of the composite's may not be in it.
+pub fn steps(p: u64) -> Vec<Steps> {
+    let mut random = Random::new(p);
+    let mut wanted: Vec<u64> = STEPS.iter().map(|&(l, m)| l * m).collect();
+    wanted.dedup();
+    let whole = generate::cyclic(&mut random, p, &wanted, 20_000);
+    let mut found = Vec::new();
+    for (l, m) in STEPS {
+        let [first, second] = match whole.iter().find(|cyclic| cyclic.l() == l * m) {
+            Some(cyclic) => cyclic.split(l),
+            None => generate::pair(&mut random, p, [l, m], 20_000).expect("two such steps"),
+        };
+        let composite = composition::joined(&first, &second);
+        let [first, second, composite] =
+            [first, second, composite].map(|certificate| input(&mut random, certificate));
+        found.push(Steps {
+            first,
+            second,
+            composite,
+        });
     }
     found
 }

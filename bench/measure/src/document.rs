@@ -7,6 +7,7 @@ use common::inputs;
 use common::table::{short, spread, Table};
 
 use crate::abscissas::{self, Abscissas};
+use crate::composing::{self, Composing};
 use crate::counts;
 use crate::primes::Primes;
 use crate::{multiply_add, over, Row, ROUNDS, WORDS};
@@ -131,7 +132,13 @@ const FLINT_BARS: [(u64, f64, f64); 2] = [
     (inputs::PRIMES[1], 0.26, 0.2),
 ];
 
-fn bars(out: &mut String, rows: &[Row], primes: &Primes, abscissas: &Abscissas) {
+fn bars(
+    out: &mut String,
+    rows: &[Row],
+    primes: &Primes,
+    abscissas: &Abscissas,
+    composing: &Composing,
+) {
     let mut table = Table(out);
     table.head(&["bar", "at most", "worst measured", "where", "verdict"]);
     let mut bar = |what: String, most: f64, (value, place): (f64, String)| {
@@ -234,6 +241,16 @@ fn bars(out: &mut String, rows: &[Row], primes: &Primes, abscissas: &Abscissas) 
             apart,
         );
     }
+    bar(
+        "compose less its two checks, over check of the composite, question 3 apart".into(),
+        1.5,
+        composing.worst(composing::over_check),
+    );
+    bar(
+        "compose less its two checks, over PARI's ellisogenyapply".into(),
+        0.1,
+        composing.worst(composing::over_pari),
+    );
     for p in inputs::PRIMES {
         let slope = exponent(rows, p, |row| row.apart("check").median);
         bar(
@@ -423,6 +440,7 @@ pub fn write(
     rows: &[Row],
     primes: &Primes,
     abscissas: &Abscissas,
+    composing: &Composing,
     machine: &str,
     remarks: &str,
 ) -> String {
@@ -439,7 +457,7 @@ Each value is the median of {ROUNDS} rounds, with half the distance of the quart
 other and back; ratios and differences are taken within a round. Times are microseconds of the processor a call. Every answer is compared before it is
 timed. The inputs are certificates of isogenies that `tests/reference` makes from points of order l.
 
-- check, solve, kernel, push: the C entries of `libsagepliers.a`.
+- check, solve, kernel, push, compose: the C entries of `libsagepliers.a`.
 - FLINT: R1 to R3 and the count of the same certificate with `nmod_poly` (`bench/flint/check.c`), from words that have been read, for a p that is known to
   be prime.
 - PARI: `ellisogeny(E, g)` with the whole map, from the curve and the kernel polynomial as PARI's own objects. It does not ask whether g is one of an isogeny,
@@ -457,7 +475,7 @@ timed. The inputs are certificates of isogenies that `tests/reference` makes fro
         short(multiply_add.median)
     )
     .expect("a string takes any text");
-    bars(&mut out, rows, primes, abscissas);
+    bars(&mut out, rows, primes, abscissas, composing);
     out.push_str("\n## Remarks\n\n");
     out.push_str(remarks.trim());
     out.push('\n');
@@ -495,6 +513,7 @@ last five columns are parts of the same algorithm in unchecked Rust, each called
         write!(out, "\np = {p}:\n\n").expect("a string takes any text");
         parts(&mut out, rows, p);
     }
+    composing.section(&mut out);
     out.push_str("\n## Growth\n\nThe exponent of l that fits best (least squares of the logarithms) for l ≥ 31, question 3 apart. Times are taken
 in units of the multiply-add of the same row, since the machine's speed may change between rows.\n\n");
     growth(&mut out, rows);

@@ -2,7 +2,16 @@
 
 common::entries!("");
 
+// Compose is not one of the macro's, since bench/pair takes older libraries too.
 extern "C" {
+    fn sagepliers_compose(
+        first: *const u32,
+        first_words: usize,
+        second: *const u32,
+        second_words: usize,
+        answer: *mut u32,
+        room: usize,
+    ) -> u64;
     fn sagepliers_name(p: u32, a: u32, b: u32) -> u64;
     fn flint_check(values: *const u32, g: *const u32, n: *const u32, count: u32) -> u32;
     fn flint_rules(values: *const u32, g: *const u32, n: *const u32) -> u32;
@@ -10,6 +19,20 @@ extern "C" {
     fn n_is_prime(n: u64) -> i32;
     fn pari_init_opts(stack: usize, prime: u64, options: u64);
     fn uisprime(n: u64) -> i32;
+}
+
+pub fn compose(first: &[u32], second: &[u32], answer: &mut [u32]) -> u64 {
+    // SAFETY: the slices are readable, and the answer, which overlaps neither of the others, is writable.
+    unsafe {
+        sagepliers_compose(
+            first.as_ptr(),
+            first.len(),
+            second.as_ptr(),
+            second.len(),
+            answer.as_mut_ptr(),
+            answer.len(),
+        )
+    }
 }
 
 /// The lengths that the C functions read.

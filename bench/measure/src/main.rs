@@ -3,6 +3,7 @@
 //! the list of sheets, a file with remarks, the folder of the list.
 
 mod abscissas;
+mod composing;
 mod counts;
 mod document;
 mod entries;
@@ -232,7 +233,9 @@ fn main() -> ExitCode {
         let samples = clock::run(columns(input, &mut pari), ROUNDS, SAMPLE);
         rows.push(Row { p, l, samples });
     }
-    let text = document::write(&rows, &primes, &abscissas, &machine, &remarks);
+    eprintln!("compose");
+    let composing = composing::measure(&mut pari);
+    let text = document::write(&rows, &primes, &abscissas, &composing, &machine, &remarks);
     print!("{text}");
     std::fs::write(document, text).unwrap_or_else(|e| panic!("{document}: {e}"));
     ExitCode::SUCCESS

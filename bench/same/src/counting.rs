@@ -8,7 +8,7 @@
 use std::hint::black_box;
 
 use crate::rows::{self, Modulus};
-use crate::rules::{at, coefficient, mul, neg, part, part_mut, put, sub, word};
+use crate::rules::{at, coefficient, mul, neg, part, part_mut, put, sub};
 
 /// The most words of a g whose powers go by the table, and the room for it: d rows and three of zeros, of d words each.
 const MOST_BY_TABLE: usize = 16;
@@ -132,37 +132,20 @@ fn invert(c: &[u32], t: &mut [u32], p: u32) {
     }
 }
 
-/// e = a behind three zeros, and zeros after it.
-fn put_behind(a: &[u32], e: &mut [u64]) {
-    for k in 0..e.len() {
-        let x = if k < 3 { 0 } else { word(a, k - 3) };
-        put(e, k, u64::from(x));
-    }
-}
-
 /// t holds the inverse of g backwards, n holds -g; top and q are room.
 fn prepare(g: &[u32], t: &mut [u64], n: &mut [u64], top: &mut [u32], q: &mut [u32], p: u32) {
     reverse(g, top);
     invert(top, q, p);
-    put_behind(q, t);
+    rows::put_behind(q, t);
     negated(g, q, p);
-    put_behind(q, n);
-}
-
-/// acc = acc + a b by rows, where e holds b: as many sums as acc has words.
-fn add_product(acc: &mut [u64], a: &[u32], e: &[u64]) {
-    let mut i = 0;
-    while i < a.len() {
-        rows::add_rows(acc, i, acc.len() - i, e, rows::factors(a, i));
-        i += 4;
-    }
+    rows::put_behind(q, n);
 }
 
 /// The quotient by g of what has these coefficients from x^d on.
 fn quotient(high: &[u32], t: &[u64], acc: &mut [u64], top: &mut [u32], q: &mut [u32], m: Modulus) {
     reverse(high, top);
     acc.fill(0);
-    add_product(acc, top, t);
+    rows::add_product(acc, top, t);
     rows::remainders(acc, top, m);
     reverse(top, q);
 }
@@ -188,7 +171,7 @@ fn square_by_quotient(
     let acc = part_mut(acc, ..d + 1);
     quotient(part(room, d..), t, acc, top, q, m);
     widen(room, acc);
-    add_product(acc, q, n);
+    rows::add_product(acc, q, n);
     rows::remainders(acc, r, m);
 }
 

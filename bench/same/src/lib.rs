@@ -4,13 +4,14 @@
 //! answers before it takes any time. R3 is decided by the recurrence, so 3l - 3 < p is assumed.
 
 pub mod counting;
+pub mod horner;
 mod primes;
 pub mod rows;
 pub mod rules;
 mod services;
 
 pub use primes::question_three;
-pub use services::{check, kernel, push, solve};
+pub use services::{check, compose, kernel, push, solve, write};
 
 /// The values in a sheet's header; 0 where its form has no such word.
 #[derive(Clone, Copy, Default)]

@@ -119,3 +119,20 @@ pub fn square(a: &[u32], e: &mut [u64], acc: &mut [u64], out: &mut [u32], m: Mod
     sums(a, e, acc);
     remainders(acc, out, m);
 }
+
+/// e = a behind three zeros, and zeros after it.
+pub fn put_behind(a: &[u32], e: &mut [u64]) {
+    for k in 0..e.len() {
+        let x = if k < 3 { 0 } else { word(a, k - 3) };
+        put(e, k, u64::from(x));
+    }
+}
+
+/// acc = acc + a b by rows, where e holds b: as many sums as acc has words.
+pub fn add_product(acc: &mut [u64], a: &[u32], e: &[u64]) {
+    let mut i = 0;
+    while i < a.len() {
+        add_rows(acc, i, acc.len() - i, e, factors(a, i));
+        i += 4;
+    }
+}

@@ -131,7 +131,7 @@ fn square_coefficient(a: &[u32], k: usize, p: u32) -> u32 {
 }
 
 /// out = a²: few coefficients each by itself, more by rows.
-fn square_of(a: &[u32], e: &mut [u64], acc: &mut [u64], out: &mut [u32], m: Modulus) {
+pub fn square_of(a: &[u32], e: &mut [u64], acc: &mut [u64], out: &mut [u32], m: Modulus) {
     if out.len() < 8 {
         for k in 0..out.len() {
             put(out, k, square_coefficient(a, k, m.p));

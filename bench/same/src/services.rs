@@ -1,8 +1,9 @@
-//! Reading, the five questions of a sheet's form and content, and the services check, solve, kernel and push.
+//! Reading, the five questions of a sheet's form and content, and the services check, solve, kernel, push and compose.
 
 use reference::sheet::LARGEST_CERTIFICATE as ROOM;
 
 use crate::counting;
+use crate::horner;
 use crate::primes::question_three;
 use crate::rows::{self, Modulus};
 use crate::rules::{self, add, at, mul, neg, part, put, rem, sub, times};
@@ -105,7 +106,7 @@ fn coefficients(ws: &[u32], from: usize, out: &mut [u32]) {
     }
 }
 
-fn write(v: Values, g: &[u32], n: &[u32], abscissas: u32, out: &mut [u32]) -> u64 {
+pub fn write(v: Values, g: &[u32], n: &[u32], abscissas: u32, out: &mut [u32]) -> u64 {
     let header = [v.p, v.a, v.b, v.atilde, v.btilde, v.degree, v.sigma];
     for (i, x) in header.iter().enumerate() {
         put(out, i, ((i as u32 + 1) << 28) + x);
@@ -149,18 +150,7 @@ fn judge(v: Values, g: &[u32], n: &[u32], abscissas: u32) -> u32 {
 }
 
 /// The values, g and N of a certificate that passes.
-fn passed(bytes: &[u8], g: &mut [u32; 128], n: &mut [u32; 256]) -> Result<Values, u32> {
-    if !bytes.len().is_multiple_of(4) {
-        return Err(2);
-    }
-    let mut words = [0u32; ROOM + 1];
-    let count = (bytes.len() / 4).min(words.len());
-    for i in 0..count {
-        // SAFETY: there are four bytes for each word.
-        let word = unsafe { bytes.as_ptr().cast::<[u8; 4]>().add(i).read() };
-        put(&mut words, i, u32::from_le_bytes(word));
-    }
-    let ws = &words[..count];
+fn passed(ws: &[u32], g: &mut [u32; 128], n: &mut [u32; 256]) -> Result<Values, u32> {
     let v = read(ws, &CERTIFICATE, true, true)?;
     let d = (v.degree as usize - 1) / 2;
     coefficients(ws, 7, &mut g[..d + 1]);
@@ -172,9 +162,24 @@ fn passed(bytes: &[u8], g: &mut [u32; 128], n: &mut [u32; 256]) -> Result<Values
     }
 }
 
+/// The same of bytes.
+fn passed_bytes(bytes: &[u8], g: &mut [u32; 128], n: &mut [u32; 256]) -> Result<Values, u32> {
+    if !bytes.len().is_multiple_of(4) {
+        return Err(2);
+    }
+    let mut words = [0u32; ROOM + 1];
+    let count = (bytes.len() / 4).min(words.len());
+    for i in 0..count {
+        // SAFETY: there are four bytes for each word.
+        let word = unsafe { bytes.as_ptr().cast::<[u8; 4]>().add(i).read() };
+        put(&mut words, i, u32::from_le_bytes(word));
+    }
+    passed(&words[..count], g, n)
+}
+
 pub fn check(bytes: &[u8]) -> u32 {
     let (mut g, mut n) = ([0; 128], [0; 256]);
-    match passed(bytes, &mut g, &mut n) {
+    match passed_bytes(bytes, &mut g, &mut n) {
         Ok(_) => 0,
         Err(k) => k,
     }
@@ -234,7 +239,7 @@ fn evaluate(a: &[u32], powers: &[u32], slopes: &[u32], p: u32) -> (u32, u32) {
 
 pub fn push(bytes: &[u8], point: u64) -> u64 {
     let (mut g, mut n) = ([0; 128], [0; 256]);
-    let v = match passed(bytes, &mut g, &mut n) {
+    let v = match passed_bytes(bytes, &mut g, &mut n) {
         Ok(v) => v,
         Err(k) => return REFUSED + u64::from(k),
     };
@@ -347,4 +352,44 @@ pub fn kernel(ws: &[u32], answer: &mut [u32]) -> u64 {
         return REFUSED + 11;
     }
     certify(v, g, answer)
+}
+
+/// R3 is not asked of the composite, since it holds.
+pub fn compose(first: &[u32], second: &[u32], answer: &mut [u32]) -> u64 {
+    if answer.len() < ROOM {
+        return REFUSED + 1;
+    }
+    let (mut g1, mut n1) = ([0; 128], [0; 256]);
+    let (mut g2, mut n2) = ([0; 128], [0; 256]);
+    let v = match passed(first, &mut g1, &mut n1) {
+        Ok(v) => v,
+        Err(k) => return REFUSED + u64::from(k),
+    };
+    let w = match passed(second, &mut g2, &mut n2) {
+        Ok(w) => w,
+        Err(k) => return REFUSED + u64::from(k),
+    };
+    if v.p != w.p || v.atilde != w.a || v.btilde != w.b {
+        return REFUSED + 13;
+    }
+    let degree = v.degree * w.degree;
+    if 255 < degree || v.p < 2 * degree {
+        return REFUSED + 14;
+    }
+    let sum = u64::from(w.sigma) + mul(w.degree, v.sigma);
+    let u = Values {
+        atilde: w.atilde,
+        btilde: w.btilde,
+        degree,
+        sigma: rem(sum, v.p),
+        ..v
+    };
+    let m = rows::modulus(u.p);
+    let half = |degree: u32| (degree as usize - 1) / 2;
+    let (d, d1, d2) = (half(degree), half(v.degree), half(w.degree));
+    let (mut g, mut n) = ([0; 128], [0; 256]);
+    let (g, n) = (&mut g[..d + 1], &mut n[..2 * d + 2]);
+    horner::composite(&n1[..2 * d1 + 2], &g1[..d1 + 1], &g2[..d2 + 1], g, m);
+    rules::numerator(u, m, g, n);
+    finish(u, m, g, n, true, answer)
 }
