@@ -10,7 +10,6 @@ use Rattle.questions.specs.Joined.{no-before, no-after, all-all}
 use Rattle.sheet.specs.declared.Form.the-variants.{Certificate}
 use Rattle.sheet.specs.declared.Values.{Values}
 use Rattle.sheet.specs.Values.{valuesOf, gOf, nOf}
-use Rattle.sheet.specs.Ready.{Ready}
 use Rattle.sheet.specs.Accepted.{certificate-g, certificate-n}
 use Rattle.promises.specs.declared.Written.{Written}
 use Rattle.promises.specs.declared.Written.the-variants.{Count, Refused}
@@ -18,10 +17,6 @@ use Rattle.promises.specs.Asked.{Room, ComposableValues, ProductAllowed, check-
 use Rattle.promises.specs.Answer.{ComposeRight}
 use Rattle.promises.specs.Certificates.{check-asked, certificate-ready, certificate-N, certificate-meets}
 use Rattle.composing.specs.Joined.{Joined, Composed}
-
--- the values of a certificate that passes
-pub ready-of : (ws : List ℕ) (v : Values) → v ≡ valuesOf Certificate ws → AllYes (check-asks ws) → Ready v
-ready-of ws v e all = subst Ready (sym e) (certificate-ready ws all)
 
 module _ (first second before : List ℕ) (room : Room (length before)) where
   abbrev v₀ : Values

@@ -1,5 +1,5 @@
--- The questions that each service puts, in the order of documents 01 and 02: 2 to 7 are those of the sheet's form, and 1 and 8 to 14 are here, each asked of values and
--- coefficients; a sheet is asked by what it says.
+-- The questions that each service puts, in the order of documents 01 and 02: 2 to 7 are those of the sheet's form, and 1 and 8 to 14 are here, each asked of
+-- values and coefficients; a sheet is asked by what it says.
 -- Assumes nothing.
 use mathlib.Core.Path.{_≡_}
 use mathlib.Core.List.{List, [], _∷_, _++_}

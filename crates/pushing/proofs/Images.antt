@@ -26,17 +26,18 @@ use Rattle.evaluation.specs.Jets.{JetOf}
 use Rattle.sheet.specs.declared.Values.{Values}
 use Rattle.sheet.specs.declared.Form.the-variants.{Certificate}
 use Rattle.questions.specs.Questions.{AllYes}
-use Rattle.questions.specs.Joined.{no-after, all-all, all-front}
+use Rattle.questions.specs.Joined.{no-after, all-all}
 use Rattle.sheet.specs.Asked.{asked}
-use Rattle.sheet.specs.Ready.{Ready, HoldsG, HoldsN, ready}
+use Rattle.sheet.specs.Ready.{Ready, HoldsG, HoldsN}
 use Rattle.sheet.specs.Accepted.{certificate-g, certificate-n}
 use Rattle.sheet.specs.Values.{gOf, nOf, valuesOf, question, half}
 use Rattle.promises.specs.declared.Point.{Point}
 use Rattle.promises.specs.declared.Point.the-variants as point
 use Rattle.promises.specs.declared.Image.{Image}
 use Rattle.promises.specs.declared.Image.the-variants as image
-use Rattle.promises.specs.Asked.{certificate-rules, check-asks, push-asks, OnDomain, Given}
+use Rattle.promises.specs.Asked.{check-asks, push-asks, OnDomain, Given}
 use Rattle.promises.specs.Answer.{ToPoint, PushRight}
+use Rattle.promises.specs.Certificates.{check-asked}
 use Rattle.pushing.specs.Pushed.{slopeOf, Pushed}
 use Rattle.pushing.proofs.Elements.{not-zero, same, quotient-square, quotient-cube}
 use Rattle.ring.specs.Powers.{squared}
@@ -156,14 +157,9 @@ module _ (ws : List ℕ) (all : AllYes (check-asks ws)) (at : Point) where
 
 -- as code has the values and the coefficients
 module _ (ws : List ℕ) (v : Values) (e : v ≡ valuesOf Certificate ws) where
-  pub ready-of : AllYes (check-asks ws) → Ready v
-  ready-of all =
-      subst Ready (sym e)
-      (ready Certificate ws (all-front (asked Certificate ws) (certificate-rules ws) all))
-
   module _ (all : AllYes (check-asks ws)) (g n : List ℕ) (g-is : g ≡ gOf Certificate ws) (n-is : n ≡ nOf Certificate ws) where
     accepted : AllYes (asked Certificate ws)
-    accepted = all-front (asked Certificate ws) (certificate-rules ws) all
+    accepted = check-asked ws all
 
     pub g-holds : HoldsG v g
     g-holds = subst (λ v. HoldsG v g) (sym e) (subst (HoldsG (valuesOf Certificate ws)) (sym g-is) (certificate-g ws accepted))

@@ -9,7 +9,8 @@ use lib.Seq.{length-take-le}
 use Rattle.sheet.specs.Ready.{Ready}
 use Rattle.promises.specs.Asked.{Room}
 use Rattle.checking.specs.Passed.{Passes, Passed}
-use Rattle.composing.proofs.Sheets.{ready-of, no-first}
+use Rattle.promises.specs.Certificates.{ready-of}
+use Rattle.composing.proofs.Sheets.{no-first}
 use Rattle.composing.proofs.compose.Statement.{statement}
 use Rattle.composing.proofs.compose.Tie as tie
 

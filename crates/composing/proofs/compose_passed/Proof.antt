@@ -2,7 +2,8 @@
 use mathlib.Core.Path.{refl}
 use borrow.Author.Needs.{needs}
 use Rattle.questions.specs.Tests.{refuted, shown}
-use Rattle.composing.proofs.Sheets.{ready-of, unmet, disallowed, joined-read, answered-read}
+use Rattle.promises.specs.Certificates.{ready-of}
+use Rattle.composing.proofs.Sheets.{unmet, disallowed, joined-read, answered-read}
 use Rattle.composing.proofs.compose_passed.Statement.{statement}
 use Rattle.composing.proofs.compose_passed.Tie as tie
 

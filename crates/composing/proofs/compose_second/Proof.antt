@@ -7,7 +7,8 @@ use lib.ListN.{take}
 use lib.Seq.{length-take-le}
 use Rattle.sheet.specs.Ready.{Ready}
 use Rattle.checking.specs.Passed.{Passes, Passed}
-use Rattle.composing.proofs.Sheets.{ready-of, no-second}
+use Rattle.promises.specs.Certificates.{ready-of}
+use Rattle.composing.proofs.Sheets.{no-second}
 use Rattle.composing.proofs.compose_second.Statement.{statement}
 use Rattle.composing.proofs.compose_second.Tie as tie
 

@@ -84,6 +84,13 @@ module _ (R : CRing) (q₁ q₂ : Question R) (d₁≥1 : 1 ≤ q₁ .d) (d₂�
   abbrev M₁ : Seq R
   M₁ = homogenize R X Y (ℓ R q₂) (∂ R N₂)
 
+  -- the cubic of the curve between, and its derivative, at N₁ / g₁², cleared by g₁⁶ and g₁⁴
+  abbrev f₁ : Seq R
+  f₁ = X ^ 3 ⊕ κ (q₁ .Ã) ⊗ X ⊗ g₁ ^ 4 ⊕ κ (q₁ .B̃) ⊗ g₁ ^ 6
+
+  abbrev f₁′ : Seq R
+  f₁′ = # 3 ⊗ X ^ 2 ⊕ κ (q₁ .Ã) ⊗ g₁ ^ 4
+
   derived : (n : ℕ) (P : Seq R) → Below R (suc n) P → Below R (suc n) (∂ R P)
   derived n P h i l = ∂-below R n P h i (omega arith)
 
@@ -109,7 +116,7 @@ module _ (R : CRing) (q₁ q₂ : Question R) (d₁≥1 : 1 ≤ q₁ .d) (d₂�
   h-B : Homogenized R X Y 0 (κ (q₂ .B)) (κ (q₁ .B̃))
   h-B = h-right R X Y (ap κ (sym (composable .B))) (h-const R X Y (q₂ .B))
 
-  h-f : Homogenized R X Y 3 (f R q₂) (X ^ 3 ⊕ κ (q₁ .Ã) ⊗ X ⊗ g₁ ^ 4 ⊕ κ (q₁ .B̃) ⊗ g₁ ^ 6)
+  h-f : Homogenized R X Y 3 (f R q₂) f₁
   unfolding f
   h-f =
       h-right R X Y
@@ -118,7 +125,7 @@ module _ (R : CRing) (q₁ q₂ : Question R) (d₁≥1 : 1 ≤ q₁ .d) (d₂�
       (h-add R X Y (h-add R X Y (h-pow R X Y (h-ind R X Y) 3) (h-up R X Y (h-up R X Y (h-mul R X Y h-A (h-ind R X Y)))))
       (h-up R X Y (h-up R X Y (h-up R X Y h-B))))
 
-  h-f′ : Homogenized R X Y 2 (# 3 ⊗ x ^ 2 ⊕ κ (q₂ .A)) (# 3 ⊗ X ^ 2 ⊕ κ (q₁ .Ã) ⊗ g₁ ^ 4)
+  h-f′ : Homogenized R X Y 2 (# 3 ⊗ x ^ 2 ⊕ κ (q₂ .A)) f₁′
   h-f′ =
       h-right R X Y (solve3 (Series R) (λ x g a. num 3 :* x :^ 2 :+ g :^ 2 :* (g :^ 2 :* a)) (λ x g a. num 3 :* x :^ 2 :+ a :* g :^ 4) tt X g₁ (κ (q₁ .Ã)))
       (h-add R X Y (h-mul R X Y (h-cast R X Y 3) (h-pow R X Y (h-ind R X Y) 2)) (h-up R X Y (h-up R X Y h-A)))
@@ -128,8 +135,8 @@ module _ (R : CRing) (q₁ q₂ : Question R) (d₁≥1 : 1 ≤ q₁ .d) (d₂�
 
   -- R2's N₂, from its parts
   M-is : Y ⊗ (Y ⊗ M)
-      ≡ Y ⊗ (Y ⊗ ((# (ℓ R q₂) ⊗ X ⊖ Y ⊗ κ (q₂ .σ)) ⊗ e ^ 2)) ⊖ Y ⊗ (# 2 ⊗ (# 3 ⊗ X ^ 2 ⊕ κ (q₁ .Ã) ⊗ g₁ ^ 4) ⊗ e ⊗ e₁)
-      ⊖ # 4 ⊗ (X ^ 3 ⊕ κ (q₁ .Ã) ⊗ X ⊗ g₁ ^ 4 ⊕ κ (q₁ .B̃) ⊗ g₁ ^ 6) ⊗ (e ⊗ e₂ ⊖ e₁ ^ 2)
+      ≡ Y ⊗ (Y ⊗ ((# (ℓ R q₂) ⊗ X ⊖ Y ⊗ κ (q₂ .σ)) ⊗ e ^ 2)) ⊖ Y ⊗ (# 2 ⊗ f₁′ ⊗ e ⊗ e₁)
+      ⊖ # 4 ⊗ f₁ ⊗ (e ⊗ e₂ ⊖ e₁ ^ 2)
   unfolding N
   M-is =
       h-same R X Y refl (h-degree R X Y (omega arith) (h-up R X Y (h-up R X Y h-N)))
@@ -173,28 +180,22 @@ module _ (R : CRing) (q₁ q₂ : Question R) (d₁≥1 : 1 ≤ q₁ .d) (d₂�
       ∙ ap (λ l. l ⊗ (# (ℓ R q₁) ⊗ x ⊖ κ (q₁ .σ)) ⊖ κ (q₂ .σ)) cast-ℓ₂
 
   -- f W₁² = N₁³ + A₁ N₁ g₁⁴ + B₁ g₁⁶
-  first-R3 : f R q₁ ⊗ w ^ 2 ≡ X ^ 3 ⊕ κ (q₁ .Ã) ⊗ X ⊗ g₁ ^ 4 ⊕ κ (q₁ .B̃) ⊗ g₁ ^ 6
+  first-R3 : f R q₁ ⊗ w ^ 2 ≡ f₁
   unfolding left right
   first-R3 = fun-ext (meets₁ .r3)
 
   cleared-M : g₁ ^ 4 ⊗ (g₁ ^ 4 ⊗ ((# 2 ⊗ # (q₂ .d) ⊕ 𝟙) ⊗ X ⊖ κ (q₂ .σ) ⊗ g₁ ^ 2) ⊗ e ^ 2
-      ⊖ # 2 ⊗ g₁ ^ 2 ⊗ (# 3 ⊗ X ^ 2 ⊕ κ (q₁ .Ã) ⊗ g₁ ^ 4) ⊗ e ⊗ e₁
-      ⊖ # 4 ⊗ (X ^ 3 ⊕ κ (q₁ .Ã) ⊗ X ⊗ g₁ ^ 4 ⊕ κ (q₁ .B̃) ⊗ g₁ ^ 6) ⊗ (e ⊗ e₂ ⊖ e₁ ^ 2))
+      ⊖ # 2 ⊗ g₁ ^ 2 ⊗ f₁′ ⊗ e ⊗ e₁
+      ⊖ # 4 ⊗ f₁ ⊗ (e ⊗ e₂ ⊖ e₁ ^ 2))
       ≡ g₁ ^ 8 ⊗ M
   cleared-M =
-      ap (λ m. g₁ ^ 4 ⊗ (g₁ ^ 4 ⊗ (m ⊗ X ⊖ κ (q₂ .σ) ⊗ g₁ ^ 2) ⊗ e ^ 2 ⊖ # 2 ⊗ g₁ ^ 2 ⊗ a ⊗ e ⊗ e₁ ⊖ # 4 ⊗ b ⊗ (e ⊗ e₂ ⊖ e₁ ^ 2))) (sym cast-ℓ₂)
-      ∙ ring (Series R) (at (Series R) (g₁ ∷ # (ℓ R q₂) ∷ X ∷ κ (q₂ .σ) ∷ e ∷ e₁ ∷ e₂ ∷ a ∷ b ∷ []))
+      ap (λ m. g₁ ^ 4 ⊗ (g₁ ^ 4 ⊗ (m ⊗ X ⊖ κ (q₂ .σ) ⊗ g₁ ^ 2) ⊗ e ^ 2 ⊖ # 2 ⊗ g₁ ^ 2 ⊗ f₁′ ⊗ e ⊗ e₁ ⊖ # 4 ⊗ f₁ ⊗ (e ⊗ e₂ ⊖ e₁ ^ 2))) (sym cast-ℓ₂)
+      ∙ ring (Series R) (at (Series R) (g₁ ∷ # (ℓ R q₂) ∷ X ∷ κ (q₂ .σ) ∷ e ∷ e₁ ∷ e₂ ∷ f₁′ ∷ f₁ ∷ []))
       (:g :^ 4 :* (:g :^ 4 :* (:m :* :x :- :s :* :g :^ 2) :* :e :^ 2 :- num 2 :* :g :^ 2 :* :a :* :e :* :e₁ :- num 4 :* :b :* (:e :* :e₂ :- :e₁ :^ 2)))
       (:g :^ 4 :* (:g :^ 2 :* (:g :^ 2 :* ((:m :* :x :- :g :^ 2 :* :s) :* :e :^ 2)) :- :g :^ 2 :* (num 2 :* :a :* :e :* :e₁)
       :- num 4 :* :b :* (:e :* :e₂ :- :e₁ :^ 2))) tt
       ∙ ap (λ y. g₁ ^ 4 ⊗ y) (sym M-is) ∙ solve2 (Series R) (λ g m. g :^ 4 :* (g :^ 2 :* (g :^ 2 :* m))) (λ g m. g :^ 8 :* m) tt g₁ M
     where
-      a : Seq R
-      a = # 3 ⊗ X ^ 2 ⊕ κ (q₁ .Ã) ⊗ g₁ ^ 4
-
-      b : Seq R
-      b = X ^ 3 ⊕ κ (q₁ .Ã) ⊗ X ⊗ g₁ ^ 4 ⊕ κ (q₁ .B̃) ⊗ g₁ ^ 6
-
       :g : Ex
       :g = var 0
 
@@ -292,7 +293,7 @@ module _ (R : CRing) (q₁ q₂ : Question R) (d₁≥1 : 1 ≤ q₁ .d) (d₂�
 
   -- that of the second map, at N₁ / g₁²
   second-R3 : R3 R q₂ g₂ N₂
-      → (X ^ 3 ⊕ κ (q₁ .Ã) ⊗ X ⊗ g₁ ^ 4 ⊕ κ (q₁ .B̃) ⊗ g₁ ^ 6) ⊗ Z ^ 2 ≡ M ^ 3 ⊕ Y ⊗ (Y ⊗ (κ (q₂ .Ã) ⊗ M ⊗ e ^ 4)) ⊕ Y ⊗ (Y ⊗ (Y ⊗ (κ (q₂ .B̃) ⊗ e ^ 6)))
+      → f₁ ⊗ Z ^ 2 ≡ M ^ 3 ⊕ Y ⊗ (Y ⊗ (κ (q₂ .Ã) ⊗ M ⊗ e ^ 4)) ⊕ Y ⊗ (Y ⊗ (Y ⊗ (κ (q₂ .B̃) ⊗ e ^ 6)))
   unfolding left right
   second-R3 r3 =
       h-same R X Y (fun-ext r3)

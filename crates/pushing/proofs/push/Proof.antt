@@ -12,7 +12,7 @@ use Rattle.sheet.specs.Values.{valuesOf}
 use Rattle.sheet.specs.Ready.{Ready}
 use Rattle.promises.specs.Asked.{check-asks, Given}
 use Rattle.checking.specs.Passed.{Passes, Passed}
-use Rattle.pushing.proofs.Images.{ready-of}
+use Rattle.promises.specs.Certificates.{ready-of}
 use Rattle.pushing.proofs.push.Statement.{statement}
 use Rattle.pushing.proofs.push.Tie as tie
 

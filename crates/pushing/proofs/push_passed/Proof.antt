@@ -3,7 +3,8 @@ use borrow.Author.Needs.{needs}
 use mathlib.Core.Path.{sym, subst}
 use Rattle.questions.specs.Tests.{was-no, was-yes}
 use Rattle.promises.specs.Asked.{OnDomain}
-use Rattle.pushing.proofs.Images.{infinity, off, pushed, ready-of, g-holds, n-holds, of-sheet}
+use Rattle.promises.specs.Certificates.{ready-of}
+use Rattle.pushing.proofs.Images.{infinity, off, pushed, g-holds, n-holds, of-sheet}
 use Rattle.pushing.proofs.push_passed.Statement.{statement}
 use Rattle.pushing.proofs.push_passed.Tie as tie
 
