@@ -17,7 +17,7 @@ use std::process::ExitCode;
 use reference::call::{point_number, point_of, INFINITY, REFUSED};
 use reference::curve::Curve;
 use reference::field::Field;
-use reference::generate::{self, factors, random_curve, random_monic};
+use reference::generate::{self, dual, factors, random_curve, random_monic};
 use reference::marked;
 use reference::poly::Poly;
 use reference::primes::{next_prime, previous_prime, sieve};
@@ -468,10 +468,6 @@ fn rational_roots(certificate: &Certificate) -> Vec<u64> {
 /// them; a step and its dual; the duals of two steps.
 fn pairs(random: &mut Random) -> Vec<[Certificate; 2]> {
     let mut pairs = vec![[marked::first(), marked::second()]];
-    let dual = |certificate: &Certificate| {
-        let question = generate::dual_question(certificate);
-        services::solution(&question).expect("every isogeny has a dual")
-    };
     let composite: Vec<u64> = (9..=255)
         .filter(|l| l % 2 == 1 && !factors(*l).is_empty())
         .collect();

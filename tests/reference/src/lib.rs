@@ -13,6 +13,7 @@
 
 pub mod brute;
 pub mod call;
+pub mod chains;
 pub mod composition;
 pub mod curve;
 pub mod euclid;

@@ -32,6 +32,23 @@ impl Poly {
         })
     }
 
+    /// The polynomial of lowest degree with these values at these places, which differ: by
+    /// divided differences.
+    pub fn through(field: Field, places: &[u64], values: &[u64]) -> Poly {
+        let mut column = values.to_vec();
+        for order in 1..places.len() {
+            for i in (order..places.len()).rev() {
+                let top = field.sub(column[i], column[i - 1]);
+                column[i] = field.div(top, field.sub(places[i], places[i - order]));
+            }
+        }
+        let zero = Poly::of(field, &[]);
+        places.iter().zip(column).rev().fold(zero, |sum, (&u, c)| {
+            let line = Poly::with_roots(field, &[u]);
+            sum.mul(&line).add(&Poly::new(field, vec![c]))
+        })
+    }
+
     pub fn field(&self) -> Field {
         self.field
     }

@@ -18,6 +18,48 @@ pub fn roots(g: &Poly) -> Vec<u64> {
     all.filter(|&u| g.value(u) == 0).collect()
 }
 
+/// Those of a g that has each of its roots once, for fields in which not each u can be
+/// tried: the roots u for which u + s is a square are told from the others, for some s.
+pub fn roots_by_squares(random: &mut Random, g: &Poly) -> Vec<u64> {
+    let x = Poly::of(g.field(), &[0, 1]);
+    let linear = g.gcd(&power_of_x(g, g.field().p()).sub(&x)).monic();
+    let mut found = Vec::new();
+    split(random, &linear, &mut found);
+    found.sort_unstable();
+    found
+}
+
+/// The roots of a product of different x - u.
+fn split(random: &mut Random, product: &Poly, found: &mut Vec<u64>) {
+    let (k, one) = (product.field(), Poly::of(product.field(), &[1]));
+    let degree = product.degree().expect("a product");
+    if degree < 2 {
+        found.extend(product.coefficients().split_last().and_then(|(_, rest)| {
+            let &constant = rest.first()?;
+            Some(k.neg(constant))
+        }));
+        return;
+    }
+    loop {
+        // With x - s for x a root u becomes u + s.
+        let s = random.below(k.p());
+        let [back, forth] = [s, k.neg(s)].map(|t| Poly::with_roots(k, &[t]));
+        let moved = product.substitute(&back, &one, degree);
+        let squares = moved.gcd(&power_of_x(&moved, (k.p() - 1) / 2).sub(&one));
+        if let Some(some @ 1..) = squares.degree().filter(|&some| some < degree) {
+            let others = moved.exact_quotient(&squares).expect("a divisor");
+            for (part, degree) in [(squares, some), (others, degree - some)] {
+                split(
+                    random,
+                    &part.substitute(&forth, &one, degree).monic(),
+                    found,
+                );
+            }
+            return;
+        }
+    }
+}
+
 /// How many there are, for any g.
 pub fn count(g: &Poly) -> u64 {
     let p = g.field().p();

@@ -10,7 +10,7 @@ use reference::composition::{composed, is_permitted, joined, kernel, meets, x_ma
 use reference::curve::Curve;
 use reference::field::Field;
 use reference::fraction::Fraction;
-use reference::generate::{self, factors, random_monic};
+use reference::generate::{self, dual, factors, random_monic};
 use reference::marked;
 use reference::poly::Poly;
 use reference::random::Random;
@@ -49,7 +49,7 @@ fn by_other_ways(first: &Certificate, second: &Certificate) {
 }
 
 /// The g that has, at d + 1 places where the first g is not 0, the value that it must have
-/// there: by divided differences.
+/// there.
 fn interpolated(first: &Certificate, second: &Certificate) -> Poly {
     let (g1, n1) = first.polynomials();
     let (g2, _) = second.polynomials();
@@ -61,21 +61,11 @@ fn interpolated(first: &Certificate, second: &Certificate) -> Poly {
         .take(count)
         .collect();
     assert_eq!(places.len(), count, "p is large enough");
-    let mut column: Vec<u64> = places
+    let values: Vec<u64> = places
         .iter()
         .map(|&u| value(&g1, &n1, &g2, d2, u))
         .collect();
-    for order in 1..count {
-        for i in (order..count).rev() {
-            let top = k.sub(column[i], column[i - 1]);
-            column[i] = k.div(top, k.sub(places[i], places[i - order]));
-        }
-    }
-    let zero = Poly::of(k, &[]);
-    places.iter().zip(column).rev().fold(zero, |sum, (&u, c)| {
-        let line = Poly::with_roots(k, &[u]);
-        sum.mul(&line).add(&Poly::new(k, vec![c]))
-    })
+    Poly::through(k, &places, &values)
 }
 
 fn value(g1: &Poly, n1: &Poly, g2: &Poly, d2: usize, u: u64) -> u64 {
@@ -206,11 +196,6 @@ fn cyclic_kernels() {
     }
     // All with a product of at most 255.
     assert_eq!(pairs.len(), 201);
-}
-
-fn dual(certificate: &Certificate) -> Certificate {
-    let question = generate::dual_question(certificate);
-    services::solution(&question).expect("every isogeny has a dual")
 }
 
 /// A step and its dual make multiplication by l, in both orders; the dual of a composed

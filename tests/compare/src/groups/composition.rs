@@ -9,11 +9,11 @@ use reference::brute::is_curve;
 use reference::call::{Call, Reply};
 use reference::composition::{composed, is_permitted, meets};
 use reference::curve::Curve;
-use reference::generate::{self, cube_roots, factors, twist, Cyclic};
+use reference::generate::{self, cube_roots, dual, factors, twist, Cyclic};
 use reference::marked;
 use reference::primes::{is_prime, next_prime, previous_prime};
 use reference::random::Random;
-use reference::services::{self, Point};
+use reference::services::Point;
 use reference::sheet::{ask_degree, word, Certificate, END, N, P, RATIONAL};
 use reference::spoil;
 
@@ -52,12 +52,6 @@ fn composite(last: u64) -> impl Iterator<Item = u64> {
 
 fn compose(first: &Certificate, second: &Certificate) -> Call {
     Call::compose(&first.words(), &second.words())
-}
-
-/// The dual, on the curve that its certificate's codomain is.
-fn dual(certificate: &Certificate) -> Certificate {
-    let question = generate::dual_question(certificate);
-    services::solution(&question).expect("every isogeny has a dual")
 }
 
 fn domain(certificate: &Certificate) -> Curve {
