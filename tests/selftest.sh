@@ -43,10 +43,16 @@ must_find() {
 groups_of() {
     case $1 in
     *compose*) echo composition ;;
+    *chain*) echo chains ;;
     esac
 }
 
 for fault in $faults; do must_find "$fault" --quick --only "$(groups_of "$fault")"; done
+# Where nothing is known but the library's own answers, it is the ways to join a chain that have to differ.
+for fault in first-composite second-composite falling of-four sigma-by-step 13-without-b 14-without-p; do
+    must_find "chain-$fault" --quick --differences 100 --only 'chains, own answers'
+    grep -q '^  the ways to join a chain do not agree' "$log" || fail "chain-$fault: the ways to join a chain agree"
+done
 # What the quick form leaves out.
 must_find divisors-below-root --only 'every p'
 # Where every answer is taken for right, the watch on certificates has to do without expectations.

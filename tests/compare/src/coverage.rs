@@ -20,6 +20,8 @@ const ENTRIES: [(&str, &[usize]); 6] = [
 #[derive(Clone, Default)]
 pub struct Coverage {
     counts: [[u64; 15]; ENTRIES.len()],
+    /// Chains that all ways make, that they refuse with one number, and with several.
+    chains: [u64; 3],
 }
 
 impl Coverage {
@@ -36,16 +38,27 @@ impl Coverage {
         self.counts[entry][number as usize] += 1;
     }
 
+    /// The number that each way to join a chain is to get, 0 for none.
+    pub fn record_ways(&mut self, numbers: &[u32]) {
+        let alike = numbers.iter().all(|number| *number == numbers[0]);
+        let place = match numbers[0] {
+            0 if alike => 0,
+            _ if alike => 1,
+            _ => 2,
+        };
+        self.chains[place] += 1;
+    }
+
     pub fn merge(&mut self, other: &Coverage) {
-        let all = self.counts.iter_mut().flatten();
-        all.zip(other.counts.iter().flatten())
+        let all = self.counts.iter_mut().flatten().chain(&mut self.chains);
+        all.zip(other.counts.iter().flatten().chain(&other.chains))
             .for_each(|(sum, count)| *sum += count);
     }
 
-    /// One line for each entry.
+    /// One line for each entry, and one for chains.
     pub fn lines(&self) -> Vec<String> {
         let rows = ENTRIES.iter().zip(&self.counts);
-        rows.map(|((name, asked), counts)| {
+        let lines = rows.map(|((name, asked), counts)| {
             let refusals = asked.iter().map(|&n| format!("{n}: {}", counts[n]));
             let refusals: Vec<String> = refusals.collect();
             let accepted = counts[0];
@@ -53,14 +66,19 @@ impl Coverage {
                 "{name}: accepts {accepted}, refuses {}",
                 refusals.join(", ")
             )
-        })
-        .collect()
+        });
+        let [made, one, several] = self.chains;
+        let chains = format!(
+            "chains: {made} made in every way, {one} refused with one number, {several} with several"
+        );
+        lines.chain([chains]).collect()
     }
 
     /// Whether every outcome came up.
     pub fn is_complete(&self) -> bool {
         let mut rows = ENTRIES.iter().zip(&self.counts);
         rows.all(|((_, asked), counts)| counts[0] > 0 && asked.iter().all(|&n| counts[n] > 0))
+            && self.chains.iter().all(|&count| count > 0)
     }
 
     /// What was expected of an entry and cannot be right, as "solve: 5".

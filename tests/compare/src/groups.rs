@@ -3,6 +3,7 @@
 pub mod abscissas;
 pub mod almost;
 pub mod certificates;
+pub mod chains;
 pub mod composition;
 pub mod damage;
 pub mod document;
@@ -47,6 +48,7 @@ pub fn all(options: &Options) -> Vec<Group> {
     groups.extend(by_generation(options.quick));
     groups.extend(by_composition(options.quick, options.count));
     groups.extend(by_chance(options.count));
+    groups.extend(by_chains(options.quick, options.count));
     groups
 }
 
@@ -179,4 +181,44 @@ fn by_chance(count: u64) -> Vec<Group> {
         })
     });
     shards.collect()
+}
+
+/// Request E7. A hundredth as many chains as the random cases are random, and twice as many
+/// more have nothing for their expectation but the library's own answers.
+fn by_chains(quick: bool, count: u64) -> Vec<Group> {
+    let named: [(&str, WithQuick); 8] = [
+        ("numbers", |judge, _| chains::numbers_of_either_way(judge)),
+        ("order", chains::order),
+        ("meeting", chains::meeting),
+        ("products", chains::products),
+        ("duals", chains::duals),
+        ("bracketings", chains::bracketings),
+        ("refused bracketings", chains::refused_bracketings),
+        ("least primes", chains::least_primes),
+    ];
+    let mut groups: Vec<Group> = Vec::new();
+    groups.extend(
+        named.map(|(name, run)| group(format!("chains, {name}"), move |judge| run(judge, quick))),
+    );
+    groups.extend(chains::primes(quick).into_iter().map(|p| {
+        group(format!("chains p={p}"), move |judge| {
+            chains::over(judge, p, quick);
+        })
+    }));
+    groups.extend(chains::fields(quick).into_iter().map(|p| {
+        group(format!("chains, every p={p}"), move |judge| {
+            chains::every(judge, p, if quick { 40 } else { 1 });
+        })
+    }));
+    groups.extend((0..2).map(|seed| {
+        group(format!("chains, hostile {}", seed + 1), move |judge| {
+            chains::neighbours_of_chains(judge, seed, count / 200);
+        })
+    }));
+    groups.extend((0..2).map(|seed| {
+        group(format!("chains, own answers {}", seed + 1), move |judge| {
+            chains::own_answers(judge, seed, count / 100);
+        })
+    }));
+    groups
 }

@@ -7,6 +7,7 @@ use std::sync::atomic::{AtomicBool, AtomicU64, Ordering};
 use std::time::{Duration, Instant};
 
 use reference::call::{point_number, Call, Reply, INFINITY};
+use reference::chains::{Chain, Way};
 use reference::random::Random;
 use reference::services::{self, Point};
 use reference::sheet::{self, Certificate};
@@ -21,6 +22,8 @@ use crate::watch::Watch;
 const MARGIN: usize = 64;
 const CAPACITY: usize = 1 << 17;
 const LARGEST_ROOM: usize = 8192;
+/// Rooms of the calls that join a chain, in turn.
+const ROOMS: [usize; 5] = [393, 393, 394, 500, 1000];
 
 static DIFFERENCES: AtomicU64 = AtomicU64::new(0);
 static ENOUGH: AtomicU64 = AtomicU64::new(u64::MAX);
@@ -56,6 +59,8 @@ pub struct Judge {
     answer: Answer,
     /// The number that the last call returned.
     number: u64,
+    /// What the last call of compose wrote, as many words as it counted.
+    written: Option<Vec<u32>>,
     /// How often compose was called, for the turns of its buffers.
     composed: usize,
 }
@@ -98,9 +103,10 @@ impl Seen {
         }
     }
 
-    /// Whether this is another answer than the expected one.
-    fn differs(&self, expected: &Reply) -> bool {
-        self.number != expected.number || !self.words.is_empty() || self.sheet_changed
+    /// Whether this is another answer than the expected one, if there is one.
+    fn differs(&self, expected: Option<&Reply>) -> bool {
+        let other = expected.is_some_and(|reply| self.number != reply.number);
+        other || !self.words.is_empty() || self.sheet_changed
     }
 }
 
@@ -126,6 +132,7 @@ impl Judge {
                 patterns: [pattern(), pattern()],
             },
             number: 0,
+            written: None,
             composed: 0,
         }
     }
@@ -166,7 +173,7 @@ impl Judge {
     }
 
     pub fn expect(&mut self, call: &Call, expected: &Reply) {
-        self.compare(call, expected, |judge| judge.put(call, expected));
+        self.compare(call, Some(expected), |judge| judge.put(call, expected));
     }
 
     /// A point that goes through the first map, and what came out through the second, goes
@@ -186,6 +193,73 @@ impl Judge {
         }
     }
 
+    /// Joins the chain in these ways. Each call must answer as the chain wants; what comes
+    /// out must be the same words in each way, which pass check, or nothing in any way.
+    pub fn joins(&mut self, chain: &mut Chain, ways: &[Way]) {
+        let numbers: Vec<u32> = ways
+            .iter()
+            .map(|way| chain.refusal(way).unwrap_or(0))
+            .collect();
+        self.coverage.record_ways(&numbers);
+        let sheets = chain.sheets().to_vec();
+        self.ways_agree(&sheets, ways, |judge, call, way| {
+            judge.expect(call, &chain.reply(way));
+        });
+    }
+
+    /// The same for any sheets, of which nothing is known but that.
+    pub fn joins_alike(&mut self, sheets: &[Vec<u32>], ways: &[Way]) {
+        self.ways_agree(sheets, ways, |judge, call, _| {
+            judge.compare(call, None, |judge| judge.put_freely(call));
+        });
+    }
+
+    fn ways_agree(
+        &mut self,
+        sheets: &[Vec<u32>],
+        ways: &[Way],
+        mut put: impl FnMut(&mut Judge, &Call, &Way),
+    ) {
+        let ends = ways.iter().map(|way| self.along(way, sheets, &mut put));
+        let ends: Vec<Result<Vec<u32>, u64>> = ends.collect();
+        if let Ok(words) = &ends[0] {
+            self.expect(&Call::check(words), &Reply::number(0));
+        }
+        let alike = ends.iter().all(|end| end.is_ok() == ends[0].is_ok())
+            && ends
+                .iter()
+                .flatten()
+                .all(|words| Ok(words) == ends[0].as_ref());
+        if !alike && !WATCH_ONLY.load(Ordering::Relaxed) {
+            let text = report::ways(sheets, ways.iter().zip(&ends));
+            self.difference(&text);
+        }
+    }
+
+    /// The calls of a way, each with the words that those before it wrote, as many as they
+    /// counted: the last one's words, or the number of the one that wrote nothing.
+    fn along(
+        &mut self,
+        way: &Way,
+        sheets: &[Vec<u32>],
+        put: &mut impl FnMut(&mut Judge, &Call, &Way),
+    ) -> Result<Vec<u32>, u64> {
+        let (first, second) = match way {
+            Way::Sheet(place) => return Ok(sheets[*place].clone()),
+            Way::Join(first, second) => (first, second),
+        };
+        let first = self.along(first, sheets, put)?;
+        let second = self.along(second, sheets, put)?;
+        let room = ROOMS[self.composed % ROOMS.len()];
+        let call = Call::Compose {
+            first,
+            second,
+            room,
+        };
+        put(self, &call, way);
+        self.written.take().ok_or(self.number)
+    }
+
     /// Name is expected to refuse each p, A and B with the number beside them.
     /// The clock is read once for all: twice a call would take longer than most
     /// of these calls.
@@ -194,21 +268,40 @@ impl Judge {
         for ([p, a, b], number) in cases {
             let call = Call::Name { p, a, b };
             let name = |_: &mut Judge| Seen::number(entries::name(p, a, b));
-            self.compare(&call, &call.refusal(number), name);
+            self.compare(&call, Some(&call.refusal(number)), name);
         }
         self.inside += start.elapsed();
     }
 
-    fn compare(&mut self, call: &Call, expected: &Reply, put: impl FnOnce(&mut Judge) -> Seen) {
+    fn compare(
+        &mut self,
+        call: &Call,
+        expected: Option<&Reply>,
+        put: impl FnOnce(&mut Judge) -> Seen,
+    ) {
         self.cases += 1;
-        self.coverage.record(call, expected);
+        if let Some(expected) = expected {
+            self.coverage.record(call, expected);
+        }
         report::running(call, self.group);
         let seen = put(self);
         report::finished();
         self.number = seen.number;
         let compared = !WATCH_ONLY.load(Ordering::Relaxed) && seen.differs(expected);
         if compared || !seen.certificate.is_empty() {
-            self.report(call, compared.then_some(expected), &seen);
+            self.report(call, expected, compared, &seen);
+        }
+    }
+
+    /// Compose, whatever it answers.
+    fn put_freely(&mut self, call: &Call) -> Seen {
+        match call {
+            Call::Compose {
+                first,
+                second,
+                room,
+            } => self.with_both(first, second, *room, None),
+            _ => unreachable!("nothing else is put without an expectation"),
         }
     }
 
@@ -235,7 +328,7 @@ impl Judge {
                 first,
                 second,
                 room,
-            } => self.with_both(first, second, *room, &expected.words),
+            } => self.with_both(first, second, *room, Some(&expected.words)),
         }
     }
 
@@ -286,7 +379,7 @@ impl Judge {
         let turn = self.cases as usize % 2;
         let seen = self
             .answer
-            .lend(answer_side, turn, room, written, |answer| {
+            .lend(answer_side, turn, room, Some(written), |answer| {
                 timed(&mut self.inside, || entry(lent, answer))
             });
         let look = |words| self.watch.look(name, Ok(words));
@@ -301,7 +394,13 @@ impl Judge {
     /// Compose, with its sheets and its answer on either side of their memory in turn. In a
     /// fifth of the cases the sheets cannot be written to, which takes time; two that are
     /// equal are one in half of the cases.
-    fn with_both(&mut self, first: &[u32], second: &[u32], room: usize, written: &[u32]) -> Seen {
+    fn with_both(
+        &mut self,
+        first: &[u32],
+        second: &[u32],
+        room: usize,
+        written: Option<&[u32]>,
+    ) -> Seen {
         self.composed += 1;
         let turn = self.composed;
         let side = |bit: usize| match turn >> bit & 1 {
@@ -331,6 +430,7 @@ impl Judge {
                 changed = first || second;
                 number
             });
+        self.written = seen.written.map(<[u32]>::to_vec);
         let look = |words| self.watch.look("compose", Ok(words));
         Seen {
             number: seen.number,
@@ -341,27 +441,33 @@ impl Judge {
     }
 
     /// What was expected is reported unless that was not compared or is as it should be.
-    fn report(&self, call: &Call, expected: Option<&Reply>, seen: &Seen) {
-        let mut text = format!("DIFFERENCE in group {}, case {}\n", self.group, self.cases);
+    fn report(&self, call: &Call, expected: Option<&Reply>, compared: bool, seen: &Seen) {
+        let mut text = String::new();
         report::describe(&mut text, call).expect("a string takes any text");
         let got = report::meaning(seen.number);
-        text += &match expected {
+        text += &match expected.filter(|_| compared) {
             Some(reply) => format!(
                 "  number: expected {}, got {got}\n",
                 report::meaning(reply.number)
             ),
             None => format!("  number: {got}\n"),
         };
-        for (i, wanted, got) in seen.words.iter().take(expected.map_or(0, |_| 20)) {
+        for (i, wanted, got) in seen.words.iter().take(if compared { 20 } else { 0 }) {
             text += &format!("  answer word {i}: expected {wanted:08x}, got {got:08x}\n");
         }
-        if expected.is_some() && seen.sheet_changed {
+        if compared && seen.sheet_changed {
             text += "  a sheet was changed\n";
         }
         for line in &seen.certificate {
             text += &format!("  certificate: {line}\n");
         }
-        eprint!("{text}");
+        self.difference(&text);
+    }
+
+    /// Prints this, and ends the run if it is enough.
+    fn difference(&self, text: &str) {
+        let (group, case) = (self.group, self.cases);
+        eprint!("DIFFERENCE in group {group}, case {case}\n{text}");
         let differences = DIFFERENCES.fetch_add(1, Ordering::SeqCst) + 1;
         if differences >= ENOUGH.load(Ordering::SeqCst) {
             eprintln!("{differences} differences: stopped");
@@ -372,13 +478,14 @@ impl Judge {
 
 impl Answer {
     /// Lends the buffer, in which one of the patterns stands, and compares every word with
-    /// what it held or with what was to be written.
+    /// what it held or with what was to be written; if nobody knows that, what was counted
+    /// may be anything.
     fn lend(
         &mut self,
         side: Side,
         turn: usize,
         room: usize,
-        written: &[u32],
+        written: Option<&[u32]>,
         entry: impl FnOnce(&mut [u32]) -> u64,
     ) -> Lent<'_> {
         // The margin lies on the side that has no guard page.
@@ -387,6 +494,12 @@ impl Answer {
         let pattern = &self.patterns[turn][..room + MARGIN];
         watched.copy_from_slice(pattern);
         let number = entry(&mut watched[first..first + room]);
+        let counted = |answer: &[u32]| answer.get(..number as usize).map(<[u32]>::to_vec);
+        let any = match written {
+            Some(_) => Vec::new(),
+            None => counted(&watched[first..first + room]).unwrap_or_default(),
+        };
+        let written = written.unwrap_or(&any);
         let written_end = first + written.len();
         let as_expected = watched[..first] == pattern[..first]
             && watched[first..written_end] == *written

@@ -6,6 +6,7 @@ use std::ffi::c_void;
 use std::fmt::{self, Write};
 
 use reference::call::{Call, INFINITY, REFUSED};
+use reference::chains::Way;
 
 extern "C" {
     fn sigaction(signal: i32, new: *const Action, old: *mut Action) -> i32;
@@ -128,6 +129,25 @@ pub fn describe(out: &mut dyn Write, call: &Call) -> fmt::Result {
             hex_words(out, "second sheet", second)
         }
     }
+}
+
+/// What became of a chain, way by way, and its sheets.
+pub fn ways<'a>(
+    sheets: &[Vec<u32>],
+    ends: impl Iterator<Item = (&'a Way, &'a Result<Vec<u32>, u64>)>,
+) -> String {
+    let mut text = String::from("  the ways to join a chain do not agree\n");
+    for (way, end) in ends {
+        match end {
+            Ok(words) => hex_words(&mut text, &way.to_string(), words),
+            Err(number) => writeln!(text, "  {way}: {}", meaning(*number)),
+        }
+        .expect("a string takes any text");
+    }
+    for (i, words) in sheets.iter().enumerate() {
+        hex_words(&mut text, &format!("sheet {}", i + 1), words).expect("a string takes any text");
+    }
+    text
 }
 
 /// A returned number in the words of document 01.

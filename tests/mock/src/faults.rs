@@ -1,6 +1,7 @@
 //! Deliberate faults, one at a time: each is a program that breaks document 01 or
 //! 02 in one way and keeps it otherwise. The comparison must find every one.
 
+mod chains;
 mod composition;
 mod numerator;
 mod primes;
@@ -427,6 +428,25 @@ pub const FAULTS: &[(&str, Fault)] = &[
         "compose-second-changed",
         Fault::Memory(composition::second_changed),
     ),
+    (
+        "chain-first-composite",
+        Fault::Output(chains::first_composite),
+    ),
+    (
+        "chain-second-composite",
+        Fault::Output(chains::second_composite),
+    ),
+    ("chain-falling", Fault::Output(chains::falling)),
+    ("chain-of-four", Fault::Output(chains::of_four)),
+    ("chain-sigma-by-step", Fault::Output(chains::sigma_by_step)),
+    (
+        "chain-sigma-unreduced",
+        Fault::Output(chains::sigma_unreduced),
+    ),
+    ("counted-chain-sum", Fault::Output(chains::counted_added_up)),
+    ("chain-14-two-steps", Fault::Output(chains::two_steps)),
+    ("chain-13-without-b", Fault::Output(chains::without_b)),
+    ("chain-14-without-p", Fault::Output(chains::without_p)),
 ];
 
 /// The fault that the environment names, if it names one.

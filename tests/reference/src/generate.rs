@@ -96,6 +96,18 @@ pub fn factors(l: u64) -> Vec<(u64, u64)> {
     first.map(|m| (m, l / m)).collect()
 }
 
+/// The odd degrees of so many steps that make this degree, in every order.
+pub fn splits(l: u64, count: usize) -> Vec<Vec<u64>> {
+    if count == 1 {
+        return vec![vec![l]];
+    }
+    let firsts = factors(l).into_iter().flat_map(|(m, rest)| {
+        let rests = splits(rest, count - 1).into_iter();
+        rests.map(move |rest| [vec![m], rest].concat())
+    });
+    firsts.collect()
+}
+
 /// One for each wanted degree that turns up, as from_points has it.
 pub fn cyclic(random: &mut Random, p: u64, wanted: &[u64], curves: usize) -> Vec<Cyclic> {
     on_curves(random, p, wanted, curves, cyclic_over)
@@ -374,10 +386,10 @@ pub fn walk(
     })
 }
 
-/// So many steps of degree 3 from a random curve that has them. Each is drawn from all that
-/// there are where it begins, which are one, two or four; if another one is there, it is
-/// the dual of the step before it in one of four cases.
+/// So many steps of degree 3 from a random curve that has them, each drawn from all that
+/// there are where it begins, which are one, two or four. Half of the walks never turn back.
 pub fn walk_by_3(random: &mut Random, p: u64, count: usize, curves: usize) -> Vec<Certificate> {
+    let onward = random.once_in(2);
     let walk = (0..curves).find_map(|_| {
         let mut curve = random_curve(random, p);
         let mut steps: Vec<Certificate> = Vec::new();
@@ -387,10 +399,7 @@ pub fn walk_by_3(random: &mut Random, p: u64, count: usize, curves: usize) -> Ve
                 .iter()
                 .map(|&u| Poly::with_roots(curve.field, &[u]));
             let mut next: Vec<Certificate> = kernels.map(|g| of_kernel(&curve, 3, &g)).collect();
-            let before = steps
-                .last()
-                .filter(|_| next.len() > 1 && !random.once_in(4));
-            if let Some(before) = before {
+            if let Some(before) = steps.last().filter(|_| onward) {
                 next.retain(|step| !turns_back(before, step));
             }
             if next.is_empty() {

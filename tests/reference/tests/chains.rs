@@ -9,7 +9,9 @@ use reference::chains::{joined, Chain, Way};
 use reference::composition::{composed, meets};
 use reference::curve::Curve;
 use reference::field::Field;
-use reference::generate::{self, dual, random_monic, rescale, turns_back, walk, walk_by_3, Cyclic};
+use reference::generate::{
+    self, dual, random_monic, rescale, splits, turns_back, walk, walk_by_3, Cyclic,
+};
 use reference::marked;
 use reference::poly::Poly;
 use reference::random::Random;
@@ -176,21 +178,6 @@ fn every_triple_over_53() {
     assert!(triples > 100, "{triples}");
 }
 
-/// The odd degrees of so many steps that make this degree, in every order.
-fn steps(l: u64, count: usize) -> Vec<Vec<u64>> {
-    if count == 1 {
-        return vec![vec![l]];
-    }
-    let mut all = Vec::new();
-    for (m, rest) in generate::factors(l) {
-        for mut others in steps(rest, count - 1) {
-            others.insert(0, m);
-            all.push(others);
-        }
-    }
-    all
-}
-
 /// A cyclic kernel in steps of these degrees.
 fn parts(cyclic: &Cyclic, degrees: &[u64]) -> Vec<Certificate> {
     let step = |i: usize| cyclic.part(degrees[..i].iter().product(), degrees[i]);
@@ -205,9 +192,9 @@ fn cyclic_kernels() {
     let mut met = HashSet::new();
     for (p, most, curves) in [(521, 255, 4000), (16381, 255, 20000), (LARGEST, 105, 3000)] {
         let odd = (27..=most).step_by(2);
-        let wanted: Vec<u64> = odd.filter(|&l| !steps(l, 3).is_empty()).collect();
+        let wanted: Vec<u64> = odd.filter(|&l| !splits(l, 3).is_empty()).collect();
         for cyclic in generate::cyclic(&mut random, p, &wanted, curves) {
-            for degrees in steps(cyclic.l(), 3) {
+            for degrees in splits(cyclic.l(), 3) {
                 let mut chain = Chain::cyclic(&cyclic, &degrees);
                 assert!(chain.is_lawful());
                 let maps = parts(&cyclic, &degrees);
@@ -232,7 +219,7 @@ fn cyclic_kernels() {
         }
     }
     // Those with a product of at most 255 that were not taken for their low degree.
-    let large = (81..=255).step_by(2).map(|l| steps(l, 3).len());
+    let large = (81..=255).step_by(2).map(|l| splits(l, 3).len());
     assert_eq!(met.len(), large.sum::<usize>());
 }
 
@@ -270,7 +257,7 @@ fn walks() {
                 continue;
             }
             for _ in 0..4 {
-                let steps = walk_by_3(&mut random, p, count, 100);
+                let steps = walk_by_3(&mut random, p, count, 1000);
                 made(&references(&steps), &Way::all(count));
                 if steps.windows(2).any(|pair| turns_back(&pair[0], &pair[1])) {
                     back += 1;
@@ -333,7 +320,7 @@ fn duals_and_multiplications() {
             assert_eq!(by_3, generate::multiplication(&domain, 3 * l));
         }
         for cyclic in generate::cyclic(&mut random, p, &[27, 45, 105], 20_000) {
-            let degrees = &steps(cyclic.l(), 3)[0];
+            let degrees = &splits(cyclic.l(), 3)[0];
             let [l, m, n] = degrees[..] else {
                 unreachable!("three steps")
             };

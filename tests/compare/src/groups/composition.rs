@@ -25,7 +25,7 @@ use crate::judge::Judge;
 type Pair = [Certificate; 2];
 
 /// Random curves to look at before a degree is given up.
-const CURVES: usize = 30_000;
+pub const CURVES: usize = 30_000;
 
 /// Primes over which all pairs of degrees are put.
 pub fn primes(quick: bool) -> Vec<u64> {
@@ -54,12 +54,12 @@ fn compose(first: &Certificate, second: &Certificate) -> Call {
     Call::compose(&first.words(), &second.words())
 }
 
-fn domain(certificate: &Certificate) -> Curve {
+pub fn domain(certificate: &Certificate) -> Curve {
     let q = &certificate.question;
     Curve::new(q.p, q.a, q.b)
 }
 
-fn codomain(certificate: &Certificate) -> Curve {
+pub fn codomain(certificate: &Certificate) -> Curve {
     let q = &certificate.question;
     Curve::new(q.p, q.a_t, q.b_t)
 }
@@ -255,7 +255,7 @@ pub fn steps(judge: &mut Judge, quick: bool) {
 
 /// The largest prime of which twice the value, and 3 more, has a place in a word: so much
 /// the spoilers want.
-const SPOILED: u64 = 134217689;
+pub const SPOILED: u64 = 134217689;
 
 /// A pair over each of some primes.
 fn samples(random: &mut Random) -> Vec<Pair> {

@@ -30,7 +30,7 @@ fn maps(call: &Call) -> Option<[Certificate; 2]> {
 // Another map.
 
 /// Changes what is written, with the two maps at hand.
-fn written(
+pub fn written(
     call: &Call,
     reply: Reply,
     change: impl FnOnce(&mut Certificate, &[Certificate; 2]),
@@ -64,7 +64,7 @@ pub fn counted_added_up(call: &Call, reply: Reply) -> Reply {
 }
 
 /// N follows sigma.
-fn with_sigma(both: &mut Certificate, sigma: u64) {
+pub fn with_sigma(both: &mut Certificate, sigma: u64) {
     let q = &mut both.question;
     q.sigma = sigma;
     let g = Poly::new(q.field(), both.g.clone());
@@ -90,7 +90,7 @@ pub fn sigma_unreduced(call: &Call, reply: Reply) -> Reply {
 }
 
 /// Another g, as far as it has a place, with R2's N.
-fn with_kernel(both: &mut Certificate, g: &Poly) {
+pub fn with_kernel(both: &mut Certificate, g: &Poly) {
     let q = &both.question;
     let kept = (0..=q.d()).map(|i| g.at(i)).collect();
     let g = Poly::new(q.field(), kept);
@@ -180,7 +180,7 @@ fn asked(first: &Certificate, second: &Certificate, is_met: bool, is_lawful: boo
 }
 
 /// Question 13 lets pass what is told here, too.
-fn passes_13(call: &Call, reply: Reply, is_met: fn(&Question, &Question) -> bool) -> Reply {
+pub fn passes_13(call: &Call, reply: Reply, is_met: fn(&Question, &Question) -> bool) -> Reply {
     match maps(call).filter(|_| refusal(call, &reply) == 13) {
         Some([first, mut second]) if is_met(&first.question, &second.question) => {
             let p = first.question.p;
@@ -239,21 +239,33 @@ pub fn turned(call: &Call, reply: Reply) -> Reply {
     }
 }
 
-/// Question 14 lets pass what is told here, of the product and p.
-fn asks_14(call: &Call, reply: Reply, is_lawful: fn(u64, u64) -> bool) -> Reply {
+/// Question 14 lets pass what is told here, of the maps and of what it should say.
+pub fn asks_14_of(
+    call: &Call,
+    reply: Reply,
+    is_lawful: impl FnOnce(&[Certificate; 2], bool) -> bool,
+) -> Reply {
     let late = matches!(refusal(call, &reply), 0 | 14);
     match maps(call).filter(|_| late) {
-        Some([first, second]) => {
-            let (product, p) = (first.question.l * second.question.l, first.question.p);
-            let lawful = is_permitted(first.question.l, second.question.l, p);
-            match (is_lawful(product, p), lawful) {
-                (true, false) => asked(&first, &second, true, true),
+        Some(maps) => {
+            let [first, second] = &maps;
+            let lawful = !fails_14(first, second);
+            match (is_lawful(&maps, lawful), lawful) {
+                (true, false) => asked(first, second, true, true),
                 (false, true) => Reply::refused(14),
                 _ => reply,
             }
         }
         None => reply,
     }
+}
+
+/// The same of the product and p.
+fn asks_14(call: &Call, reply: Reply, is_lawful: fn(u64, u64) -> bool) -> Reply {
+    asks_14_of(call, reply, |[first, second], _| {
+        let (q1, q2) = (&first.question, &second.question);
+        is_lawful(q1.l * q2.l, q1.p)
+    })
 }
 
 pub fn unasked(call: &Call, reply: Reply) -> Reply {
