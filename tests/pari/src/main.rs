@@ -5,7 +5,8 @@
 //! size, which PARI is given as they stand and reduces by its own means too. N is
 //! also put for any g, in the parts of the reference, and with l = p + 2 certificates
 //! that question 4 alone refuses. With each g goes the count of its rational abscissas.
-//! Maps that meet are composed, and PARI composes its own maps with these kernels.
+//! Maps that meet are composed, and PARI composes its own maps with these kernels; three of
+//! them from either side.
 //! Usage: pari SCRIPT
 
 #[path = "../../compare/src/entries.rs"]
@@ -17,7 +18,9 @@ use std::process::ExitCode;
 use reference::call::{point_number, point_of, INFINITY, REFUSED};
 use reference::curve::Curve;
 use reference::field::Field;
-use reference::generate::{self, dual, factors, random_curve, random_monic};
+use reference::generate::{
+    self, dual, factors, random_curve, random_monic, rescale, splits, walk_by_3,
+};
 use reference::marked;
 use reference::poly::Poly;
 use reference::primes::{next_prime, previous_prime, sieve};
@@ -113,6 +116,8 @@ struct Script {
     /// Pairs of maps that were composed, and their degrees.
     compositions: usize,
     composed: std::collections::BTreeSet<(u64, u64)>,
+    /// Chains of three maps, composed from either side.
+    chains: usize,
     /// Certificates that question 4 alone refuses.
     beyond: usize,
     /// Polynomials g of which the parts of N are written.
@@ -405,24 +410,59 @@ impl Script {
         self.dual(random, &certificate);
     }
 
-    /// What compose makes of two maps. PARI composes those that it computes itself from
-    /// both kernels, and computes that of the composed kernel, too.
-    fn composed(&mut self, random: &mut Random, maps: &[Certificate; 2]) {
-        let [first, second] = maps.each_ref().map(Certificate::words);
-        let what =
-            |maps: &[Certificate; 2]| format!("compose {:?}", maps.each_ref().map(|c| &c.question));
-        let Some(words) = self.answer(&what(maps), |answer| {
-            entries::compose(&first, &second, answer)
-        }) else {
-            return;
-        };
-        let Some(both) = self.certificate(&what(maps), &words) else {
-            return;
-        };
+    /// The words that compose makes of two sheets; they have the form of a certificate, and
+    /// check lets them pass.
+    fn joined(&mut self, first: &[u32], second: &[u32]) -> Option<(Vec<u32>, Certificate)> {
+        let what = format!("compose {:08x?} {:08x?}", &first[..7], &second[..7]);
+        let words = self.answer(&what, |answer| entries::compose(first, second, answer))?;
+        let both = self.certificate(&what, &words)?;
         let checked = entries::check(&sheet::bytes_of(&words));
         if checked != 0 {
             self.difference(format!("check refuses what compose wrote with {checked}"));
         }
+        Some((words, both))
+    }
+
+    /// Three maps from the left and from the right, each call with what the one before it
+    /// wrote. PARI composes its own in either way, too.
+    fn chained(&mut self, maps: &[Certificate; 3]) {
+        let [first, second, third] = maps.each_ref().map(Certificate::words);
+        let left = self.joined(&first, &second);
+        let left = left.and_then(|(words, _)| self.joined(&words, &third));
+        let right = self.joined(&second, &third);
+        let right = right.and_then(|(words, _)| self.joined(&first, &words));
+        let (Some((left, one)), Some((right, other))) = (left, right) else {
+            return;
+        };
+        if left != right {
+            self.difference(format!(
+                "{left:08x?} from the left, {right:08x?} from the right"
+            ));
+        }
+        self.isogeny(&one);
+        let q = &maps[0].question;
+        let kernels = maps.each_ref().map(|c| list(&c.g)).join(",");
+        let ways = [one, other].map(|c| {
+            let codomain = list(&[c.question.a_t, c.question.b_t]);
+            format!("[{codomain},{},{}]", list(&c.g), list(&c.n))
+        });
+        self.line(format!(
+            "chained({},{},{},[{kernels}],{});",
+            q.p,
+            q.a,
+            q.b,
+            ways.join(",")
+        ));
+        self.chains += 1;
+    }
+
+    /// What compose makes of two maps. PARI composes those that it computes itself from
+    /// both kernels, and computes that of the composed kernel, too.
+    fn composed(&mut self, random: &mut Random, maps: &[Certificate; 2]) {
+        let [first, second] = maps.each_ref().map(Certificate::words);
+        let Some((words, both)) = self.joined(&first, &second) else {
+            return;
+        };
         self.isogeny(&both);
         let q = &both.question;
         let kernels = maps.each_ref().map(|c| list(&c.g)).join(",");
@@ -486,7 +526,7 @@ fn pairs(random: &mut Random) -> Vec<[Certificate; 2]> {
             if cyclic.l() % 8 == 1 {
                 let (m, n) = factors(cyclic.l())[0];
                 let [first, second] = cyclic.split(m).map(|map| dual(&map));
-                pairs.push([second, generate::rescale(&first, n)]);
+                pairs.push([second, rescale(&first, n)]);
             }
         }
         for step in generate::from_points(random, p, &[3, 5, 7, 9, 11, 13, 15], 5000) {
@@ -499,6 +539,30 @@ fn pairs(random: &mut Random) -> Vec<[Certificate; 2]> {
         pairs.extend(found.iter().map(|cyclic| cyclic.split(factors(l)[0].0)));
     }
     pairs
+}
+
+/// Chains of three maps: request E1's two and multiplication by 3; cyclic kernels in three
+/// steps; walks by 3; a step, its dual and the step again.
+fn chains(random: &mut Random) -> Vec<[Certificate; 3]> {
+    let q = &marked::second().question;
+    let end = generate::multiplication(&Curve::new(q.p, q.a_t, q.b_t), 3);
+    let mut chains = vec![[marked::first(), marked::second(), end]];
+    for p in [1009, 65_537, 268_435_399] {
+        for cyclic in generate::cyclic(random, p, &[27, 105, 255], 20_000) {
+            let orders = splits(cyclic.l(), 3);
+            for degrees in [&orders[0], &orders[orders.len() - 1]] {
+                let before = |i: usize| degrees[..i].iter().product();
+                chains.push([0, 1, 2].map(|i| cyclic.part(before(i), degrees[i])));
+            }
+        }
+        let steps = walk_by_3(random, p, 3, 1000);
+        chains.push(steps.try_into().expect("three steps"));
+        for step in generate::from_points(random, p, &[5], 1000) {
+            let (back, again) = (dual(&step), rescale(&step, 5));
+            chains.push([step, back, again]);
+        }
+    }
+    chains
 }
 
 fn main() -> ExitCode {
@@ -515,11 +579,15 @@ fn main() -> ExitCode {
     for pair in pairs(&mut random) {
         script.composed(&mut random, &pair);
     }
+    for chain in chains(&mut random) {
+        script.chained(&chain);
+    }
     let Script {
         isogenies,
         points,
         infinities,
         compositions,
+        chains,
         beyond,
         sums,
         names,
@@ -531,6 +599,7 @@ fn main() -> ExitCode {
         points,
         infinities,
         compositions,
+        chains,
         beyond,
         sums,
         names,
@@ -543,7 +612,8 @@ fn main() -> ExitCode {
     let [none, some, all] = script.shares;
     println!(
         "{isogenies} kernels of {degrees} degrees over {primes} primes, {none} with no, {some} with \
-        some and {all} with all abscissas rational, {} questions solved, {compositions} pairs of maps composed",
+        some and {all} with all abscissas rational, {} questions solved, {compositions} pairs of maps composed, \
+        {chains} chains of three from either side",
         script.solved
     );
     // So many pairs of odd degrees have a product of at most 255.
