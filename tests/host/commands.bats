@@ -180,6 +180,86 @@ load common
     gives 1 '' compose -q degree_9.bin three.bin third.bin
 }
 
+# join NAME FILE FILE: the two files in NAME.bin.
+join() {
+    gives 0 '' compose -q "$2" "$3" -o "$1.bin"
+}
+
+# Request E7. Two steps of degree 3, multiplication by 3, and the first step again, where that ends: abscissas times 9^2. The kernel sum of all is that of the
+# last, and those before it times the degrees that follow.
+@test "compose: a chain of four in each of its five ways, and of its parts" {
+    local p=1009
+    local a=$((81 * 81 * 265 % p)) b=$((81 * 81 * 81 * 877 % p))
+    sagepliers solve -q -o three.bin $p 81 169 $((81 * 81)) $((169 * 729)) 9 0
+    sagepliers solve -q -o again.bin $p $((81 * 81)) $((169 * 729)) $a $b 3 $((81 * 46))
+    sagepliers solve -q -o whole.bin $p 1 3 $a $b 243 $((81 * 46 + 27 * 871 + 81 * 46))
+    # Files given from the left, as typesetters join them, and the same files joined by hand.
+    gives 0 '' compose -q first.bin second.bin three.bin again.bin -o out.bin
+    cmp out.bin whole.bin
+    join ab first.bin second.bin
+    join bc second.bin three.bin
+    join cd three.bin again.bin
+    join abc ab.bin three.bin
+    join right first.bin bc.bin
+    cmp right.bin abc.bin
+    join bcd bc.bin again.bin
+    join right second.bin cd.bin
+    cmp right.bin bcd.bin
+    gives 0 '' compose -q second.bin three.bin again.bin -o out.bin
+    cmp out.bin bcd.bin
+    for way in 'abc again' 'ab cd' 'first bcd'; do
+        # shellcheck disable=SC2086
+        set -- $way
+        join out "$1.bin" "$2.bin"
+        cmp out.bin whole.bin
+    done
+    gives 0 'whole.bin: passes' check whole.bin
+}
+
+# refused_either_way LEFT RIGHT A B C: the numbers that three files get from the left and from the right; nothing is written.
+refused_either_way() {
+    local left=$1 right=$2 a=$3 b=$4 c=$5
+    rm -f joined.bin out.bin
+    run --separate-stderr sagepliers compose "$a" "$b" "$c" -o out.bin
+    [ "$status" -eq 1 ] || say "status $status from the left: $a $b $c"
+    [[ $output == *": $(refusal "$left")" ]] || say "from the left: $output"
+    run --separate-stderr sagepliers compose "$a" "$b" -o joined.bin
+    if [ "$status" -eq 0 ]; then run --separate-stderr sagepliers compose joined.bin "$c" -o out.bin; fi
+    [ "$status" -eq 1 ] || say "status $status from the left, by two calls: $a $b $c"
+    [[ $output == *": $(refusal "$left")" ]] || say "from the left, by two calls: $output"
+    rm -f joined.bin
+    run --separate-stderr sagepliers compose "$b" "$c" -o joined.bin
+    if [ "$status" -eq 0 ]; then run --separate-stderr sagepliers compose "$a" joined.bin -o out.bin; fi
+    [ "$status" -eq 1 ] || say "status $status from the right: $a $b $c"
+    [[ $output == *": $(refusal "$right")" ]] || say "from the right: $output"
+    [ ! -e out.bin ] || say "something was written: $a $b $c"
+}
+
+@test "compose: a chain is refused from the left exactly when it is from the right, though the numbers may differ" {
+    sagepliers solve -q -o three.bin 1009 81 169 $((81 * 81)) $((169 * 729)) 9 0
+    sagepliers solve -q -o third.bin 1009 $((81 * 81)) $((169 * 729)) $((81 * 81 * 81)) $((169 * 729 * 729)) 9 0
+    sagepliers solve -q -o nine.bin 1009 1 3 $((81 * 81)) $((3 * 729 * 729)) 81 0
+    head -c 59 first.bin >short.bin
+    # One sheet, or one place where two do not meet.
+    refused_either_way 6 6 question.bin second.bin three.bin
+    refused_either_way 6 6 first.bin question.bin three.bin
+    refused_either_way 6 6 first.bin second.bin question.bin
+    refused_either_way 13 13 second.bin second.bin three.bin
+    refused_either_way 13 13 first.bin second.bin second.bin
+    refused_either_way 13 13 first.bin first.bin first.bin
+    # 9 * 9 * 9, of which two are permitted; 81 * 9 at either end.
+    refused_either_way 14 14 degree_9.bin three.bin third.bin
+    refused_either_way 13 14 first.bin nine.bin third.bin
+    refused_either_way 14 13 nine.bin third.bin first.bin
+    # Two sheets; a sheet and two that do not meet; a sheet and too large a product.
+    refused_either_way 6 2 question.bin second.bin short.bin
+    refused_either_way 2 6 short.bin second.bin question.bin
+    refused_either_way 13 6 first.bin first.bin question.bin
+    refused_either_way 2 13 short.bin first.bin first.bin
+    refused_either_way 14 2 nine.bin third.bin short.bin
+    refused_either_way 6 14 question.bin nine.bin third.bin
+}
+
 @test "push: points, infinity, points of the kernel, and pairs that are no points" {
     gives 0 '(1008, 1) -> (617, 44)
 infinity -> infinity' push first.bin 1008 1 infinity

@@ -202,7 +202,8 @@ fn cyclic_kernels() {
                     assert!(meets(&pair[0].question, &pair[1].question));
                 }
                 let whole = cyclic.certificate();
-                if cyclic.l() < 80 || met.insert(degrees) {
+                // The reference's own composition takes long for large degrees.
+                if met.insert(degrees) || cyclic.l() < 80 {
                     assert_eq!(made(&references(&maps), &Way::either(3)), whole);
                 }
                 for way in Way::either(3) {
@@ -218,9 +219,8 @@ fn cyclic_kernels() {
             }
         }
     }
-    // Those with a product of at most 255 that were not taken for their low degree.
-    let large = (81..=255).step_by(2).map(|l| splits(l, 3).len());
-    assert_eq!(met.len(), large.sum::<usize>());
+    // All with a product of at most 255.
+    assert_eq!(met.len(), 104);
 }
 
 /// Cyclic kernels in four and five steps, in every way.

@@ -63,7 +63,9 @@ pub fn over(judge: &mut Judge, p: u64, quick: bool) {
             &PRODUCTS
         };
         let found = generate::cyclic(&mut random, p, all, CURVES);
-        for l in MAIN {
+        // Over 1009 some have none, since no multiple of theirs is the order of a curve.
+        let wanted = if p == 1009 { &MAIN[..] } else { all };
+        for &l in wanted {
             let is_there = found.iter().any(|cyclic| cyclic.l() == l);
             assert!(is_there, "some curve over {p} has a point of order {l}");
         }
@@ -88,7 +90,7 @@ pub fn over(judge: &mut Judge, p: u64, quick: bool) {
 pub fn least_primes(judge: &mut Judge, quick: bool) {
     let mut random = Random::new(0xe701);
     let [mut permitted, mut refused] = [0, 0];
-    for l in PRODUCTS.into_iter().step_by(if quick { 5 } else { 1 }) {
+    for l in PRODUCTS.into_iter().step_by(if quick { 8 } else { 1 }) {
         let first = next_prime(2 * l);
         for p in [first, next_prime(first + 1)] {
             for cyclic in generate::cyclic(&mut random, p, &[l], 1000) {
@@ -134,7 +136,7 @@ pub fn bracketings(judge: &mut Judge, quick: bool) {
         &[487, 521, 1009, 65537, 16777213, SPOILED, LARGEST_PRIME]
     };
     for &p in primes {
-        for degrees in degrees.iter().take(if quick { 4 } else { 9 }) {
+        for degrees in degrees.iter().take(if quick { 3 } else { 9 }) {
             let wanted = [degrees.iter().product()];
             for cyclic in generate::cyclic(&mut random, p, &wanted, CURVES) {
                 every_way(judge, &mut Chain::cyclic(&cyclic, degrees));
@@ -142,7 +144,7 @@ pub fn bracketings(judge: &mut Judge, quick: bool) {
             }
         }
         for count in [4, 5] {
-            for _ in 0..if quick { 3 } else { 6 } {
+            for _ in 0..if quick { 2 } else { 6 } {
                 let steps = walk_by_3(&mut random, p, count, 1000);
                 every_way(judge, &mut Chain::passing(&steps));
                 match steps.windows(2).any(|pair| turns_back(&pair[0], &pair[1])) {
@@ -157,7 +159,7 @@ pub fn bracketings(judge: &mut Judge, quick: bool) {
             }
         }
     }
-    assert!(known > 5 && onward > 0 && back > 0, "each kind comes up");
+    assert!(known > 4 && onward > 0 && back > 0, "each kind comes up");
     judge.note(format!(
         "{known} cyclic kernels, {back} walks by 3 that turn back, {onward} that do not"
     ));
@@ -572,7 +574,7 @@ pub fn refused_bracketings(judge: &mut Judge, quick: bool) {
     for steps in &chains {
         let spoiled: Vec<Vec<(Vec<u32>, Refusal)>> =
             steps.iter().map(spoil::certificates).collect();
-        for round in 0..if quick { 12 } else { 120 } {
+        for round in 0..if quick { 8 } else { 120 } {
             let mut maps = steps.clone();
             if round % 3 == 0 {
                 let place = random.index(maps.len());
@@ -629,13 +631,14 @@ pub fn every(judge: &mut Judge, p: u64, step: usize) {
 /// above 255, they are refused.
 fn pool(random: &mut Random) -> Vec<Vec<Certificate>> {
     let mut pool = Vec::new();
-    for p in [53, 59, 61, 67, 101, 521, 1009, 65521, LARGEST_PRIME] {
+    for p in [53, 59, 61, 67, 101, 521, 1009, LARGEST_PRIME] {
         for _ in 0..3 {
             pool.push(walk_by_3(random, p, 3, 1000));
         }
+    }
+    for p in [53, 59, 101, 521, 1009] {
         for degrees in [[3, 5, 3], [5, 3, 3], [3, 3, 5], [3, 9, 3], [9, 5, 9]] {
-            let lawful = degrees.iter().all(|&l| ask_degree(l, p).is_ok());
-            pool.extend(walk(random, p, &degrees, 300).filter(|_| lawful));
+            pool.extend(walk(random, p, &degrees, 300));
         }
     }
     pool
@@ -648,16 +651,17 @@ fn neighbours(random: &mut Random, pool: &[Vec<Certificate>]) -> Vec<Vec<u32>> {
     let mut sheets: Vec<Vec<u32>> = chain.iter().map(Certificate::words).collect();
     for _ in 0..random.below(3) {
         let (i, j) = (random.index(3), random.index(3));
-        match random.below(12) {
+        match random.below(14) {
             0 => sheets.swap(i, j),
             1 => sheets[i] = sheets[j].clone(),
             2..=3 => sheets[i] = random.pick(pool)[j].words(),
-            4 => {
-                let t = *random.pick(&[p - 1, 2, 3]);
+            // With -1 the curves keep their A.
+            4..=6 => {
+                let t = *random.pick(&[p - 1, p - 1, 2, 3]);
                 sheets[i] = twist(&chain[i], t).words();
             }
-            5 => sheets[i] = (0..random.index(60)).map(|_| random.word()).collect(),
-            6 => {
+            7 => sheets[i] = (0..random.index(60)).map(|_| random.word()).collect(),
+            8 => {
                 let more = sheets[j].clone();
                 sheets[i].extend(more);
             }
