@@ -22,8 +22,9 @@ use crate::watch::Watch;
 const MARGIN: usize = 64;
 const CAPACITY: usize = 1 << 17;
 const LARGEST_ROOM: usize = 8192;
-/// Rooms of the calls that join a chain, in turn.
-const ROOMS: [usize; 5] = [393, 393, 394, 500, 1000];
+/// Rooms of the calls that join a chain. They take turns of their own: seven is prime to
+/// those of the buffers.
+const ROOMS: [usize; 7] = [393, 393, 393, 394, 400, 500, 1000];
 
 static DIFFERENCES: AtomicU64 = AtomicU64::new(0);
 static ENOUGH: AtomicU64 = AtomicU64::new(u64::MAX);

@@ -2,6 +2,8 @@
 //! or its twist, from multiplication by m, from duals, and by composition.
 //! Existence comes from theory, not from the solver.
 
+use std::collections::HashMap;
+
 use crate::brute::{all_monic, all_pairs, is_curve};
 use crate::curve::Curve;
 use crate::field::Field;
@@ -265,6 +267,28 @@ pub fn every(p: u64, degrees: &[u64]) -> Vec<Certificate> {
         }
     }
     list
+}
+
+/// All chains of three steps of degree 3 that meet in turn over a small field.
+pub fn triples_by_3(p: u64) -> Vec<[Certificate; 3]> {
+    let list = every(p, &[3]);
+    let mut from: HashMap<(u64, u64), Vec<&Certificate>> = HashMap::new();
+    for step in &list {
+        let domain = (step.question.a, step.question.b);
+        from.entry(domain).or_default().push(step);
+    }
+    let after = |step: &Certificate| {
+        let codomain = (step.question.a_t, step.question.b_t);
+        from.get(&codomain).into_iter().flatten()
+    };
+    let mut triples = Vec::new();
+    for first in &list {
+        for &second in after(first) {
+            let thirds = after(second);
+            triples.extend(thirds.map(|&third| [first, second, third].map(Clone::clone)));
+        }
+    }
+    triples
 }
 
 /// Multiplication by an odd m, followed by the isomorphism that makes it

@@ -220,17 +220,15 @@ fn numbers_are(chain: &Chain, wanted: [Refusal; 2]) {
     assert_eq!(numbers(chain), wanted, "from the left and from the right");
 }
 
-/// A step to a curve, of which the degree is one of these.
+/// A step that ends at a curve, of one of these degrees.
 fn step_to(random: &mut Random, curve: &Curve, wanted: &[u64]) -> Option<Certificate> {
     let found = wanted
         .iter()
         .find_map(|&l| generate::step(random, curve, l, 6));
     // The dual goes to the curve with l^4 A and l^6 B.
     found.map(|step| {
-        rescale(
-            &dual(&step),
-            curve.field.inv(step.question.l % curve.field.p()),
-        )
+        let l = step.question.l % curve.field.p();
+        rescale(&dual(&step), curve.field.inv(l))
     })
 }
 
@@ -594,7 +592,7 @@ pub fn refused_bracketings(judge: &mut Judge, quick: bool) {
     judge.note(format!("{all} chains"));
 }
 
-/// Fields of which triples of steps of degree 3 are put.
+/// Fields of which chains of three steps of degree 3 are put.
 pub fn fields(quick: bool) -> Vec<u64> {
     if quick {
         vec![53, 59]
@@ -603,26 +601,15 @@ pub fn fields(quick: bool) -> Vec<u64> {
     }
 }
 
-/// Triples of steps of degree 3 that meet, over the largest prime that does not permit 27
-/// and over the least that do: every one, or a part of them.
+/// Chains of three steps of degree 3, over the largest prime that does not permit 27 and
+/// over the least that do: every one, or a part of them.
 pub fn every(judge: &mut Judge, p: u64, step: usize) {
-    let mut from: BTreeMap<(u64, u64), Vec<Certificate>> = BTreeMap::new();
-    for c in generate::every(p, &[3]) {
-        from.entry((c.question.a, c.question.b))
-            .or_default()
-            .push(c);
-    }
-    let at = |c: &Certificate| from.get(&(c.question.a_t, c.question.b_t));
     let mut chains = 0;
-    for first in from.values().flatten().step_by(step) {
-        for second in at(first).into_iter().flatten() {
-            for third in at(second).into_iter().flatten() {
-                let mut chain = Chain::passing(&[first, second, third].map(Clone::clone));
-                assert_eq!(chain.is_lawful(), p > 53);
-                either_way(judge, &mut chain);
-                chains += 1;
-            }
-        }
+    for steps in generate::triples_by_3(p).iter().step_by(step) {
+        let mut chain = Chain::passing(steps);
+        assert_eq!(chain.is_lawful(), p > 53);
+        either_way(judge, &mut chain);
+        chains += 1;
     }
     judge.note(format!("{chains} chains"));
 }
