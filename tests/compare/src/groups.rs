@@ -183,8 +183,8 @@ fn by_chance(count: u64) -> Vec<Group> {
     shards.collect()
 }
 
-/// Request E7. A hundredth as many chains as the random cases are random, and four times as
-/// many more have nothing for their expectation but the library's own answers.
+/// Request E7. A hundredth as many chains as the random cases are random, and twice as many
+/// more have nothing for their expectation but the library's own answers.
 fn by_chains(quick: bool, count: u64) -> Vec<Group> {
     let named: [(&str, WithQuick); 8] = [
         ("numbers", |judge, _| chains::numbers_of_either_way(judge)),
@@ -217,7 +217,7 @@ fn by_chains(quick: bool, count: u64) -> Vec<Group> {
     }));
     groups.extend((0..2).map(|seed| {
         group(format!("chains, own answers {}", seed + 1), move |judge| {
-            chains::own_answers(judge, seed, count / 50);
+            chains::own_answers(judge, seed, count / 100);
         })
     }));
     groups
