@@ -447,6 +447,10 @@ pub const FAULTS: &[(&str, Fault)] = &[
     ("chain-14-two-steps", Fault::Output(chains::two_steps)),
     ("chain-13-without-b", Fault::Output(chains::without_b)),
     ("chain-14-without-p", Fault::Output(chains::without_p)),
+    (
+        "chain-own-words-unasked",
+        Fault::Output(chains::own_words_unasked),
+    ),
 ];
 
 /// The fault that the environment names, if it names one.

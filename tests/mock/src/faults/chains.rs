@@ -2,6 +2,8 @@
 //! go wrong where a sheet is itself composed: by request E7 they join chains otherwise from
 //! the left than from the right, or refuse what they must join, or the other way round.
 
+use std::cell::RefCell;
+
 use reference::call::{Call, Reply};
 use reference::composition::kernel;
 use reference::generate::{factors, splits};
@@ -109,4 +111,24 @@ pub fn without_p(call: &Call, reply: Reply) -> Reply {
         let product = first.question.l * second.question.l;
         lawful || is_composite(first) && product <= 255
     })
+}
+
+thread_local! {
+    static LAST: RefCell<Vec<u32>> = const { RefCell::new(Vec::new()) };
+}
+
+/// A library with a memory: 14 is not asked where the first sheet is what it wrote last. No
+/// two sheets that others made show that.
+pub fn own_words_unasked(call: &Call, reply: Reply) -> Reply {
+    let Call::Compose { first, .. } = call else {
+        return reply;
+    };
+    let reply = match LAST.with_borrow(|last| last == first) {
+        true => asks_14_of(call, reply, |_, _| true),
+        false => reply,
+    };
+    if !reply.words.is_empty() {
+        LAST.set(reply.words.clone());
+    }
+    reply
 }
