@@ -1,4 +1,4 @@
--- `Homogenized n P Q`: P has degree at most n, and Q is `homogenize n P`; it goes along with sums, products and powers.
+-- `Homogenized n P Q`: P has degree at most n, and Q is `homogenize n P`; it goes along with sums, products, powers and a substitution in P itself.
 -- Assumes nothing.
 use mathlib.Core.Path.{_≡_, refl, sym, _∙_, ap, ap₂, subst, fun-ext}
 use Prim.Native.Nat.{ℕ, zero, suc, _+_, _*_}
@@ -95,3 +95,13 @@ module _ (R : CRing) where
           ∙ ap₂ (λ y z. y ⊗ Y ^ 1 ⊕ X ⊗ z) (fun-ext (S.const-null R)) (homogenize-zero R X Y (tail R (ind R)))
           ∙ solve2 (Series R) (λ x y. :0 :* y :+ x :* :1) (λ x y. x) tt X (Y ^ 1);
     }
+
+  -- a substitution in a substitution: what A and B are at X / Y takes their places
+  pub h-homogenize : {X Y A B A′ B′ : Seq R} {m : ℕ} → Homogenized X Y m A A′ → Homogenized X Y m B B′
+      → (n : ℕ) (P : Seq R) → Homogenized X Y (n * m) (homogenize R A B n P) (homogenize R A′ B′ n P)
+  h-homogenize {X} {Y} {A} {B} {A′} {B′} {m} a b zero P =
+      h-left X Y (sym (homogenize-zero R A B P)) (h-right X Y (sym (homogenize-zero R A′ B′ P)) (h-degree X Y (sym (Nat.zero-mul m)) (h-const X Y (P 0))))
+  h-homogenize {X} {Y} {A} {B} {A′} {B′} {m} a b (suc n) P =
+      h-left X Y (sym (homogenize-suc R A B n P)) (h-right X Y (sym (homogenize-suc R A′ B′ n P))
+      (h-add X Y (h-degree X Y (Nat.zero-add (suc n * m)) (h-mul X Y (h-const X Y (P 0)) (h-pow X Y b (suc n))))
+      (h-degree X Y (Nat.add-comm m (n * m) ∙ sym (Nat.suc-mul n m)) (h-mul X Y a (h-homogenize a b n (tail R P))))))
