@@ -1,9 +1,9 @@
 -- The composite of two certificates that meet, over the first one's p: its values pass 3 to 5, its question is the composite of the two questions, and its
--- g meets the rules.
+-- g meets the rules. Three have one composite, either way.
 -- Assumes nothing.
 use mathlib.Core.Path.{_≡_, refl, sym, _∙_, ap, ap₂, subst}
 use mathlib.Core.List.{List}
-use Prim.Native.Nat.{ℕ, _+_, _*_, _%_, _≤_}
+use Prim.Native.Nat.{ℕ, _+_, _*_, _/_, _%_, _≤_}
 use native.Mathlib.Nat as N
 use native.Mathlib.Omega.{arith}
 use lib.ListN.{length}
@@ -17,7 +17,8 @@ use Rattle.composition.specs.Composite.{Composable, composite, composite-g, com
 use Rattle.composition.specs.Theorems as T
 use Rattle.sheet.specs.declared.Values.{Values}
 use Rattle.sheet.specs.Values.{half, question}
-use Rattle.sheet.specs.Ready.{Ready, HoldsG, half-least, degree-half}
+use Rattle.sheet.specs.Fields.{same}
+use Rattle.sheet.specs.Ready.{Ready, half-least, degree-half}
 use Rattle.promises.specs.Asked.{ComposableValues, ProductAllowed}
 use Rattle.promises.specs.Answer.{composed}
 
@@ -36,6 +37,35 @@ over p w = record {
 -- with their own p they are what they were
 pub over-same : {p : ℕ} (w : Values) → p ≡ w .p → over p w ≡ w
 over-same w e i = over (e i) w
+
+-- ── three, either way
+
+-- one remainder at the end is enough
+remainder-inside : (a b c p : ℕ) → (a + b * (c % p)) % p ≡ (a + b * c) % p
+remainder-inside a b c p =
+    sym (N.add-mul-mod-self-right (a + b * (c % p)) (b * (c / p)) p)
+    ∙ ap (_% p)
+    (N.add-assoc a (b * (c % p)) (b * (c / p) * p)
+    ∙ ap (λ n. a + (b * (c % p) + n)) (N.mul-assoc b (c / p) p)
+    ∙ ap (a +_) (sym (N.mul-add b (c % p) (c / p * p)) ∙ ap (b *_) (N.add-comm (c % p) (c / p * p) ∙ N.div-add-mod' c p)))
+
+-- Of three values of which the first two have one p, the composite is the same whichever two are composed first.
+pub composed-associative : (u v w : Values) → u .p ≡ v .p → composed (composed u v) w ≡ composed u (composed v w)
+composed-associative u v w e = same refl refl refl refl refl (N.mul-assoc (u .degree) (v .degree) (w .degree)) sigmas
+  where
+    sigmas : (w .sigma + w .degree * ((v .sigma + v .degree * u .sigma) % u .p)) % u .p
+        ≡ ((w .sigma + w .degree * v .sigma) % v .p + v .degree * w .degree * u .sigma) % u .p
+    sigmas =
+        remainder-inside (w .sigma) (w .degree) (v .sigma + v .degree * u .sigma) (u .p)
+        ∙ ap (_% u .p)
+        (ap (w .sigma +_)
+        (N.mul-add (w .degree) (v .sigma) (v .degree * u .sigma)
+        ∙ ap (w .degree * v .sigma +_) (sym (N.mul-assoc (w .degree) (v .degree) (u .sigma)) ∙ ap (_* u .sigma) (N.mul-comm (w .degree) (v .degree))))
+        ∙ sym (N.add-assoc (w .sigma) (w .degree * v .sigma) (v .degree * w .degree * u .sigma)))
+        ∙ sym (N.mod-add-mod (w .sigma + w .degree * v .sigma) (u .p) (v .degree * w .degree * u .sigma))
+        ∙ ap (λ m. ((w .sigma + w .degree * v .sigma) % m + v .degree * w .degree * u .sigma) % u .p) e
+
+-- ── two that meet
 
 module _ (v w : Values) (ready : Ready v) (ready′ : Ready w) (meet : ComposableValues v w) (allowed : ProductAllowed v w) where
   abbrev p : ℕ

@@ -1,12 +1,12 @@
 -- The three ways to a certificate agree: from a certificate that passes, solve on its question sheet and kernel on its kernel sheet write that same
--- certificate, word for word.
+-- certificate, word for word; and no other certificate with its values passes.
 -- Assumes nothing.
 use mathlib.Core.Path.{_≡_, refl, sym, _∙_, ap, ap₂, subst}
 use mathlib.Core.Bool.{false≢true}
-use mathlib.Core.List.{List, [], _∷_, _++_, map}
+use mathlib.Core.List.{List, [], _∷_, _++_, map, append-nil}
 use Prim.Native.Nat.{ℕ, _+_, _-_, _<_, _≤_}
 use native.Mathlib.Omega.{arith}
-use lib.ListN.{length, getD, take, drop, length-append, length-take, length-drop, List·getD-append}
+use lib.ListN.{length, getD, take, drop, length-append, length-take, length-drop, drop-of-length-le, List·getD-append}
 use lib.Seq.{getD-take, getD-drop, take-at, getD-at}
 use Rattle.series.specs.Series.{Seq}
 use Rattle.zmod.specs.Zmod.{Elt, Zmod, mk}
@@ -39,6 +39,7 @@ use Rattle.services.specs.Kernel.{kernel-unique}
 use Rattle.promises.specs.Certificates.{check-asked, certificate-N, certificate-meets}
 use Rattle.services.specs.Abscissas.{certificate-abscissas}
 use Rattle.services.specs.Words.{certificate-back, g-section}
+use Rattle.services.specs.Certified.{one-certificate}
 
 -- the question sheet of a certificate: its first seven words, and the end
 abbrev pub questionOf : List ℕ → List ℕ
@@ -306,3 +307,18 @@ module _ (ws : List ℕ) (passes : AllYes (check-asks ws)) where
   pub kernel-again : (before after : List ℕ) (r : Written) → Room (length before) → KernelRight (kernelOf ws) before after r
       → (r ≡ written.Count (length ws)) × (after ≡ ws ++ drop (length ws) before)
   kernel-again before after r room h = kernel-unique (kernelOf ws) before after _ r (written.Count (length ws)) h (kernel-right before room)
+
+-- ── one certificate
+
+-- Two certificates that pass, with the same p, curves, ℓ and σ on them, are the same words.
+pub same-certificate : (ws us : List ℕ) → AllYes (check-asks ws) → AllYes (check-asks us) → valuesOf Certificate ws ≡ valuesOf Certificate us → ws ≡ us
+same-certificate ws us passes passes′ e = sym (alone ws) ∙ one .1 ∙ alone us
+  where
+    -- in an empty buffer there is nothing behind it
+    alone : (xs : List ℕ) → xs ++ drop (length xs) [] ≡ xs
+    alone xs = ap (λ (ys : List ℕ). xs ++ ys) (drop-of-length-le [] {i = length xs} (omega arith)) ∙ append-nil xs
+
+    one : (length ws ≡ length us) × (ws ++ drop (length ws) [] ≡ us ++ drop (length us) [])
+    one =
+        one-certificate (valuesOf Certificate us) (known us passes′) [] (ws ++ drop (length ws) []) (us ++ drop (length us) []) (length ws) (length us)
+        (subst (λ v. CertificateIn v [] (ws ++ drop (length ws) []) (length ws)) e (held ws passes [])) (held us passes′ [])

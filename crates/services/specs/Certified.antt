@@ -4,7 +4,7 @@ use mathlib.Core.Path.{_≡_, refl, sym, _∙_, ap, ap₂, subst}
 use mathlib.Core.List.{List, _++_}
 use Prim.Native.Nat.{ℕ, _^_, _<_}
 use native.Mathlib.Omega.{arith}
-use lib.ListN.{take, drop}
+use lib.ListN.{length, take, drop}
 use lib.Seq.{take-at}
 use Rattle.zmod.specs.Zmod.{Zmod}
 use Rattle.zmod.specs.Residues.{poly, residues-self, residues-same, residues-unique}
@@ -56,6 +56,13 @@ module _ (v : Values) (ready : Ready v) (curves : Curves Certificate v) (before 
   certificate-words =
       ap (take count) (held .words)
       ∙ take-at ws (drop count before) count (count-back v ready g n c (held .g-words) (held .n-words) c-fits ∙ sym (held .count-is))
+
+  -- the count and the buffer, from the words that were written
+  pub written-count : count ≡ length (take count after)
+  written-count = held .count-is ∙ sym (count-back v ready g n c (held .g-words) (held .n-words) c-fits) ∙ ap length (sym certificate-words)
+
+  pub written-buffer : after ≡ take count after ++ drop count before
+  written-buffer = held .words ∙ ap (λ (ws : List ℕ). ws ++ drop count before) (sym certificate-words)
 
   -- what is on it
   pub written-values : valuesOf Certificate (take count after) ≡ v
