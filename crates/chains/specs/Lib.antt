@@ -1,0 +1,5 @@
+pub mod Chain
+pub mod Brackets
+pub mod Theorems
+pub mod Three
+pub mod Proof
