@@ -95,7 +95,8 @@ uint64_t sagepliers_kernel(const uint32_t *sheet, size_t words, uint32_t *answer
 /* Compose: the certificate of the map of the first certificate followed by that of the second: from the first domain to the second codomain, of degree
  * l1 l2, with sigma2 + l2 sigma1 modulo p for sigma. Puts question 1, then 2 to 10 to the first certificate, then 2 to 10 to the second, then 13 and 14.
  * A number from 2 to 10 does not say which of the two it is about; sagepliers_check on the first one's bytes tells.
- * Returns and writes as solve does. What it writes passes check, and takes each point to where the first and then the second take it. */
+ * Returns and writes as solve does. What it writes passes check, and takes each point to where the first and then the second take it. Of a longer chain
+ * any two neighbours may be composed first: every order gives the same words in the end, or every order is refused, with numbers that may differ. */
 uint64_t sagepliers_compose(const uint32_t *first, size_t first_words, const uint32_t *second, size_t second_words, uint32_t *answer, size_t room);
 
 /* Name: the j-value of the curve y^2 = x^3 + a x + b over the prime p, 1728 * 4 a^3 / (4 a^3 + 27 b^2). Puts questions 3, 5 and 7.
