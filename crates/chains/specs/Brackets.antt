@@ -18,7 +18,7 @@ abbrev pub wrote : Written → List ℕ → Outcome (List ℕ)
 wrote (written.Count count) after = result (take count after)
 wrote (written.Refused k) after = refused k
 
--- a call with two sheets and any buffer of 393 words or more has this outcome
+-- a call with these two sheets, and some buffer of 393 words or more, can have this outcome
 pub record Call (first second : List ℕ) (o : Outcome (List ℕ)) : Type 0 where
   pub before : List ℕ
   pub after : List ℕ

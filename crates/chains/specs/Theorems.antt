@@ -8,14 +8,14 @@ use Prim.Native.Nat.{ℕ, _≤_}
 use native.Mathlib.Omega.{arith}
 use lib.ListN.{length, length-append}
 use Rattle.questions.specs.Questions.{AllYes}
-use Rattle.questions.specs.SomeNo.{SomeNo}
+use Rattle.questions.specs.SomeNo.{SomeNo, not-all}
 use Rattle.questions.specs.Answers.{Outcome, result, refused}
 use Rattle.promises.specs.Asked.{check-asks}
 use Rattle.services.specs.Again.{same-certificate}
 use Rattle.chains.specs.Chain.{chain-asks, Chain}
 use Rattle.chains.specs.Brackets.{Brackets, sheet, both, sheets, Way, given}
-use Rattle.chains.specs.Proof.Pairs.{chain-pairs, pairs-chain, same-values}
-use Rattle.chains.specs.Proof.Calls.{result-not-refused, way-pairs, way-passes, not-refused}
+use Rattle.chains.specs.Proof.Pairs.{pairs-chain, same-values}
+use Rattle.chains.specs.Proof.Calls.{result-not-refused, way-pairs, way-passes}
 use Rattle.chains.specs.Proof.Numbers.{refused-no}
 
 -- Two ways agree if both end with the same words, or both are refused, with whatever numbers.
@@ -36,7 +36,7 @@ module _ (s t : Brackets) where
   result-chain ws way = pairs-chain (both s t) (way-pairs (both s t) ws way (way-passes s t ws way) .0)
 
   refused-chain : (k : ℕ) → Way (both s t) (refused k) → Chain (sheets s ++ sheets t) → ⊥
-  refused-chain k way chain = not-refused (both s t) k (chain-pairs (both s t) chain) way
+  refused-chain k way = not-all (chain-asks (sheets s ++ sheets t)) k (refused-no (both s t) k way)
 
   -- It ends with words exactly when the sheets are a chain,
   pub written-exactly : (o : Outcome (List ℕ)) → Way (both s t) o → ((ws : List ℕ) × (o ≡ result ws)) ↔ Chain (sheets s ++ sheets t)
@@ -86,8 +86,8 @@ any-brackets (both s s′) (both t t′) e o o′ a b = agree-both s s′ t t′
 -- Of a chain every two ways end with the same words.
 pub same-words : (s t : Brackets) → sheets s ≡ sheets t → Chain (sheets s) → (o o′ : Outcome (List ℕ)) → Way s o → Way t o′
     → (ws : List ℕ) × (o ≡ result ws) × (o′ ≡ result ws)
-same-words s t e chain (refused k) o′ a b = absurd (not-refused s k (chain-pairs s chain) a)
-same-words s t e chain (result ws) (refused k) a b = absurd (not-refused t k (chain-pairs t (subst Chain e chain)) b)
+same-words s t e chain (refused k) o′ a b = absurd (not-all (chain-asks (sheets s)) k (refused-no s k a) chain)
+same-words s t e chain (result ws) (refused k) a b = absurd (not-all (chain-asks (sheets t)) k (refused-no t k b) (subst Chain e chain))
 same-words s t e chain (result ws) (result us) a b = (ws, refl, ap result (sym (any-brackets s t e (result ws) (result us) a b)))
 
 -- Numbers differ only where more than one question is answered with no: if every no has one number, all ways that are refused have it.

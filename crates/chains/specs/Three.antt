@@ -19,32 +19,31 @@ use Rattle.chains.specs.Brackets.{wrote, Brackets, sheet, both, Way, giv
 use Rattle.chains.specs.Theorems as T
 use Rattle.chains.specs.Proof.Calls.{result-not-refused, seen}
 
--- ── two calls, the second with what the first one wrote
-
--- What the second call answers, where the first one answered with s and left `held` in its buffer: what `Then` says of the words that were written. After a
--- refusal there is no second call: the number is the answer, and the second buffer is as it was.
+-- What the second of two calls answers, where the first one left `held` in its buffer: what `Next` says of the words that were written. After a refusal there
+-- is no second call: the number is the answer, and the second buffer is as it was.
 abbrev pub Second : Written → List ℕ → (List ℕ → List ℕ → List ℕ → Written → Type 0) → List ℕ → List ℕ → Written → Type 0
-Second (written.Count count) held Then before after r = Then (take count held) before after r
-Second (written.Refused k) held Then before after r = (r ≡ written.Refused k) × (after ≡ before)
+Second (written.Count count) held Next before after r = Next (take count held) before after r
+Second (written.Refused k) held Next before after r = (r ≡ written.Refused k) × (after ≡ before)
 
--- With a buffer of 393 words or more for each: the second one's holds `before` at first, and `after` in the end.
-pub record TwoCalls (First : List ℕ → List ℕ → Written → Type 0) (Then : List ℕ → List ℕ → List ℕ → Written → Type 0) (before after : List ℕ) (r : Written)
-    : Type 0 where
+-- Two calls: x with y in a buffer of 393 words or more, which is `lent` and then `held`; and with what that wrote the call of `Next`, in another such buffer.
+pub record TwoCalls (x y : List ℕ) (Next : List ℕ → List ℕ → List ℕ → Written → Type 0) (before after : List ℕ) (r : Written) : Type 0 where
   pub lent : List ℕ
   pub held : List ℕ
   pub answer : Written
-  pub rooms : Room (length lent) × Room (length before)
-  pub first-call : First lent held answer
-  pub second-call : Second answer held Then before after r
+  pub room : Room (length lent)
+  pub first-call : ComposeRight x y lent held answer
+  pub room′ : Room (length before)
+  pub second-call : Second answer held Next before after r
 
--- From the left: a with b, then what that wrote with c. From the right: b with c, then a with what that wrote.
-abbrev pub FromLeft : (a b c before after : List ℕ) → Written → Type 0
-FromLeft a b c = TwoCalls (ComposeRight a b) (λ ab. ComposeRight ab c)
+-- From the left: a with b, then what that wrote with c.
+abbrev pub FromLeft : List ℕ → List ℕ → List ℕ → List ℕ → List ℕ → Written → Type 0
+FromLeft a b c = TwoCalls a b (λ ab. ComposeRight ab c)
 
-abbrev pub FromRight : (a b c before after : List ℕ) → Written → Type 0
-FromRight a b c = TwoCalls (ComposeRight b c) (λ bc. ComposeRight a bc)
+-- From the right: b with c, then a with what that wrote.
+abbrev pub FromRight : List ℕ → List ℕ → List ℕ → List ℕ → List ℕ → Written → Type 0
+FromRight a b c = TwoCalls b c (λ bc. ComposeRight a bc)
 
--- one of the two calls was refused
+-- the way was refused: one of its two calls was
 abbrev pub IsRefused : Written → Type 0
 IsRefused r = (k : ℕ) × (r ≡ written.Refused k)
 
@@ -55,111 +54,138 @@ refusal : (r : Written) (after : List ℕ) → ((k : ℕ) × (wrote r after ≡ 
 refusal (written.Count n) after = (λ it. absurd (result-not-refused (it .1)), λ it. absurd (count-not-refusal (it .1)))
 refusal (written.Refused k) after = (λ _. (k, refl), λ _. (k, refl))
 
-module _ (First : List ℕ → List ℕ → Written → Type 0) (Then : List ℕ → List ℕ → List ℕ → Written → Type 0) (before after : List ℕ) (r : Written)
-    (calls : TwoCalls First Then before after r) where
-  -- as a way of brackets, of which the first call makes a part
-  two-way : (part whole : Brackets) → ((s : Written) → First (calls .lent) (calls .held) s → Way part (wrote s (calls .held)))
-      → ((ws : List ℕ) → Way part (result ws) → Then ws before after r → Way whole (wrote r after)) → ((k : ℕ) → Way part (refused k) → Way whole (refused k))
-      → Way whole (wrote r after)
-  two-way part whole one two none = go (calls .answer) (calls .first-call) (calls .second-call)
-    where
-      go : (s : Written) → First (calls .lent) (calls .held) s → Second s (calls .held) Then before after r → Way whole (wrote r after)
-      go (written.Count n) right second = two (take n (calls .held)) (one (written.Count n) right) second
-      go (written.Refused k) right second = subst (λ r. Way whole (wrote r after)) (sym (second .0)) (none k (one (written.Refused k) right))
-
-  -- a count is the second call's
-  last-call : (n : ℕ) → r ≡ written.Count n → (ws : List ℕ) × Then ws before after r
-  last-call n e = go (calls .answer) (calls .second-call)
-    where
-      go : (s : Written) → Second s (calls .held) Then before after r → (ws : List ℕ) × Then ws before after r
-      go (written.Count m) second = (take m (calls .held), second)
-      go (written.Refused k) second = absurd (count-not-refusal (sym e ∙ second .0))
+count-result : (r : Written) (after : List ℕ) → ((ws : List ℕ) × (wrote r after ≡ result ws)) ↔ ((n : ℕ) × (r ≡ written.Count n))
+count-result (written.Count n) after = (λ _. (n, refl), λ _. (take n after, refl))
+count-result (written.Refused k) after = (λ it. absurd (result-not-refused (sym (it .1))), λ it. absurd (count-not-refusal (sym (it .1))))
 
 -- ── the buffer of the last call
 
--- it holds the words that were written, as many as the count says, and behind them what it held before
-abbrev Filled : List ℕ → List ℕ → ℕ → Type 0
-Filled before after n = (n ≡ length (take n after)) × (after ≡ take n after ++ drop n before)
+-- it holds the words that were written, as many as the count says, and behind them what it held before; after a refusal it is as it was
+abbrev Filled : List ℕ → List ℕ → Written → Type 0
+Filled before after (written.Count n) = (n ≡ length (take n after)) × (after ≡ take n after ++ drop n before)
+Filled before after (written.Refused k) = after ≡ before
 
-filled : (first second before after : List ℕ) (n : ℕ) → ComposeRight first second before after (written.Count n) → Filled before after n
-filled first second before after n right =
+filled : (first second before after : List ℕ) (r : Written) → ComposeRight first second before after r → Filled before after r
+filled first second before after (written.Refused k) right = right .1
+filled first second before after (written.Count n) right =
     let known = composite-ready first second (length before) (right .0) in
     let curves = composite-curves first second (length before) (right .0) in (
       written-count (composed (values first) (values second)) known curves before after n (right .1 .certificate),
       written-buffer (composed (values first) (values second)) known curves before after n (right .1 .certificate),
     )
 
-same-buffer : (before after after′ : List ℕ) (n n′ : ℕ) → Filled before after n → Filled before after′ n′ → take n after ≡ take n′ after′
-    → (n ≡ n′) × (after ≡ after′)
-same-buffer before after after′ n n′ h k e =
-    let same : n ≡ n′ = h .0 ∙ ap length e ∙ sym (k .0) in
-    (same, h .1 ∙ ap₂ (λ (ws : List ℕ) m. ws ++ drop m before) e same ∙ sym (k .1))
+-- ── as ways of brackets
 
--- ── the theorems
+module _ (x y : List ℕ) (Next : List ℕ → List ℕ → List ℕ → Written → Type 0) (t : Brackets)
+    (goes-on : (ws before after : List ℕ) (r : Written) → Room (length before) → Way (both (sheet x) (sheet y)) (result ws) → Next ws before after r
+    → Way t (wrote r after))
+    (stops : (k : ℕ) → Way (both (sheet x) (sheet y)) (refused k) → Way t (refused k))
+    (leaves : (ws before after : List ℕ) (r : Written) → Next ws before after r → Filled before after r)
+    (before after : List ℕ) (r : Written) (two : TwoCalls x y Next before after r) where
+  as-way : Way t (wrote r after) × Filled before after r
+  as-way = go (two .answer) (two .first-call) (two .second-call)
+    where
+      go : (s : Written) → ComposeRight x y (two .lent) (two .held) s → Second s (two .held) Next before after r → Way t (wrote r after) × Filled before after r
+      go (written.Count n) right second = (
+        goes-on (take n (two .held)) before after r (two .room′)
+            (called given given (seen x y (two .lent) (two .held) (written.Count n) (two .room) right)) second,
+        leaves (take n (two .held)) before after r second,
+      )
+      go (written.Refused k) right (e, unaltered) =
+          subst (λ r. Way t (wrote r after) × Filled before after r) (sym e)
+          (stops k (called given given (seen x y (two .lent) (two .held) (written.Refused k) (two .room) right)), unaltered)
 
-module _ (a b c : List ℕ) where
+-- ── one way
+
+module _ (a b c before after : List ℕ) (r : Written) where
   abbrev leftwards : Brackets
   leftwards = both (both (sheet a) (sheet b)) (sheet c)
 
   abbrev rightwards : Brackets
   rightwards = both (sheet a) (both (sheet b) (sheet c))
 
-  module _ (before after : List ℕ) (r : Written) where
-    left-way : FromLeft a b c before after r → Way leftwards (wrote r after)
-    left-way calls =
-        two-way (ComposeRight a b) (λ ab. ComposeRight ab c) before after r calls (both (sheet a) (sheet b)) leftwards
-        (λ s right. called given given (seen a b (calls .lent) (calls .held) s (calls .rooms .0) right))
-        (λ ab way right. called way given (seen ab c before after r (calls .rooms .1) right)) (λ k way. left-refused way)
+  from-left : FromLeft a b c before after r → Way leftwards (wrote r after) × Filled before after r
+  from-left =
+      as-way a b (λ ab. ComposeRight ab c) leftwards (λ ab xs ys s room way right. called way given (seen ab c xs ys s room right)) (λ k. left-refused)
+      (λ ab. filled ab c) before after r
 
-    right-way : FromRight a b c before after r → Way rightwards (wrote r after)
-    right-way calls =
-        two-way (ComposeRight b c) (λ bc. ComposeRight a bc) before after r calls (both (sheet b) (sheet c)) rightwards
-        (λ s right. called given given (seen b c (calls .lent) (calls .held) s (calls .rooms .0) right))
-        (λ bc way right. called given way (seen a bc before after r (calls .rooms .1) right)) (λ k way. right-refused way)
+  from-right : FromRight a b c before after r → Way rightwards (wrote r after) × Filled before after r
+  from-right =
+      as-way b c (λ bc. ComposeRight a bc) rightwards (λ bc xs ys s room way right. called given way (seen a bc xs ys s room right)) (λ k. right-refused)
+      (filled a) before after r
 
-    -- The way from the left is refused exactly when the three sheets are no chain,
-    pub left-refused-exactly : FromLeft a b c before after r → IsRefused r ↔ (Chain (a ∷ b ∷ c ∷ []) → ⊥)
-    left-refused-exactly calls =
-        let exactly = T.refused-exactly (both (sheet a) (sheet b)) (sheet c) (wrote r after) (left-way calls) in
+  module _ (way : FromLeft a b c before after r) where
+    -- The way from the left answers with a count exactly when the three sheets are a chain,
+    pub left-written-exactly : ((count : ℕ) × (r ≡ written.Count count)) ↔ Chain (a ∷ b ∷ c ∷ [])
+    left-written-exactly =
+        let exactly = T.written-exactly (both (sheet a) (sheet b)) (sheet c) (wrote r after) (from-left way .0) in
+        (λ it. exactly .0 (count-result r after .1 it), λ chain. count-result r after .0 (exactly .1 chain))
+
+    -- it is refused exactly when they are none,
+    pub left-refused-exactly : IsRefused r ↔ (Chain (a ∷ b ∷ c ∷ []) → ⊥)
+    left-refused-exactly =
+        let exactly = T.refused-exactly (both (sheet a) (sheet b)) (sheet c) (wrote r after) (from-left way .0) in
         (λ it. exactly .0 (refusal r after .1 it), λ none. refusal r after .0 (exactly .1 none))
 
-    -- so is the way from the right,
-    pub right-refused-exactly : FromRight a b c before after r → IsRefused r ↔ (Chain (a ∷ b ∷ c ∷ []) → ⊥)
-    right-refused-exactly calls =
-        let exactly = T.refused-exactly (sheet a) (both (sheet b) (sheet c)) (wrote r after) (right-way calls) in
+    -- and its number is that of a question of the chain which is answered with no.
+    pub left-refused-number : (k : ℕ) → r ≡ written.Refused k → SomeNo (chain-asks (a ∷ b ∷ c ∷ [])) k
+    left-refused-number k e =
+        T.refused-number (both (sheet a) (sheet b)) (sheet c) k (subst (λ r. Way leftwards (wrote r after)) e (from-left way .0))
+
+  module _ (way : FromRight a b c before after r) where
+    -- The same of the way from the right.
+    pub right-written-exactly : ((count : ℕ) × (r ≡ written.Count count)) ↔ Chain (a ∷ b ∷ c ∷ [])
+    right-written-exactly =
+        let exactly = T.written-exactly (sheet a) (both (sheet b) (sheet c)) (wrote r after) (from-right way .0) in
+        (λ it. exactly .0 (count-result r after .1 it), λ chain. count-result r after .0 (exactly .1 chain))
+
+    pub right-refused-exactly : IsRefused r ↔ (Chain (a ∷ b ∷ c ∷ []) → ⊥)
+    right-refused-exactly =
+        let exactly = T.refused-exactly (sheet a) (both (sheet b) (sheet c)) (wrote r after) (from-right way .0) in
         (λ it. exactly .0 (refusal r after .1 it), λ none. refusal r after .0 (exactly .1 none))
 
-    -- and each with the number of a question of the chain that is answered with no.
-    pub left-number : (k : ℕ) → r ≡ written.Refused k → FromLeft a b c before after r → SomeNo (chain-asks (a ∷ b ∷ c ∷ [])) k
-    left-number k e calls = T.refused-number (both (sheet a) (sheet b)) (sheet c) k (subst (λ r. Way leftwards (wrote r after)) e (left-way calls))
+    pub right-refused-number : (k : ℕ) → r ≡ written.Refused k → SomeNo (chain-asks (a ∷ b ∷ c ∷ [])) k
+    right-refused-number k e =
+        T.refused-number (sheet a) (both (sheet b) (sheet c)) k (subst (λ r. Way rightwards (wrote r after)) e (from-right way .0))
 
-    pub right-number : (k : ℕ) → r ≡ written.Refused k → FromRight a b c before after r → SomeNo (chain-asks (a ∷ b ∷ c ∷ [])) k
-    right-number k e calls = T.refused-number (sheet a) (both (sheet b) (sheet c)) k (subst (λ r. Way rightwards (wrote r after)) e (right-way calls))
+-- ── both ways, each with buffers of its own
 
-  -- So either way is refused exactly when the other is.
-  pub refused-alike : (before after before′ after′ : List ℕ) (r r′ : Written) → FromLeft a b c before after r → FromRight a b c before′ after′ r′
-      → IsRefused r ↔ IsRefused r′
-  refused-alike before after before′ after′ r r′ left right =
-      let from-left = left-refused-exactly before after r left in
-      let from-right = right-refused-exactly before′ after′ r′ right in
-      (λ it. from-right .1 (from-left .0 it), λ it. from-left .1 (from-right .0 it))
+module _ (a b c before before′ after after′ : List ℕ) (r r′ : Written) (left : FromLeft a b c before after r) (right : FromRight a b c before′ after′ r′) where
+  -- Either is refused exactly when the other is.
+  pub refused-alike : IsRefused r ↔ IsRefused r′
+  refused-alike = (
+    λ it. right-refused-exactly a b c before′ after′ r′ right .1 (left-refused-exactly a b c before after r left .0 it),
+    λ it. left-refused-exactly a b c before after r left .1 (right-refused-exactly a b c before′ after′ r′ right .0 it),
+  )
 
-  -- Where the three are a chain, both ways answer with one count and leave the same words in the buffer, to its end.
-  pub either-way : (before after after′ : List ℕ) (r r′ : Written) → FromLeft a b c before after r → FromRight a b c before after′ r′
-      → Chain (a ∷ b ∷ c ∷ []) → ((count : ℕ) × (r ≡ written.Count count)) × (r ≡ r′) × (after ≡ after′)
-  either-way before after after′ r r′ left right chain =
-      go r r′ (last-call _ _ before after r left) (last-call _ _ before after′ r′ right)
-      (T.same-words leftwards rightwards refl chain (wrote r after) (wrote r′ after′) (left-way before after r left) (right-way before after′ r′ right))
+  agree : T.Agree (wrote r after) (wrote r′ after′)
+  agree =
+      T.any-brackets (leftwards a b c before after r) (rightwards a b c before after r) refl (wrote r after) (wrote r′ after′)
+      (from-left a b c before after r left .0) (from-right a b c before′ after′ r′ right .0)
+
+  -- Of a chain, both answer with one count, and the words that they wrote are the same.
+  pub either-way : Chain (a ∷ b ∷ c ∷ []) → (count : ℕ) × (r ≡ written.Count count) × (r′ ≡ written.Count count) × (take count after ≡ take count after′)
+  either-way chain =
+      go r r′ (left-written-exactly a b c before after r left .1 chain) (right-written-exactly a b c before′ after′ r′ right .1 chain)
+      (from-left a b c before after r left .1) (from-right a b c before′ after′ r′ right .1) agree
     where
-      go : (r r′ : Written) → ((n : ℕ) → r ≡ written.Count n → (ab : List ℕ) × ComposeRight ab c before after r)
-          → ((n : ℕ) → r′ ≡ written.Count n → (bc : List ℕ) × ComposeRight a bc before after′ r′)
-          → (ws : List ℕ) × (wrote r after ≡ result ws) × (wrote r′ after′ ≡ result ws)
-          → ((count : ℕ) × (r ≡ written.Count count)) × (r ≡ r′) × (after ≡ after′)
-      go (written.Count n) (written.Count n′) left right (ws, e, e′) =
-          let one : take n after ≡ take n′ after′ = cc in
-          let ab = left n refl in
-          let bc = right n′ refl in
-          let same = same-buffer before after after′ n n′ (filled (ab .0) c before after n (ab .1)) (filled a (bc .0) before after′ n′ (bc .1)) one in
-          ((n, refl), ap written.Count (same .0), same .1)
-      go (written.Refused k) r′ left right (ws, e, e′) = absurd (result-not-refused (sym e))
-      go (written.Count n) (written.Refused k) left right (ws, e, e′) = absurd (result-not-refused (sym e′))
+      go : (r r′ : Written) → ((n : ℕ) × (r ≡ written.Count n)) → ((n : ℕ) × (r′ ≡ written.Count n)) → Filled before after r → Filled before′ after′ r′
+          → T.Agree (wrote r after) (wrote r′ after′)
+          → (count : ℕ) × (r ≡ written.Count count) × (r′ ≡ written.Count count) × (take count after ≡ take count after′)
+      go (written.Count n) (written.Count n′) _ _ h k one =
+          let same : n ≡ n′ = h .0 ∙ ap length one ∙ sym (k .0) in
+          (n, refl, ap written.Count (sym same), one ∙ ap (λ m. take m after′) (sym same))
+      go (written.Refused j) r′ x y h k one = absurd (count-not-refusal (sym (x .1)))
+      go (written.Count n) (written.Refused k) x y h _ one = absurd (count-not-refusal (sym (y .1)))
+
+  -- And if the last buffer held the same before, it holds the same after, to its end, whatever the sheets are.
+  pub every-word : before ≡ before′ → after ≡ after′
+  every-word e = go r r′ (from-left a b c before after r left .1) (from-right a b c before′ after′ r′ right .1) agree
+    where
+      go : (r r′ : Written) → Filled before after r → Filled before′ after′ r′ → T.Agree (wrote r after) (wrote r′ after′) → after ≡ after′
+      go (written.Count n) (written.Count n′) h k one =
+          let same : n ≡ n′ = h .0 ∙ ap length one ∙ sym (k .0) in
+          h .1 ∙ ap₂ _++_ one (ap₂ drop same e) ∙ sym (k .1)
+      go (written.Refused j) (written.Refused k) h k′ one = h ∙ e ∙ sym k′
+      go (written.Count n) (written.Refused k) _ _ one = absurd one
+      go (written.Refused j) (written.Count n) _ _ one = absurd one

@@ -3,7 +3,7 @@
 -- Assumes nothing.
 use mathlib.Core.Path.{_≡_, refl, sym, _∙_, ap, ap₂, subst}
 use mathlib.Core.List.{List}
-use Prim.Native.Nat.{ℕ, _+_, _*_, _/_, _%_, _≤_}
+use Prim.Native.Nat.{ℕ, _+_, _*_, _%_, _≤_}
 use native.Mathlib.Nat as N
 use native.Mathlib.Omega.{arith}
 use lib.ListN.{length}
@@ -11,6 +11,7 @@ use Rattle.ring.specs.Ring.{CRing, cast}
 use Rattle.series.specs.Series.{Seq}
 use Rattle.zmod.specs.Zmod.{Zmod, mk, plus, times, mk-add, mk-mul, mk-mod, cast-mk}
 use Rattle.zmod.specs.Prime.{prime-pos}
+use Rattle.zmod.specs.Remainder.{mul-mod-right}
 use Rattle.zmod.specs.Residues.{poly, Residues, residues-poly}
 use Rattle.isogeny.specs.Rules.{Question, ℓ, Meets}
 use Rattle.composition.specs.Composite.{Composable, composite, composite-g, composite-degree}
@@ -43,11 +44,7 @@ over-same w e i = over (e i) w
 -- one remainder at the end is enough
 remainder-inside : (a b c p : ℕ) → (a + b * (c % p)) % p ≡ (a + b * c) % p
 remainder-inside a b c p =
-    sym (N.add-mul-mod-self-right (a + b * (c % p)) (b * (c / p)) p)
-    ∙ ap (_% p)
-    (N.add-assoc a (b * (c % p)) (b * (c / p) * p)
-    ∙ ap (λ n. a + (b * (c % p) + n)) (N.mul-assoc b (c / p) p)
-    ∙ ap (a +_) (sym (N.mul-add b (c % p) (c / p * p)) ∙ ap (b *_) (N.add-comm (c % p) (c / p * p) ∙ N.div-add-mod' c p)))
+    sym (N.add-mod-mod a (b * (c % p)) p) ∙ ap (λ n. (a + n) % p) (mul-mod-right b c p) ∙ N.add-mod-mod a (b * c) p
 
 -- Of three values of which the first two have one p, the composite is the same whichever two are composed first.
 pub composed-associative : (u v w : Values) → u .p ≡ v .p → composed (composed u v) w ≡ composed u (composed v w)

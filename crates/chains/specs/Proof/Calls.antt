@@ -1,21 +1,19 @@
--- What the calls of a way write: where the pairs are in order none is refused, and what comes out passes check and has the values of the whole; and where
--- something comes out, the pairs are in order.
+-- What the calls of a way write: it passes check, has the values of the whole, and 13 and 14 hold of every pair of parts.
 -- Assumes nothing.
 use mathlib.Core.Path.{_≡_, refl, sym, _∙_, ap, ap₂, subst, subst₂}
-use mathlib.Core.List.{List, _++_}
+use mathlib.Core.List.{List}
 use Prim.Native.Nat.{ℕ}
 use native.Mathlib.Omega.{arith}
 use lib.ListN.{length, take}
-use Rattle.questions.specs.Questions.{AllYes, not-both}
-use Rattle.questions.specs.Joined.{all-all}
+use Rattle.questions.specs.Questions.{AllYes}
 use Rattle.questions.specs.Answers.{Outcome, result, refused}
 use Rattle.promises.specs.declared.Written.{Written}
 use Rattle.promises.specs.declared.Written.the-variants as written
-use Rattle.promises.specs.Asked.{Room, check-asks, join-asks, compose-asks, ComposableValues, ProductAllowed}
+use Rattle.promises.specs.Asked.{Room, check-asks, ComposableValues, ProductAllowed}
 use Rattle.promises.specs.Answer.{composed, ComposeRight}
 use Rattle.services.specs.Compose.{first-passes, second-passes, they-meet, product-allowed, compose-certified, compose-values}
 use Rattle.chains.specs.Chain.{values}
-use Rattle.chains.specs.Brackets.{wrote, Call, Brackets, sheet, both, Way, given, called, left-refused, right-refused}
+use Rattle.chains.specs.Brackets.{wrote, Call, Brackets, sheet, both, Way, given, called}
 use Rattle.chains.specs.Proof.Pairs.{valuesIn, Pairs}
 
 pub result-not-refused : {ws : List ℕ} {k : ℕ} → _≡_ {A = Outcome (List ℕ)} (result ws) (refused k) → ⊥
@@ -53,21 +51,6 @@ module _ (first second : List ℕ) where
             values-are = ap values (sym same) ∙ compose-values first second (call .before) (call .after) c right;
           }
 
-  call-refused : {k : ℕ} → Call first second (refused k) → AllYes (check-asks first) → AllYes (check-asks second)
-      → ComposableValues (values first) (values second) → ProductAllowed (values first) (values second) → ⊥
-  call-refused {k} call passes passes′ meet allowed = go (call .answer) (call .right) (call .outcome)
-    where
-      all : AllYes (compose-asks first second (length (call .before)))
-      all = (
-        call .room,
-        all-all (check-asks first) (check-asks second ++ join-asks (values first) (values second)) passes
-            (all-all (check-asks second) (join-asks (values first) (values second)) passes′ (meet, (allowed, tt))),
-      )
-
-      go : (r : Written) → ComposeRight first second (call .before) (call .after) r → wrote r (call .after) ≡ refused k → ⊥
-      go (written.Count c) right e = result-not-refused e
-      go (written.Refused j) right e = not-both (compose-asks first second (length (call .before))) j all (right .0)
-
 -- ── all calls of a way
 
 -- of words that pass, as all do that a call has written
@@ -83,18 +66,3 @@ way-pairs (both s t) ws (called {first = first} {second = second} a b call) pass
 
 pub way-passes : (s t : Brackets) (ws : List ℕ) → Way (both s t) (result ws) → AllYes (check-asks ws)
 way-passes s t ws (called {first = first} {second = second} a b call) = call-wrote first second call .passes
-
--- where the pairs are in order
-part-passes : (t : Brackets) (ws : List ℕ) → Pairs t → Way t (result ws) → AllYes (check-asks ws)
-part-passes (sheet us) ws pairs given = pairs
-part-passes (both s t) ws pairs way = way-passes s t ws way
-
-pub not-refused : (t : Brackets) (k : ℕ) → Pairs t → Way t (refused k) → ⊥
-not-refused (both s t) k (a, b, meet, allowed) (called {first = first} {second = second} x y call) =
-    let p : AllYes (check-asks first) = part-passes s first a x in
-    let q : AllYes (check-asks second) = part-passes t second b y in
-    let e : values first ≡ valuesIn s = way-pairs s first x p .1 in
-    let f : values second ≡ valuesIn t = way-pairs t second y q .1 in
-    call-refused first second call p q (subst₂ ComposableValues (sym e) (sym f) meet) (subst₂ ProductAllowed (sym e) (sym f) allowed)
-not-refused (both s t) k (a, b, meet, allowed) (left-refused x) = not-refused s k a x
-not-refused (both s t) k (a, b, meet, allowed) (right-refused y) = not-refused t k b y

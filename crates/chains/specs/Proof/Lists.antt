@@ -2,15 +2,13 @@
 -- Assumes nothing.
 use mathlib.Core.Path.{_≡_, refl, sym, _∙_, ap}
 use mathlib.Core.List.{List, [], _∷_, _++_}
-use Prim.Native.Nat.{ℕ, _*_, _≤_}
+use Prim.Native.Nat.{ℕ, _*_}
 use native.Mathlib.Nat as Nat
-use native.Mathlib.Omega.{arith}
 use Rattle.questions.specs.Questions.{AllYes}
-use Rattle.questions.specs.Joined.{all-all, all-front, all-back}
+use Rattle.questions.specs.Joined.{all-all}
 use Rattle.sheet.specs.declared.Values.{Values}
 use Rattle.promises.specs.Asked.{check-asks, ComposableValues}
 use Rattle.promises.specs.Answer.{composed}
-use Rattle.promises.specs.Certificates.{certificate-ready}
 use Rattle.promises.specs.Composed.{composed-associative}
 use Rattle.chains.specs.Chain.{values, Each, each-asks, meet-asks, product, Permitted, Chain}
 
@@ -37,10 +35,6 @@ pub each-map : {P Q : List ℕ → Type 0} (xs : List (List ℕ)) → ((ws : Lis
 each-map [] f h = tt
 each-map (x ∷ xs) f h = (f x (h .0), each-map xs f (h .1))
 
-pub asked-each : (xs : List (List ℕ)) → AllYes (each-asks xs) → Each Passes xs
-asked-each [] h = tt
-asked-each (x ∷ xs) h = (all-front (check-asks x) (each-asks xs) h, asked-each xs (all-back (check-asks x) (each-asks xs) h))
-
 pub each-asked : (xs : List (List ℕ)) → Each Passes xs → AllYes (each-asks xs)
 each-asked [] h = tt
 each-asked (x ∷ xs) h = all-all (check-asks x) (each-asks xs) (h .0) (each-asked xs (h .1))
@@ -61,18 +55,6 @@ last-append x [] y ys = refl
 last-append x (z ∷ zs) y ys = last-append z zs y ys
 
 module _ (y : List ℕ) (ys : List (List ℕ)) where
-  pub meet-front : (x : List ℕ) (xs : List (List ℕ)) → MeetInTurn (x ∷ xs ++ y ∷ ys) → MeetInTurn (x ∷ xs)
-  meet-front x [] h = tt
-  meet-front x (z ∷ zs) h = (h .0, meet-front z zs (h .1))
-
-  pub meet-between : (x : List ℕ) (xs : List (List ℕ)) → MeetInTurn (x ∷ xs ++ y ∷ ys) → ComposableValues (values (last x xs)) (values y)
-  meet-between x [] h = h .0
-  meet-between x (z ∷ zs) h = meet-between z zs (h .1)
-
-  pub meet-back : (x : List ℕ) (xs : List (List ℕ)) → MeetInTurn (x ∷ xs ++ y ∷ ys) → MeetInTurn (y ∷ ys)
-  meet-back x [] h = h .1
-  meet-back x (z ∷ zs) h = meet-back z zs (h .1)
-
   pub meet-meet : (x : List ℕ) (xs : List (List ℕ)) → MeetInTurn (x ∷ xs) → ComposableValues (values (last x xs)) (values y) → MeetInTurn (y ∷ ys)
       → MeetInTurn (x ∷ xs ++ y ∷ ys)
   meet-meet x [] h between k = (between, k)
@@ -84,31 +66,11 @@ pub product-append : (xs ys : List (List ℕ)) → product (xs ++ ys) ≡ produc
 product-append [] ys = sym (Nat.one-mul (product ys))
 product-append (x ∷ xs) ys = ap (λ n. values x .degree * n) (product-append xs ys) ∙ sym (Nat.mul-assoc (values x .degree) (product xs) (product ys))
 
-pub product-positive : (xs : List (List ℕ)) → Each Passes xs → 1 ≤ product xs
-product-positive [] h = omega arith
-product-positive (x ∷ xs) h =
-    let least : 3 ≤ values x .degree = certificate-ready x (h .0) .degree .least in
-    Nat.mul-pos (omega arith) (product-positive xs (h .1))
+-- ── all that a chain is asked
 
--- ── the three parts of what a chain is asked
-
-module _ (xs : List (List ℕ)) where
-  -- the questions before the last one
-  earlier : Chain xs → AllYes (each-asks xs ++ meet-asks xs)
-  earlier = all-front (each-asks xs ++ meet-asks xs) ((14, Permitted xs) ∷ [])
-
-  pub chain-passes : Chain xs → Each Passes xs
-  chain-passes h = asked-each xs (all-front (each-asks xs) (meet-asks xs) (earlier h))
-
-  pub chain-meets : Chain xs → MeetInTurn xs
-  chain-meets h = all-back (each-asks xs) (meet-asks xs) (earlier h)
-
-  pub chain-permitted : Chain xs → Permitted xs
-  chain-permitted h = all-back (each-asks xs ++ meet-asks xs) ((14, Permitted xs) ∷ []) h .0
-
-  pub chain : Each Passes xs → MeetInTurn xs → Permitted xs → Chain xs
-  chain passes meets permitted =
-      all-all (each-asks xs ++ meet-asks xs) ((14, Permitted xs) ∷ []) (all-all (each-asks xs) (meet-asks xs) (each-asked xs passes) meets) (permitted, tt)
+pub chain : (xs : List (List ℕ)) → Each Passes xs → MeetInTurn xs → Permitted xs → Chain xs
+chain xs passes meets permitted =
+    all-all (each-asks xs ++ meet-asks xs) ((14, Permitted xs) ∷ []) (all-all (each-asks xs) (meet-asks xs) (each-asked xs passes) meets) (permitted, tt)
 
 -- ── the values of the composite
 

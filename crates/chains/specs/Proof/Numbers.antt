@@ -1,4 +1,4 @@
--- The number with which a way is refused: it is that of a question of the chain that is answered with no.
+-- The number with which a way is refused is that of a question of the chain that is answered with no; so a chain is refused in no way.
 -- Assumes nothing.
 use mathlib.Core.Path.{_≡_, refl, sym, _∙_, ap, ap₂, subst, subst₂}
 use mathlib.Core.Logic.{_⊎_, inl, inr}
@@ -19,7 +19,7 @@ use Rattle.promises.specs.Answer.{ComposeRight}
 use Rattle.chains.specs.Chain.{values, each-asks, meet-asks, product, Each, Permitted, chain-asks}
 use Rattle.chains.specs.Brackets.{wrote, Brackets, sheet, both, sheets, Way, given, called, left-refused, right-refused}
 use Rattle.chains.specs.Proof.Lists.{each-front, each-back, last, product-append}
-use Rattle.chains.specs.Proof.Pairs.{valuesIn, Pairs, first, rest, sheets-are, degree-is, domain-p, to-parts, pairs-meet}
+use Rattle.chains.specs.Proof.Pairs.{valuesIn, Pairs, first, rest, sheets-are, degree-is, domain, to-parts, pairs-meet}
 use Rattle.chains.specs.Proof.Calls.{result-not-refused, way-pairs, way-passes}
 
 -- ── of a list, with other sheets before and behind
@@ -76,7 +76,7 @@ part-no (sheet us) ws k xs ys given not = each-no k xs ws ys (first-some (check-
 part-no (both s t) ws k xs ys way not = absurd (not-both (check-asks ws) k (way-passes s t ws way) not)
 
 -- two parts that pass, between other sheets
-module _ (s t : Brackets) (xs ys : List (List ℕ)) (a : Pairs s) (b : Pairs t) where
+module _ (s t : Brackets) (xs ys : List (List ℕ)) (a : Pairs s) where
   abbrev whole : List (List ℕ)
   whole = xs ++ (sheets s ++ sheets t ++ ys)
 
@@ -100,7 +100,7 @@ module _ (s t : Brackets) (xs ys : List (List ℕ)) (a : Pairs s) (b : Pairs t) 
       let least : 3 ≤ product whole = allowed .least in
       let part : product (sheets s ++ sheets t) ≤ product whole = product-part xs (sheets s ++ sheets t) ys (omega arith) in
       let e : product (sheets s ++ sheets t) ≡ valuesIn s .degree * valuesIn t .degree = degree-is (both s t) in
-      not (record { most = omega (arith, allowed .most); small = omega (arith, allowed .small, domain-p s) })
+      not (record { most = omega (arith, allowed .most); small = omega (arith, allowed .small, domain s .0) })
 
 -- the parts' sheets, with those of the other part among the ones behind, or before
 module _ (s t : Brackets) (xs ys : List (List ℕ)) where
@@ -128,17 +128,16 @@ module _ (s t : Brackets) (first second : List ℕ) (k : ℕ) (xs ys : List (Lis
   join-no : AllYes (check-asks first) → AllYes (check-asks second) → FirstNo (join-asks (values first) (values second)) k → No
   join-no p q not =
       let left = way-pairs s first a p in
-      let right = way-pairs t second b q in
-      go (left .0) (right .0) (left .1) (right .1) not
+      go (left .0) (left .1) (way-pairs t second b q .1) not
     where
-      go : Pairs s → Pairs t → values first ≡ valuesIn s → values second ≡ valuesIn t → FirstNo (join-asks (values first) (values second)) k → No
-      go c d e f (inl (is, not)) =
+      go : Pairs s → values first ≡ valuesIn s → values second ≡ valuesIn t → FirstNo (join-asks (values first) (values second)) k → No
+      go c e f (inl (is, not)) =
           subst (SomeNo (chain-asks (xs ++ (sheets s ++ sheets t ++ ys)))) (sym is)
-          (neighbours-no s t xs ys c d (λ m. not (subst₂ ComposableValues (sym e) (sym f) m)))
-      go c d e f (inr (_, inl (is, not))) =
+          (neighbours-no s t xs ys c (λ m. not (subst₂ ComposableValues (sym e) (sym f) m)))
+      go c e f (inr (_, inl (is, not))) =
           subst (SomeNo (chain-asks (xs ++ (sheets s ++ sheets t ++ ys)))) (sym is)
-          (product-no s t xs ys c d (λ m. not (subst₂ ProductAllowed (sym e) (sym f) m)))
-      go c d e f (inr (_, inr none)) = absurd (none .1)
+          (product-no s t xs ys c (λ m. not (subst₂ ProductAllowed (sym e) (sym f) m)))
+      go c e f (inr (_, inr none)) = absurd (none .1)
 
   call-no : (room : ℕ) → Room room → FirstNo (compose-asks first second room) k → No
   call-no room enough (inl not) = absurd (not .1 enough)

@@ -1,11 +1,10 @@
--- What has to hold of each pair of parts that the brackets compose: 13 and 14 of the values that the parts have. It holds exactly where the sheets are a chain,
--- and the values of the whole do not depend on the brackets.
+-- What has to hold of each pair of parts that the brackets compose: 13 and 14 of the values that the parts have. Where it holds, the sheets are a chain, and
+-- the values of the whole do not depend on the brackets.
 -- Assumes nothing.
-use mathlib.Core.Path.{_≡_, refl, sym, _∙_, ap, ap₂, subst, subst₂}
+use mathlib.Core.Path.{_≡_, refl, sym, _∙_, ap₂, subst, subst₂}
 use mathlib.Core.List.{List, [], _∷_, _++_}
-use Prim.Native.Nat.{ℕ, _*_, _-_, _≤_, _<_}
+use Prim.Native.Nat.{ℕ, _*_}
 use native.Mathlib.Nat as Nat
-use native.Mathlib.Omega.{arith}
 use Rattle.questions.specs.Questions.{AllYes}
 use Rattle.sheet.specs.declared.Values.{Values}
 use Rattle.sheet.specs.Asked.{DegreeAllowed}
@@ -16,9 +15,9 @@ use Rattle.promises.specs.Certificates.{certificate-ready}
 use Rattle.promises.specs.Composed.{composed-ready}
 use Rattle.chains.specs.Chain.{values, Each, product, Chain}
 use Rattle.chains.specs.Brackets.{Brackets, sheet, both, sheets}
-use Rattle.chains.specs.Proof.Lists.{Passes, each-front, each-back, each-each, each-map}
-use Rattle.chains.specs.Proof.Lists.{MeetInTurn, last, last-append, meet-front, meet-between, meet-back, meet-meet}
-use Rattle.chains.specs.Proof.Lists.{product-append, product-positive, chain-passes, chain-meets, chain-permitted, chain, in-turn, turn-append}
+use Rattle.chains.specs.Proof.Lists.{Passes, each-each, each-map}
+use Rattle.chains.specs.Proof.Lists.{MeetInTurn, last, last-append, meet-meet}
+use Rattle.chains.specs.Proof.Lists.{product-append, chain, in-turn, turn-append}
 
 -- the values of a part
 abbrev pub valuesIn : Brackets → Values
@@ -52,28 +51,15 @@ abbrev end : Brackets → List ℕ
 end t = last (first t) (rest t)
 
 -- the values of a part begin as its first sheet does, and end as its last
-pub domain-p : (t : Brackets) → valuesIn t .p ≡ values (first t) .p
-domain-p (sheet ws) = refl
-domain-p (both s t) = domain-p s
+pub domain : (t : Brackets) → (valuesIn t .p ≡ values (first t) .p) × (valuesIn t .a ≡ values (first t) .a) × (valuesIn t .b ≡ values (first t) .b)
+domain (sheet ws) = (refl, refl, refl)
+domain (both s t) = domain s
 
-domain-a : (t : Brackets) → valuesIn t .a ≡ values (first t) .a
-domain-a (sheet ws) = refl
-domain-a (both s t) = domain-a s
-
-domain-b : (t : Brackets) → valuesIn t .b ≡ values (first t) .b
-domain-b (sheet ws) = refl
-domain-b (both s t) = domain-b s
-
-end-of : (s t : Brackets) → end (both s t) ≡ end t
-end-of s t = last-append (first s) (rest s) (first t) (rest t)
-
-codomain-a : (t : Brackets) → valuesIn t .atilde ≡ values (end t) .atilde
-codomain-a (sheet ws) = refl
-codomain-a (both s t) = codomain-a t ∙ ap (λ ws. values ws .atilde) (sym (end-of s t))
-
-codomain-b : (t : Brackets) → valuesIn t .btilde ≡ values (end t) .btilde
-codomain-b (sheet ws) = refl
-codomain-b (both s t) = codomain-b t ∙ ap (λ ws. values ws .btilde) (sym (end-of s t))
+codomain : (t : Brackets) → (valuesIn t .atilde ≡ values (end t) .atilde) × (valuesIn t .btilde ≡ values (end t) .btilde)
+codomain (sheet ws) = (refl, refl)
+codomain (both s t) =
+    subst (λ ws. (valuesIn t .atilde ≡ values ws .atilde) × (valuesIn t .btilde ≡ values ws .btilde))
+    (sym (last-append (first s) (rest s) (first t) (rest t))) (codomain t)
 
 pub degree-is : (t : Brackets) → product (sheets t) ≡ valuesIn t .degree
 degree-is (sheet ws) = Nat.mul-one (values ws .degree)
@@ -88,79 +74,23 @@ meet-primes : (x : List ℕ) (xs : List (List ℕ)) → MeetInTurn (x ∷ xs) �
 meet-primes x [] h = (refl, tt)
 meet-primes x (y ∷ ys) h = (refl, each-map (y ∷ ys) (λ ws e. h .0 .p ∙ e) (meet-primes y ys (h .1)))
 
--- ── from the chain to the pairs
+-- ── what the sheets are asked, from what the pairs are
 
 module _ (s t : Brackets) where
-  abbrev sheets-both : sheets (both s t) ≡ first s ∷ rest s ++ first t ∷ rest t
-  sheets-both = sheets-are (both s t)
-
   -- 13 of two parts is that of the sheets between which they meet
   pub to-parts : MeetInTurn (first s ∷ rest s) → ComposableValues (values (end s)) (values (first t)) → ComposableValues (valuesIn s) (valuesIn t)
   to-parts h m = record {
-    p = domain-p s ∙ meet-p (first s) (rest s) h ∙ m .p ∙ sym (domain-p t);
-    a = codomain-a s ∙ m .a ∙ sym (domain-a t);
-    b = codomain-b s ∙ m .b ∙ sym (domain-b t);
+    p = domain s .0 ∙ meet-p (first s) (rest s) h ∙ m .p ∙ sym (domain t .0);
+    a = codomain s .0 ∙ m .a ∙ sym (domain t .1);
+    b = codomain s .1 ∙ m .b ∙ sym (domain t .2);
   }
 
   from-parts : MeetInTurn (first s ∷ rest s) → ComposableValues (valuesIn s) (valuesIn t) → ComposableValues (values (end s)) (values (first t))
   from-parts h m = record {
-    p = sym (domain-p s ∙ meet-p (first s) (rest s) h) ∙ m .p ∙ domain-p t;
-    a = sym (codomain-a s) ∙ m .a ∙ domain-a t;
-    b = sym (codomain-b s) ∙ m .b ∙ domain-b t;
+    p = sym (domain s .0 ∙ meet-p (first s) (rest s) h) ∙ m .p ∙ domain t .0;
+    a = sym (codomain s .0) ∙ m .a ∙ domain t .1;
+    b = sym (codomain s .1) ∙ m .b ∙ domain t .2;
   }
-
--- what is asked of a chain, but that the product of its degrees is odd and at least 3, which it is
-linked-pairs : (t : Brackets) → Each Passes (sheets t) → MeetInTurn (first t ∷ rest t)
-    → product (sheets t) ≤ 255 → 2 * product (sheets t) - 1 < valuesIn t .p → Pairs t
-linked-pairs (sheet ws) passes meet most small = passes .0
-linked-pairs (both s t) passes meet most small = (
-  linked-pairs s passes-s meet-s (omega (arith, part-s)) (omega (arith, part-s)),
-  linked-pairs t passes-t meet-t (omega (arith, part-t)) (omega (arith, part-t, between .p)),
-  between,
-  allowed,
-)
-  where
-    passes-s : Each Passes (sheets s)
-    passes-s = each-front Passes (sheets s) (sheets t) passes
-
-    passes-t : Each Passes (sheets t)
-    passes-t = each-back Passes (sheets s) (sheets t) passes
-
-    meet-s : MeetInTurn (first s ∷ rest s)
-    meet-s = meet-front (first t) (rest t) (first s) (rest s) meet
-
-    meet-t : MeetInTurn (first t ∷ rest t)
-    meet-t = meet-back (first t) (rest t) (first s) (rest s) meet
-
-    between : ComposableValues (valuesIn s) (valuesIn t)
-    between = to-parts s t meet-s (meet-between (first t) (rest t) (first s) (rest s) meet)
-
-    -- the product of a part is no larger than that of the whole
-    part-s : product (sheets s) ≤ product (sheets s ++ sheets t)
-    part-s = omega (arith, product-append (sheets s) (sheets t), Nat.le-mul-of-pos-right (product (sheets s)) (product-positive (sheets t) passes-t))
-
-    part-t : product (sheets t) ≤ product (sheets s ++ sheets t)
-    part-t =
-        omega (
-          arith,
-          product-append (sheets s) (sheets t),
-          Nat.mul-comm (product (sheets s)) (product (sheets t)),
-          Nat.le-mul-of-pos-right (product (sheets t)) (product-positive (sheets s) passes-s),
-        )
-
-    allowed : ProductAllowed (valuesIn s) (valuesIn t)
-    allowed =
-        let e : product (sheets s ++ sheets t) ≡ valuesIn s .degree * valuesIn t .degree = degree-is (both s t) in
-        record { most = omega arith; small = omega arith }
-
-pub chain-pairs : (t : Brackets) → Chain (sheets t) → Pairs t
-chain-pairs t h =
-    let e : sheets t ≡ first t ∷ rest t = sheets-are t in
-    let allowed : DegreeAllowed (product (sheets t)) (values (first t) .p) =
-    subst (Each (λ ws. DegreeAllowed (product (sheets t)) (values ws .p))) e (chain-permitted (sheets t) h) .0 in
-    linked-pairs t (chain-passes (sheets t) h) (subst MeetInTurn e (chain-meets (sheets t) h)) (allowed .most) (omega (arith, allowed .small, domain-p t))
-
--- ── and back
 
 pairs-pass : (t : Brackets) → Pairs t → Each Passes (sheets t)
 pairs-pass (sheet ws) passes = (passes, tt)
@@ -175,7 +105,7 @@ pub pairs-chain : (t : Brackets) → Pairs t → Chain (sheets t)
 pairs-chain t pairs =
     let e : first t ∷ rest t ≡ sheets t = sym (sheets-are t) in
     let degree : DegreeAllowed (product (sheets t)) (values (first t) .p) =
-    subst₂ DegreeAllowed (sym (degree-is t)) (domain-p t) (pairs-ready t pairs .degree) in
+    subst₂ DegreeAllowed (sym (degree-is t)) (domain t .0) (pairs-ready t pairs .degree) in
     chain (sheets t) (pairs-pass t pairs) (subst MeetInTurn e (pairs-meet t pairs))
     (subst (Each (λ ws. DegreeAllowed (product (sheets t)) (values ws .p))) e
     (each-map (first t ∷ rest t) (λ ws same. subst (DegreeAllowed (product (sheets t))) same degree)
@@ -188,7 +118,7 @@ unfolding in-turn
 values-in-turn (sheet ws) passes = refl
 values-in-turn (both s t) (a, b, meet, _) =
     ap₂ composed (values-in-turn s a) (values-in-turn t b)
-    ∙ sym (turn-append (values (first s)) (rest s) (first t) (rest t) (sym (domain-p s) ∙ meet .p ∙ domain-p t))
+    ∙ sym (turn-append (values (first s)) (rest s) (first t) (rest t) (sym (domain s .0) ∙ meet .p ∙ domain t .0))
 
 -- They are the same for every way to put the brackets.
 pub same-values : (s t : Brackets) → sheets s ≡ sheets t → Pairs s → Pairs t → valuesIn s ≡ valuesIn t
