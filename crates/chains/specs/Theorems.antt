@@ -10,12 +10,13 @@ use lib.ListN.{length, length-append}
 use Rattle.questions.specs.Questions.{AllYes}
 use Rattle.questions.specs.SomeNo.{SomeNo, not-all}
 use Rattle.questions.specs.Answers.{Outcome, result, refused}
+use Rattle.promises.specs.Outcome.{apart}
 use Rattle.promises.specs.Asked.{check-asks}
 use Rattle.services.specs.Again.{same-certificate}
 use Rattle.chains.specs.Chain.{chain-asks, Chain}
 use Rattle.chains.specs.Brackets.{Brackets, sheet, both, sheets, Way, given}
 use Rattle.chains.specs.Proof.Pairs.{pairs-chain, same-values}
-use Rattle.chains.specs.Proof.Calls.{result-not-refused, way-pairs, way-passes}
+use Rattle.chains.specs.Proof.Calls.{way-pairs, way-passes}
 use Rattle.chains.specs.Proof.Numbers.{refused-no}
 
 -- Two ways agree if both end with the same words, or both are refused, with whatever numbers.
@@ -41,11 +42,11 @@ module _ (s t : Brackets) where
   -- It ends with words exactly when the sheets are a chain,
   pub written-exactly : (o : Outcome (List ℕ)) → Way (both s t) o → ((ws : List ℕ) × (o ≡ result ws)) ↔ Chain (sheets s ++ sheets t)
   written-exactly (result ws) way = (λ _. result-chain ws way, λ _. (ws, refl))
-  written-exactly (refused k) way = (λ it. absurd (result-not-refused (sym (it .1))), λ chain. absurd (refused-chain k way chain))
+  written-exactly (refused k) way = (λ it. absurd (apart (it .0) k (sym (it .1))), λ chain. absurd (refused-chain k way chain))
 
   -- and it is refused exactly when they are not.
   pub refused-exactly : (o : Outcome (List ℕ)) → Way (both s t) o → ((k : ℕ) × (o ≡ refused k)) ↔ (Chain (sheets s ++ sheets t) → ⊥)
-  refused-exactly (result ws) way = (λ it. absurd (result-not-refused (it .1)), λ none. absurd (none (result-chain ws way)))
+  refused-exactly (result ws) way = (λ it. absurd (apart ws (it .0) (it .1)), λ none. absurd (none (result-chain ws way)))
   refused-exactly (refused k) way = (λ _. refused-chain k way, λ _. (k, refl))
 
   -- The number of the refusal is that of a question of the chain which is answered with no.

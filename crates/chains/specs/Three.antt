@@ -4,12 +4,12 @@ use mathlib.Core.Path.{_≡_, refl, sym, _∙_, ap, ap₂, subst}
 use mathlib.Core.Logic.{_↔_}
 use mathlib.Core.List.{List, [], _∷_, _++_}
 use Prim.Native.Nat.{ℕ}
-use native.Mathlib.Omega.{arith}
 use lib.ListN.{length, take, drop}
 use Rattle.questions.specs.SomeNo.{SomeNo}
 use Rattle.questions.specs.Answers.{result, refused}
 use Rattle.promises.specs.declared.Written.{Written}
 use Rattle.promises.specs.declared.Written.the-variants as written
+use Rattle.promises.specs.Outcome.{apart, writtenOutcome}
 use Rattle.promises.specs.Asked.{Room}
 use Rattle.promises.specs.Answer.{composed, ComposeRight}
 use Rattle.services.specs.Compose.{composite-ready, composite-curves}
@@ -17,7 +17,7 @@ use Rattle.services.specs.Certified.{written-count, written-buffer}
 use Rattle.chains.specs.Chain.{values, chain-asks, Chain}
 use Rattle.chains.specs.Brackets.{wrote, Brackets, sheet, both, Way, given, called, left-refused, right-refused}
 use Rattle.chains.specs.Theorems as T
-use Rattle.chains.specs.Proof.Calls.{result-not-refused, seen}
+use Rattle.chains.specs.Proof.Calls.{seen}
 
 -- What the second of two calls answers, where the first one left `held` in its buffer: what `Next` says of the words that were written. After a refusal there
 -- is no second call: the number is the answer, and the second buffer is as it was.
@@ -47,16 +47,16 @@ FromRight a b c = TwoCalls b c (λ bc. ComposeRight a bc)
 abbrev pub IsRefused : Written → Type 0
 IsRefused r = (k : ℕ) × (r ≡ written.Refused k)
 
-count-not-refusal : {n k : ℕ} → written.Count n ≡ written.Refused k → ⊥
-count-not-refusal e = let z : _≡_ {A = ℕ} 0 1 = cc in omega arith
+count-apart : {n k : ℕ} → written.Count n ≡ written.Refused k → ⊥
+count-apart {n} {k} e = apart n k (ap writtenOutcome e)
 
 refusal : (r : Written) (after : List ℕ) → ((k : ℕ) × (wrote r after ≡ refused k)) ↔ IsRefused r
-refusal (written.Count n) after = (λ it. absurd (result-not-refused (it .1)), λ it. absurd (count-not-refusal (it .1)))
+refusal (written.Count n) after = (λ it. absurd (apart (take n after) (it .0) (it .1)), λ it. absurd (count-apart (it .1)))
 refusal (written.Refused k) after = (λ _. (k, refl), λ _. (k, refl))
 
 count-result : (r : Written) (after : List ℕ) → ((ws : List ℕ) × (wrote r after ≡ result ws)) ↔ ((n : ℕ) × (r ≡ written.Count n))
 count-result (written.Count n) after = (λ _. (n, refl), λ _. (take n after, refl))
-count-result (written.Refused k) after = (λ it. absurd (result-not-refused (sym (it .1))), λ it. absurd (count-not-refusal (sym (it .1))))
+count-result (written.Refused k) after = (λ it. absurd (apart (it .0) k (sym (it .1))), λ it. absurd (count-apart (sym (it .1))))
 
 -- ── the buffer of the last call
 
@@ -95,24 +95,24 @@ module _ (x y : List ℕ) (Next : List ℕ → List ℕ → List ℕ → Written
           subst (λ r. Way t (wrote r after) × Filled before after r) (sym e)
           (stops k (called given given (seen x y (two .lent) (two .held) (written.Refused k) (two .room) right)), unaltered)
 
+abbrev leftwards : List ℕ → List ℕ → List ℕ → Brackets
+leftwards a b c = both (both (sheet a) (sheet b)) (sheet c)
+
+abbrev rightwards : List ℕ → List ℕ → List ℕ → Brackets
+rightwards a b c = both (sheet a) (both (sheet b) (sheet c))
+
 -- ── one way
 
 module _ (a b c before after : List ℕ) (r : Written) where
-  abbrev leftwards : Brackets
-  leftwards = both (both (sheet a) (sheet b)) (sheet c)
-
-  abbrev rightwards : Brackets
-  rightwards = both (sheet a) (both (sheet b) (sheet c))
-
-  from-left : FromLeft a b c before after r → Way leftwards (wrote r after) × Filled before after r
+  from-left : FromLeft a b c before after r → Way (leftwards a b c) (wrote r after) × Filled before after r
   from-left =
-      as-way a b (λ ab. ComposeRight ab c) leftwards (λ ab xs ys s room way right. called way given (seen ab c xs ys s room right)) (λ k. left-refused)
-      (λ ab. filled ab c) before after r
+      as-way a b (λ ab. ComposeRight ab c) (leftwards a b c) (λ ab xs ys s room way right. called way given (seen ab c xs ys s room right))
+      (λ k. left-refused) (λ ab. filled ab c) before after r
 
-  from-right : FromRight a b c before after r → Way rightwards (wrote r after) × Filled before after r
+  from-right : FromRight a b c before after r → Way (rightwards a b c) (wrote r after) × Filled before after r
   from-right =
-      as-way b c (λ bc. ComposeRight a bc) rightwards (λ bc xs ys s room way right. called given way (seen a bc xs ys s room right)) (λ k. right-refused)
-      (filled a) before after r
+      as-way b c (λ bc. ComposeRight a bc) (rightwards a b c) (λ bc xs ys s room way right. called given way (seen a bc xs ys s room right))
+      (λ k. right-refused) (filled a) before after r
 
   module _ (way : FromLeft a b c before after r) where
     -- The way from the left answers with a count exactly when the three sheets are a chain,
@@ -130,7 +130,7 @@ module _ (a b c before after : List ℕ) (r : Written) where
     -- and its number is that of a question of the chain which is answered with no.
     pub left-refused-number : (k : ℕ) → r ≡ written.Refused k → SomeNo (chain-asks (a ∷ b ∷ c ∷ [])) k
     left-refused-number k e =
-        T.refused-number (both (sheet a) (sheet b)) (sheet c) k (subst (λ r. Way leftwards (wrote r after)) e (from-left way .0))
+        T.refused-number (both (sheet a) (sheet b)) (sheet c) k (subst (λ r. Way (leftwards a b c) (wrote r after)) e (from-left way .0))
 
   module _ (way : FromRight a b c before after r) where
     -- The same of the way from the right.
@@ -146,7 +146,7 @@ module _ (a b c before after : List ℕ) (r : Written) where
 
     pub right-refused-number : (k : ℕ) → r ≡ written.Refused k → SomeNo (chain-asks (a ∷ b ∷ c ∷ [])) k
     right-refused-number k e =
-        T.refused-number (sheet a) (both (sheet b) (sheet c)) k (subst (λ r. Way rightwards (wrote r after)) e (from-right way .0))
+        T.refused-number (sheet a) (both (sheet b) (sheet c)) k (subst (λ r. Way (rightwards a b c) (wrote r after)) e (from-right way .0))
 
 -- ── both ways, each with buffers of its own
 
@@ -160,7 +160,7 @@ module _ (a b c before before′ after after′ : List ℕ) (r r′ : Written) (
 
   agree : T.Agree (wrote r after) (wrote r′ after′)
   agree =
-      T.any-brackets (leftwards a b c before after r) (rightwards a b c before after r) refl (wrote r after) (wrote r′ after′)
+      T.any-brackets (leftwards a b c) (rightwards a b c) refl (wrote r after) (wrote r′ after′)
       (from-left a b c before after r left .0) (from-right a b c before′ after′ r′ right .0)
 
   -- Of a chain, both answer with one count, and the words that they wrote are the same.
@@ -175,8 +175,8 @@ module _ (a b c before before′ after after′ : List ℕ) (r r′ : Written) (
       go (written.Count n) (written.Count n′) _ _ h k one =
           let same : n ≡ n′ = h .0 ∙ ap length one ∙ sym (k .0) in
           (n, refl, ap written.Count (sym same), one ∙ ap (λ m. take m after′) (sym same))
-      go (written.Refused j) r′ x y h k one = absurd (count-not-refusal (sym (x .1)))
-      go (written.Count n) (written.Refused k) x y h _ one = absurd (count-not-refusal (sym (y .1)))
+      go (written.Refused j) r′ x y h k one = absurd (count-apart (sym (x .1)))
+      go (written.Count n) (written.Refused k) x y h _ one = absurd (count-apart (sym (y .1)))
 
   -- And if the last buffer held the same before, it holds the same after, to its end, whatever the sheets are.
   pub every-word : before ≡ before′ → after ≡ after′

@@ -68,7 +68,8 @@ nameNumber n = outcomeNumber (namedOutcome n)
 
 -- ── an answer is fixed by its outcome
 
-apart : {A : Type 0} (a : A) (n : ℕ) → result a ≡ refused n → ⊥
+-- a result is no refusal
+pub apart : {A : Type 0} (a : A) (n : ℕ) → result a ≡ refused n → ⊥
 apart a n e = let z : _≡_ {A = ℕ} 0 1 = cc in omega arith
 
 points-apart : (u v : ℕ) → _≡_ {A = Outcome Point} (result (point.Affine u v)) (result point.Infinity) → ⊥

@@ -3,21 +3,18 @@
 use mathlib.Core.Path.{_≡_, refl, sym, _∙_, ap, ap₂, subst, subst₂}
 use mathlib.Core.List.{List}
 use Prim.Native.Nat.{ℕ}
-use native.Mathlib.Omega.{arith}
 use lib.ListN.{length, take}
 use Rattle.questions.specs.Questions.{AllYes}
-use Rattle.questions.specs.Answers.{Outcome, result, refused}
+use Rattle.questions.specs.Answers.{result}
 use Rattle.promises.specs.declared.Written.{Written}
 use Rattle.promises.specs.declared.Written.the-variants as written
+use Rattle.promises.specs.Outcome.{apart}
 use Rattle.promises.specs.Asked.{Room, check-asks, ComposableValues, ProductAllowed}
 use Rattle.promises.specs.Answer.{composed, ComposeRight}
 use Rattle.services.specs.Compose.{first-passes, second-passes, they-meet, product-allowed, compose-certified, compose-values}
 use Rattle.chains.specs.Chain.{values}
 use Rattle.chains.specs.Brackets.{wrote, Call, Brackets, sheet, both, Way, given, called}
 use Rattle.chains.specs.Proof.Pairs.{valuesIn, Pairs}
-
-pub result-not-refused : {ws : List ℕ} {k : ℕ} → _≡_ {A = Outcome (List ℕ)} (result ws) (refused k) → ⊥
-result-not-refused e = let z : _≡_ {A = ℕ} 0 1 = cc in omega arith
 
 -- ── one call
 
@@ -39,7 +36,7 @@ module _ (first second : List ℕ) where
   call-wrote {ws} call = go (call .answer) (call .right) (call .outcome)
     where
       go : (r : Written) → ComposeRight first second (call .before) (call .after) r → wrote r (call .after) ≡ result ws → Wrote first second ws
-      go (written.Refused k) right e = absurd (result-not-refused (sym e))
+      go (written.Refused k) right e = absurd (apart ws k (sym e))
       go (written.Count c) right e =
           let same : take c (call .after) ≡ ws = cc in
           record {

@@ -6,7 +6,7 @@ use mathlib.Core.List.{List, [], _∷_, _++_, append-nil, append-assoc}
 use Prim.Native.Nat.{ℕ, zero, suc, _*_, _≤_}
 use native.Mathlib.Nat as Nat
 use native.Mathlib.Omega.{arith}
-use lib.ListN.{length}
+use lib.ListN.{length, take}
 use Rattle.questions.specs.Questions.{Questions, AllYes, FirstNo, not-both}
 use Rattle.questions.specs.Joined.{no-split}
 use Rattle.questions.specs.SomeNo.{SomeNo, first-some, some-front, some-back}
@@ -14,13 +14,14 @@ use Rattle.questions.specs.Answers.{result, refused}
 use Rattle.sheet.specs.Asked.{DegreeAllowed}
 use Rattle.promises.specs.declared.Written.{Written}
 use Rattle.promises.specs.declared.Written.the-variants as written
+use Rattle.promises.specs.Outcome.{apart}
 use Rattle.promises.specs.Asked.{Room, check-asks, join-asks, compose-asks, ComposableValues, ProductAllowed}
 use Rattle.promises.specs.Answer.{ComposeRight}
 use Rattle.chains.specs.Chain.{values, each-asks, meet-asks, product, Each, Permitted, chain-asks}
 use Rattle.chains.specs.Brackets.{wrote, Brackets, sheet, both, sheets, Way, given, called, left-refused, right-refused}
 use Rattle.chains.specs.Proof.Lists.{each-front, each-back, last, product-append}
 use Rattle.chains.specs.Proof.Pairs.{valuesIn, Pairs, first, rest, sheets-are, degree-is, domain, to-parts, pairs-meet}
-use Rattle.chains.specs.Proof.Calls.{result-not-refused, way-pairs, way-passes}
+use Rattle.chains.specs.Proof.Calls.{way-pairs, way-passes}
 
 -- ── of a list, with other sheets before and behind
 
@@ -162,7 +163,7 @@ refused-between (both s t) k xs ys (called {first = first} {second = second} a b
   where
     go : (r : Written) → ComposeRight first second (call .before) (call .after) r → wrote r (call .after) ≡ refused k
         → SomeNo (chain-asks (xs ++ (sheets s ++ sheets t ++ ys))) k
-    go (written.Count c) right e = absurd (result-not-refused e)
+    go (written.Count c) right e = absurd (apart (take c (call .after)) k e)
     go (written.Refused j) right e =
         let same : j ≡ k = cc in
         call-no s t first second k xs ys a b (length (call .before)) (call .room)
