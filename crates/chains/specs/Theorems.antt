@@ -9,8 +9,7 @@ use native.Mathlib.Omega.{arith}
 use lib.ListN.{length, length-append}
 use Rattle.questions.specs.Questions.{AllYes}
 use Rattle.questions.specs.SomeNo.{SomeNo, not-all}
-use Rattle.questions.specs.Answers.{Outcome, result, refused}
-use Rattle.promises.specs.Outcome.{apart}
+use Rattle.questions.specs.Answers.{Outcome, result, refused, apart}
 use Rattle.promises.specs.Asked.{check-asks}
 use Rattle.services.specs.Again.{same-certificate}
 use Rattle.chains.specs.Chain.{chain-asks, Chain}

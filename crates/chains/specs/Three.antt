@@ -6,10 +6,10 @@ use mathlib.Core.List.{List, [], _∷_, _++_}
 use Prim.Native.Nat.{ℕ}
 use lib.ListN.{length, take, drop}
 use Rattle.questions.specs.SomeNo.{SomeNo}
-use Rattle.questions.specs.Answers.{result, refused}
+use Rattle.questions.specs.Answers.{result, refused, apart}
 use Rattle.promises.specs.declared.Written.{Written}
 use Rattle.promises.specs.declared.Written.the-variants as written
-use Rattle.promises.specs.Outcome.{apart, writtenOutcome}
+use Rattle.promises.specs.Outcome.{writtenOutcome}
 use Rattle.promises.specs.Asked.{Room}
 use Rattle.promises.specs.Answer.{composed, ComposeRight}
 use Rattle.services.specs.Compose.{composite-ready, composite-curves}

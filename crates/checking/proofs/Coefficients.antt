@@ -16,7 +16,7 @@ use Rattle.sheet.specs.Values.{valuesOf, half, gOf, nOf, abscissasOf}
 use Rattle.sheet.specs.Asked.{asked}
 use Rattle.sheet.specs.Ready.{Ready, HoldsG, HoldsN}
 use Rattle.sheet.specs.Ready as R
-use Rattle.sheet.specs.Accepted.{certificate-length, certificate-g, certificate-n}
+use Rattle.reading.specs.Accepted.{certificate-length, certificate-g, certificate-n}
 
 module _ (ws : List ℕ) (all : AllYes (asked Certificate ws)) (v : Values) (d : ℕ) (e : v ≡ valuesOf Certificate ws) (d-is : d ≡ half v) where
   d-half : d ≡ half (valuesOf Certificate ws)

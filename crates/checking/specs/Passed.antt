@@ -8,9 +8,9 @@ use Rattle.questions.specs.Questions.{AllYes, FirstNo}
 use Rattle.questions.specs.Judged.{Judged}
 use Rattle.sheet.specs.declared.Form.the-variants.{Certificate}
 use Rattle.sheet.specs.declared.Values.{Values}
-use Rattle.sheet.specs.declared.Reading.{Reading}
-use Rattle.sheet.specs.declared.Reading.the-variants.{Accepted, Refused}
 use Rattle.sheet.specs.Values.{valuesOf, half, gOf, nOf}
+use Rattle.reading.specs.declared.Reading.{Reading}
+use Rattle.reading.specs.declared.Reading.the-variants.{Accepted, Refused}
 use Rattle.promises.specs.Asked.{certificate-rules, check-asks}
 
 -- the sheet's coefficients, and the number for 8 to 10

@@ -1,8 +1,8 @@
 // Check, and the beginning of every service that takes a certificate: questions 2 to 10, with the coefficients of g and N in lent slices.
 use barrett::Modulus;
 use promises::Verdict;
+use reading::Reading;
 use sheet::Form;
-use sheet::Reading;
 use sheet::Values;
 ghost use mathlib.Core.Path.{_≡_};
 ghost use mathlib.Core.Bool.{true};
@@ -104,7 +104,7 @@ pub fn passed(ws: &[u32], g: &mut [u32], n: &mut [u32]) -> Reading
     requires { ⌜ (length (now g) ≡ 128) × (length (now n) ≡ 256) ⌝ }
     ensures { λ r. ⌜ Passed (now (ws .entry)) (now (g .exit)) (now (n .exit)) r ⌝ }
 {
-    let read = sheet::read(Form::Certificate, ws);
+    let read = reading::read(Form::Certificate, ws);
     match read {
         Reading::Refused(k) => Reading::Refused(k),
         Reading::Accepted(v) => {

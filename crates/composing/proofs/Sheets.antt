@@ -10,7 +10,7 @@ use Rattle.questions.specs.Joined.{no-before, no-after, all-all}
 use Rattle.sheet.specs.declared.Form.the-variants.{Certificate}
 use Rattle.sheet.specs.declared.Values.{Values}
 use Rattle.sheet.specs.Values.{valuesOf, gOf, nOf}
-use Rattle.sheet.specs.Accepted.{certificate-g, certificate-n}
+use Rattle.reading.specs.Accepted.{certificate-g, certificate-n}
 use Rattle.promises.specs.declared.Written.{Written}
 use Rattle.promises.specs.declared.Written.the-variants.{Count, Refused}
 use Rattle.promises.specs.Asked.{Room, ComposableValues, ProductAllowed, check-asks, join-asks, compose-asks}

@@ -1,7 +1,7 @@
 // Compose: the certificate of one map followed by another. It begins twice as check does and ends as solve and kernel do. R3 is not evaluated: the composite of
 // two maps that meet the rules meets them.
 use promises::Written;
-use sheet::Reading;
+use reading::Reading;
 use sheet::Values;
 ghost use mathlib.Core.Path.{_≡_};
 ghost use mathlib.Core.Bool.{true};

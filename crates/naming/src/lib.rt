@@ -12,7 +12,7 @@ ghost use Rattle.questions.specs.Judged.{Judged};
 fn name_number(p: u32, a: u32, b: u32) -> u32
     ensures { λ r. ⌜ Judged (name-asks p a b) r ⌝ }
 {
-    if !sheet::prime_allowed(p) {
+    if !reading::prime_allowed(p) {
         return 3;
     }
     if p <= a {
@@ -21,7 +21,7 @@ fn name_number(p: u32, a: u32, b: u32) -> u32
     if p <= b {
         return 5;
     }
-    if !sheet::nonsingular(a, b, p) {
+    if !reading::nonsingular(a, b, p) {
         return 7;
     }
     0
@@ -34,7 +34,7 @@ fn j_value(p: u32, a: u32, b: u32) -> u32
     requires { ⌜ Nonsingular (Zmod p) (mk p a) (mk p b) ⌝ }
     ensures { λ r. ⌜ (r < p) × JValue (Zmod p) (mk p a) (mk p b) (mk p r) ⌝ }
 {
-    let divisor = sheet::discriminant_of(a, b, p);
+    let divisor = reading::discriminant_of(a, b, p);
     let inverse = field::inverse(divisor, p);
     let square = field::multiply(a, a, p);
     let cube = field::multiply(square, a, p);

@@ -4,7 +4,7 @@
 use mathlib.Core.Path.{_≡_, refl, sym}
 use Prim.Native.Nat.{ℕ, _+_, _*_, _^_}
 use native.Mathlib.Omega.{arith}
-use Rattle.questions.specs.Answers.{Outcome, result, refused}
+use Rattle.questions.specs.Answers.{Outcome, result, refused, apart}
 use Rattle.promises.specs.declared.Verdict.{Verdict}
 use Rattle.promises.specs.declared.Verdict.the-variants as verdict
 use Rattle.promises.specs.declared.Written.{Written}
@@ -67,10 +67,6 @@ abbrev pub nameNumber : Named → ℕ
 nameNumber n = outcomeNumber (namedOutcome n)
 
 -- ── an answer is fixed by its outcome
-
--- a result is no refusal
-pub apart : {A : Type 0} (a : A) (n : ℕ) → result a ≡ refused n → ⊥
-apart a n e = let z : _≡_ {A = ℕ} 0 1 = cc in omega arith
 
 points-apart : (u v : ℕ) → _≡_ {A = Outcome Point} (result (point.Affine u v)) (result point.Infinity) → ⊥
 points-apart u v e = let z : _≡_ {A = ℕ} 0 1 = cc in omega arith

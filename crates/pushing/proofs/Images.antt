@@ -29,8 +29,8 @@ use Rattle.questions.specs.Questions.{AllYes}
 use Rattle.questions.specs.Joined.{no-after, all-all}
 use Rattle.sheet.specs.Asked.{asked}
 use Rattle.sheet.specs.Ready.{Ready, HoldsG, HoldsN}
-use Rattle.sheet.specs.Accepted.{certificate-g, certificate-n}
 use Rattle.sheet.specs.Values.{gOf, nOf, valuesOf, question, half}
+use Rattle.reading.specs.Accepted.{certificate-g, certificate-n}
 use Rattle.promises.specs.declared.Point.{Point}
 use Rattle.promises.specs.declared.Point.the-variants as point
 use Rattle.promises.specs.declared.Image.{Image}

@@ -2,7 +2,7 @@
 use evaluation::Jet;
 use promises::Image;
 use promises::Point;
-use sheet::Reading;
+use reading::Reading;
 use sheet::Values;
 ghost use mathlib.Core.Path.{_≡_};
 ghost use mathlib.Core.Bool.{true};

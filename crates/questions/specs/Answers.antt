@@ -4,11 +4,16 @@
 use mathlib.Core.Path.{_≡_, sym, _∙_, ap}
 use mathlib.Core.List.{List}
 use Prim.Native.Nat.{ℕ}
+use native.Mathlib.Omega.{arith}
 use Rattle.questions.specs.Questions.{Questions, AllYes, FirstNo, first-no-unique, not-both}
 
 pub data Outcome (A : Type 0) : Type 0 where
   result : A → Outcome A
   refused : ℕ → Outcome A
+
+-- a result is no refusal
+pub apart : {A : Type 0} (a : A) (n : ℕ) → result a ≡ refused n → ⊥
+apart a n e = let z : _≡_ {A = ℕ} 0 1 = cc in omega arith
 
 -- a service that answers by value alone
 abbrev pub Answers : {A : Type 0} → Questions → (A → Type 0) → Outcome A → Type 0

@@ -8,12 +8,12 @@ use mathlib.Core.List.{List, [], _∷_, _++_}
 use Prim.Native.Nat.{ℕ, _+_}
 use native.Mathlib.Omega.{arith}
 use lib.ListN.{take}
-use Rattle.sheet.specs.LongSheet.{front-yes, front-no, front-all}
 use Rattle.sheet.specs.declared.Form.{Form}
 use Rattle.sheet.specs.declared.Form.the-variants.{Question, Certificate, Kernel}
 use Rattle.sheet.specs.Form.{mostWords}
 use Rattle.sheet.specs.Values.{valuesOf, gOf}
 use Rattle.sheet.specs.Asked.{asked}
+use Rattle.reading.specs.LongSheet.{front-yes, front-no, front-all}
 use Rattle.questions.specs.Questions.{Questions, AllYes, FirstNo}
 use Rattle.questions.specs.Joined.{no-before, no-split, all-front}
 use Rattle.promises.specs.declared.Verdict.{Verdict}

@@ -18,10 +18,11 @@ use Rattle.sheet.specs.Form.{kindsOf}
 use Rattle.sheet.specs.Values.{valuesOf, half, gOf, abscissasOf}
 use Rattle.sheet.specs.Asked.{Asked6, asked}
 use Rattle.sheet.specs.Kinds.{below, kind-at, kinds-rise, place-from}
-use Rattle.sheet.specs.Body.{kinds-at, kinds-length, certificate-words}
+use Rattle.sheet.specs.Lengths.{certificate-words}
 use Rattle.sheet.specs.Places.{coefficients-end, count-last, end-place}
 use Rattle.sheet.specs.Ready.{ready}
-use Rattle.sheet.specs.Accepted.{certificate-g}
+use Rattle.reading.specs.Body.{kinds-at, kinds-length}
+use Rattle.reading.specs.Accepted.{certificate-g}
 use Rattle.promises.specs.declared.Verdict.{Verdict}
 use Rattle.promises.specs.declared.Verdict.the-variants as verdict
 use Rattle.promises.specs.declared.Written.the-variants as written

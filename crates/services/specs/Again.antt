@@ -26,9 +26,10 @@ use Rattle.sheet.specs.Asked.{Asked2, Asked6, ValuesBelow, Curves, asked}
 use Rattle.sheet.specs.Fields.{same}
 use Rattle.sheet.specs.Reduction.{kernel-modulo, value-below, value-reduced, coefficients-below, five-always}
 use Rattle.sheet.specs.Ready.{Ready, ready}
-use Rattle.sheet.specs.Leaf.{Sections}
-use Rattle.sheet.specs.Body.{last, Words6, asked6-words, words-asked6, kernel-words, certificate-words}
-use Rattle.sheet.specs.Accepted.{certificate-length, certificate-g, certificate-n}
+use Rattle.sheet.specs.Lengths.{last, kernel-words, certificate-words}
+use Rattle.reading.specs.Leaf.{Sections}
+use Rattle.reading.specs.Body.{Words6, asked6-words, words-asked6}
+use Rattle.reading.specs.Accepted.{certificate-length, certificate-g, certificate-n}
 use Rattle.certificate.specs.Certificate.{certificate, headerWords}
 use Rattle.promises.specs.declared.Written.{Written}
 use Rattle.promises.specs.declared.Written.the-variants as written

@@ -22,7 +22,7 @@ use Rattle.questions.specs.Answers.{answers-unique}
 use Rattle.sheet.specs.declared.Form.the-variants.{Certificate}
 use Rattle.sheet.specs.Values.{gOf, nOf, valuesOf, half}
 use Rattle.sheet.specs.Asked.{asked}
-use Rattle.sheet.specs.Accepted.{certificate-g, certificate-n}
+use Rattle.reading.specs.Accepted.{certificate-g, certificate-n}
 use Rattle.promises.specs.declared.Point.{Point}
 use Rattle.promises.specs.declared.Point.the-variants as point
 use Rattle.promises.specs.declared.Image.{Image}

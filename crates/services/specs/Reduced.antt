@@ -18,7 +18,7 @@ use Rattle.sheet.specs.declared.Values.{Values}
 use Rattle.sheet.specs.Values.{valuesOf, gOf}
 use Rattle.sheet.specs.Asked.{asked}
 use Rattle.sheet.specs.Reduction.{Modulo, question-modulo, kernel-modulo, five-always}
-use Rattle.sheet.specs.ReducedSheet.{reduced, values-same, g-same, reduced-alike}
+use Rattle.reading.specs.ReducedSheet.{reduced, values-same, g-same, reduced-alike}
 use Rattle.promises.specs.declared.Written.{Written}
 use Rattle.promises.specs.declared.Written.the-variants as written
 use Rattle.promises.specs.Outcome.{writtenOutcome}

@@ -22,7 +22,7 @@ use Rattle.sheet.specs.declared.Form.the-variants.{Certificate, Kernel}
 use Rattle.sheet.specs.Values.{valuesOf, half, gOf}
 use Rattle.sheet.specs.Asked.{asked}
 use Rattle.sheet.specs.Ready.{Ready, ready, half-least}
-use Rattle.sheet.specs.Accepted.{kernel-g}
+use Rattle.reading.specs.Accepted.{kernel-g}
 use Rattle.promises.specs.declared.Written.the-variants as written
 use Rattle.promises.specs.Asked.{Leading, prime, put, g, n, check-asks}
 use Rattle.promises.specs.Answer.{SolveRight, KernelRight}

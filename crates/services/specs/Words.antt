@@ -20,12 +20,13 @@ use Rattle.sheet.specs.Word.{kindOf, valueOf, word}
 use Rattle.sheet.specs.Form.{header, body, kindsOf, certificateWords}
 use Rattle.sheet.specs.Values.{valuesOf, half, gOf, nOf, abscissasOf}
 use Rattle.sheet.specs.Asked.{Asked2, asked}
-use Rattle.sheet.specs.Leaf.{Stands, Sections}
 use Rattle.sheet.specs.Table.{at}
-use Rattle.sheet.specs.Header.{asked2-stands}
-use Rattle.sheet.specs.Body.{last, Words6, asked6-words, certificate-words}
+use Rattle.sheet.specs.Lengths.{last, certificate-words}
 use Rattle.sheet.specs.Places.{count-place}
-use Rattle.sheet.specs.Accepted.{certificate-length}
+use Rattle.reading.specs.Leaf.{Stands, Sections}
+use Rattle.reading.specs.Header.{asked2-stands}
+use Rattle.reading.specs.Body.{Words6, asked6-words}
+use Rattle.reading.specs.Accepted.{certificate-length}
 use Rattle.certificate.specs.Certificate.{certificate, headerWords}
 
 -- a word is that of its kind and value

@@ -10,8 +10,7 @@ use Rattle.slices.specs.Filling.{Filled, length-tab, getD-tab}
 use Rattle.sheet.specs.declared.Form.{Form}
 use Rattle.sheet.specs.Word.{wordAt, wordsOf}
 use Rattle.sheet.specs.Values.{coefficientIn}
-use Rattle.sheet.specs.Reduction.{coefficient-at}
-use Rattle.sheet.specs.Accepted.{part-length}
+use Rattle.sheet.specs.Reduction.{coefficient-at, part-length}
 
 -- the list that a loop has filled with the coefficients in a part of ws
 module _ (form : Form) (p : ℕ) where

@@ -1,4 +1,2 @@
 pub mod PlaceTable
-pub mod Down
-pub mod Singular
 pub mod Copies

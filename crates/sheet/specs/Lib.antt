@@ -7,14 +7,8 @@ pub mod Values
 pub mod Asked
 pub mod Reduction
 pub mod Ready
-pub mod Reading
-pub mod Leaf
-pub mod Header
+pub mod Entries
 pub mod Fields
-pub mod Body
+pub mod Lengths
 pub mod Linear
 pub mod Places
-pub mod Accepted
-pub mod AskedAlike
-pub mod LongSheet
-pub mod ReducedSheet

@@ -11,7 +11,7 @@ use Rattle.sheet.specs.declared.Form.the-variants.{Question, Certificate
 use Rattle.sheet.specs.Form.{header, kindsOf, certificateWords, position, holds}
 use Rattle.sheet.specs.Place.{placeOf}
 use Rattle.sheet.specs.Kinds.{below, absent as absent-kind, place-from}
-use Rattle.sheet.specs.Body.{last, certificate-words, kernel-words}
+use Rattle.sheet.specs.Lengths.{last, certificate-words, kernel-words}
 use Rattle.sheet.specs.Linear.{Section, section, expand, has, base, slope, holds-sections, position-sections, base-most}
 
 -- ── the forms in sections

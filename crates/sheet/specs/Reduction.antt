@@ -3,9 +3,11 @@
 use mathlib.Core.Path.{_≡_, refl, sym, _∙_, ap, ap₂, subst}
 use mathlib.Core.Logic.{_↔_}
 use mathlib.Core.List.{List, [], _∷_, map}
-use Prim.Native.Nat.{ℕ, suc, _-_, _%_, _<_}
+use Prim.Native.Nat.{ℕ, suc, _+_, _-_, _%_, _<_, _≤_}
 use native.Mathlib.Nat.{zero-mod, mod-lt, mod-eq-of-lt}
-use lib.ListN.{length, getD, drop, List·getD-map}
+use native.Mathlib.Omega.{arith}
+use lib.ListN.{length, getD, take, drop, length-map, length-drop, List·getD-map}
+use lib.Seq.{length-take-le}
 use Rattle.zmod.specs.Residues.{Reduced}
 use Rattle.sheet.specs.declared.Form.{Form}
 use Rattle.sheet.specs.declared.Form.the-variants.{Question, Certificate, Kernel}
@@ -48,6 +50,12 @@ value-zero Kernel p = zero-mod p
 pub coefficient-at : (form : Form) (p : ℕ) (ws : List ℕ) (i : ℕ) → getD (map (coefficientIn form p) ws) i 0 ≡ coefficientIn form p (getD ws i 0)
 coefficient-at form p ws i =
     ap (λ z. getD (map (coefficientIn form p) ws) i z) (sym (value-zero form p)) ∙ List·getD-map (coefficientIn form p) ws i 0
+
+-- so many of the words from `from` on have so many
+pub part-length : (form : Form) (p : ℕ) (ws : List ℕ) (from count : ℕ) → from + count ≤ length ws
+    → length (map (coefficientIn form p) (take count (drop from ws))) ≡ count
+part-length form p ws from count room =
+    length-map (take count (drop from ws)) (coefficientIn form p) ∙ length-take-le count (drop from ws) (omega (arith, length-drop from ws))
 
 -- below p they are read as they stand
 pub coefficients-below : (form : Form) (p : ℕ) (ws : List ℕ) → Reduced p (map valueOf ws) → map (coefficientIn form p) ws ≡ map valueOf ws

@@ -1,7 +1,7 @@
 // Solve: the one polynomial that can meet the rules for a question, and its certificate if it does.
 use promises::Written;
+use reading::Reading;
 use sheet::Form;
-use sheet::Reading;
 use sheet::Values;
 ghost use mathlib.Core.Path.{_≡_};
 ghost use Prim.Native.Nat.{_+_, _%_, _≤_};
@@ -153,7 +153,7 @@ pub fn solve(ws: &[u32], answer: &mut [u32]) -> Written
     if answer.len() < sheet::MOST_WORDS {
         return Written::Refused(1);
     }
-    let read = sheet::read(Form::Question, ws);
+    let read = reading::read(Form::Question, ws);
     match read {
         Reading::Refused(k) => Written::Refused(k),
         Reading::Accepted(v) => solve_values(v, answer),

@@ -13,7 +13,7 @@ use Rattle.sheet.specs.Values.{coefficientIn, gOf, half, valuesOf}
 use Rattle.sheet.specs.Asked.{asked}
 use Rattle.sheet.specs.Ready.{Ready, HoldsG}
 use Rattle.sheet.specs.Ready as R
-use Rattle.sheet.specs.Accepted.{kernel-length, kernel-g}
+use Rattle.reading.specs.Accepted.{kernel-length, kernel-g}
 use Rattle.promises.specs.declared.Written.{Written}
 use Rattle.promises.specs.declared.Written.the-variants.{Count, Refused}
 use Rattle.promises.specs.Asked.{Room, last-ask}

@@ -1,7 +1,7 @@
 // Kernel: a kernel polynomial's σ and codomain by Vélu's formulas, questions 8 and 11 of a kernel sheet, and its certificate.
 use promises::Written;
+use reading::Reading;
 use sheet::Form;
-use sheet::Reading;
 use sheet::Values;
 ghost use mathlib.Core.Path.{_≡_};
 ghost use Prim.Native.Nat.{_+_, _^_, _<_, _≤_};
@@ -84,7 +84,7 @@ fn finish(v: Values, g: &[u32], answer: &mut [u32]) -> Written
         return Written::Refused(8);
     }
     let w = completed(v, g);
-    if !sheet::nonsingular(w.atilde, w.btilde, w.p) {
+    if !reading::nonsingular(w.atilde, w.btilde, w.p) {
         return Written::Refused(11);
     }
     certifying::certify(w, g, answer)
@@ -118,7 +118,7 @@ pub fn kernel(ws: &[u32], answer: &mut [u32]) -> Written
     if answer.len() < sheet::MOST_WORDS {
         return Written::Refused(1);
     }
-    let read = sheet::read(Form::Kernel, ws);
+    let read = reading::read(Form::Kernel, ws);
     match read {
         Reading::Refused(k) => Written::Refused(k),
         Reading::Accepted(v) => kernel_accepted(v, ws, answer),

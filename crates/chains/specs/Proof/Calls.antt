@@ -5,10 +5,9 @@ use mathlib.Core.List.{List}
 use Prim.Native.Nat.{ℕ}
 use lib.ListN.{length, take}
 use Rattle.questions.specs.Questions.{AllYes}
-use Rattle.questions.specs.Answers.{result}
+use Rattle.questions.specs.Answers.{result, apart}
 use Rattle.promises.specs.declared.Written.{Written}
 use Rattle.promises.specs.declared.Written.the-variants as written
-use Rattle.promises.specs.Outcome.{apart}
 use Rattle.promises.specs.Asked.{Room, check-asks, ComposableValues, ProductAllowed}
 use Rattle.promises.specs.Answer.{composed, ComposeRight}
 use Rattle.services.specs.Compose.{first-passes, second-passes, they-meet, product-allowed, compose-certified, compose-values}

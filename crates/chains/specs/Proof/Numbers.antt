@@ -10,11 +10,10 @@ use lib.ListN.{length, take}
 use Rattle.questions.specs.Questions.{Questions, AllYes, FirstNo, not-both}
 use Rattle.questions.specs.Joined.{no-split}
 use Rattle.questions.specs.SomeNo.{SomeNo, first-some, some-front, some-back}
-use Rattle.questions.specs.Answers.{result, refused}
+use Rattle.questions.specs.Answers.{result, refused, apart}
 use Rattle.sheet.specs.Asked.{DegreeAllowed}
 use Rattle.promises.specs.declared.Written.{Written}
 use Rattle.promises.specs.declared.Written.the-variants as written
-use Rattle.promises.specs.Outcome.{apart}
 use Rattle.promises.specs.Asked.{Room, check-asks, join-asks, compose-asks, ComposableValues, ProductAllowed}
 use Rattle.promises.specs.Answer.{ComposeRight}
 use Rattle.chains.specs.Chain.{values, each-asks, meet-asks, product, Each, Permitted, chain-asks}

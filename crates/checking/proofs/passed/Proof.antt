@@ -8,11 +8,11 @@ use lib.Seq.{length-take-le}
 use Rattle.questions.specs.Joined.{no-before, no-after, all-all}
 use Rattle.questions.specs.Judged.{judged-yes, judged-no}
 use Rattle.sheet.specs.declared.Form.the-variants.{Certificate}
-use Rattle.sheet.specs.declared.Reading.the-variants.{Accepted}
 use Rattle.sheet.specs.Asked.{asked}
 use Rattle.sheet.specs.Ready.{Ready}
 use Rattle.sheet.specs.Ready as R
-use Rattle.sheet.specs.Reading.{Right}
+use Rattle.reading.specs.declared.Reading.the-variants.{Accepted}
+use Rattle.reading.specs.Reading.{Right}
 use Rattle.promises.specs.Asked.{certificate-rules}
 use Rattle.checking.proofs.Coefficients.{front-g, front-n}
 use Rattle.checking.proofs.passed.Statement.{statement}

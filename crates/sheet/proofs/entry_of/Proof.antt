@@ -6,7 +6,7 @@ use Prim.Native.Nat.{_^_, _<_}
 use lib.ListN.{length, getD, List·getD-eq-default}
 use native.Mathlib.Omega.{arith}
 use Rattle.sheet.specs.Word.{valueOf}
-use Rattle.sheet.specs.Header.{entry-at}
+use Rattle.sheet.specs.Entries.{entry-at}
 use Rattle.sheet.proofs.entry_of.Statement.{statement}
 use Rattle.sheet.proofs.entry_of.Tie as tie
 

@@ -3,8 +3,8 @@ use mathlib.Core.Path.{refl, sym, subst}
 use borrow.Author.Needs.{needs}
 use native.Mathlib.Omega.{arith}
 use Rattle.sheet.specs.declared.Form.the-variants.{Question}
-use Rattle.sheet.specs.Reading.{Right}
 use Rattle.sheet.specs.Ready.{Ready, ready}
+use Rattle.reading.specs.Reading.{Right}
 use Rattle.solving.specs.Solved.{Solved}
 use Rattle.solving.proofs.Sheets.{solve-short, solve-unread, solve-right}
 use Rattle.solving.proofs.solve.Statement.{statement}

@@ -7,7 +7,7 @@ use Rattle.questions.specs.Joined.{no-before}
 use Rattle.sheet.specs.declared.Form.the-variants.{Kernel}
 use Rattle.sheet.specs.Values.{valuesOf, gOf}
 use Rattle.sheet.specs.Asked.{asked}
-use Rattle.sheet.specs.Reading.{Right}
+use Rattle.reading.specs.Reading.{Right}
 use Rattle.promises.specs.Asked.{last-ask}
 use Rattle.velu.proofs.kernel.Statement.{statement}
 use Rattle.velu.proofs.kernel.Tie as tie
