@@ -74,7 +74,7 @@ pub fn by_expansion_in(
     ensures { λ r. ⌜ (r ≡ true) ↔ (R3 (Zmod (v .p)) (question v) (poly (v .p) (now (g .entry)))
         (N (Zmod (v .p)) (question v) (poly (v .p) (now (g .entry))))) ⌝ }
 {
-    expansion::power_sums(v, g, e, acc, s, known);
+    power_sums::power_sums(v, g, e, acc, s, known);
     expansion::expansion(v, s, h, known);
     conditions(v, m, h, known, e, acc, squares)
 }

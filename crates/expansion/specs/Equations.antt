@@ -1,23 +1,13 @@
--- The equations of the power sums, one for each place of a sequence, and words that solve such equations: the words before k of a slice solve the equations
--- before k, and one more word, stored at k, that at k. An equation at k reads the sequence up to k.
+-- Words that solve equations, one for each place of a sequence: the words before k of a slice solve the equations before k, and one more word, stored at k,
+-- that at k. An equation at k reads the sequence up to k.
 -- Assumes nothing.
-use mathlib.Core.Path.{_≡_}
 use mathlib.Core.List.{List}
 use Prim.Native.Nat.{ℕ, _<_}
 use lib.ListN.{set}
-use Rattle.ring.specs.Ring.{CRing}
 use Rattle.series.specs.Series.{Seq}
 use Rattle.zmod.specs.Zmod.{Zmod}
 use Rattle.zmod.specs.Residues.{poly}
 use Rattle.slices.specs.Filling.{Filled}
-use Rattle.isogeny.specs.Expansion.{newton-step}
-
-module _ (R : CRing) where
-  -- s obeys Newton's identities, solved for s_k
-  abbrev pub Newton : ℕ → Seq R → Seq R → ℕ → Type 0
-  Newton d g s k = s k ≡ newton-step R d g k s
-
--- ── words
 
 -- the words before k are residues
 abbrev pub ReducedTo : ℕ → List ℕ → ℕ → Type 0

@@ -3,5 +3,4 @@ pub mod Equations
 pub mod Stores
 pub mod Parts
 pub mod Products
-pub mod Sums
 pub mod Begun

@@ -49,13 +49,3 @@ module _ (xs ys : List ℕ) (n : ℕ) (nx : length xs ≡ n + 1) (ny : length ys
       go (no l) =
           let z : getD ys i 0 ≡ 0 = List·getD-eq-default ys 0 (omega arith) in
           omega (arith, h 0)
-
--- all words from a on, and zeros past the end
-pub tail-at : (xs : List ℕ) (a j : ℕ) → getD (take (length xs - a) (drop a xs)) j 0 ≡ getD xs (a + j) 0
-tail-at xs a j = go (decLt j (length xs - a))
-  where
-    go : Dec (j < length xs - a) → getD (take (length xs - a) (drop a xs)) j 0 ≡ getD xs (a + j) 0
-    go (yes l) = getD-take (length xs - a) (drop a xs) j 0 l ∙ getD-drop a xs j 0
-    go (no l) =
-        List·getD-eq-default (take (length xs - a) (drop a xs)) 0 (omega (arith, length-take (length xs - a) (drop a xs)))
-        ∙ sym (List·getD-eq-default xs 0 (omega arith))

@@ -1,23 +1,21 @@
 -- Document 01's sums as coefficients of products of parts: a and b are the sequences from some place on.
 -- Assumes nothing.
 use mathlib.Core.Path.{_≡_, refl, _∙_, ap, ap₂}
-use Prim.Native.Nat.{ℕ, zero, suc, _+_, _*_, _-_, _≤_, _<_}
+use Prim.Native.Nat.{ℕ, zero, suc, _+_, _-_, _≤_, _<_}
 use native.Mathlib.Omega.{arith}
 use mathlib.Core.List.{List}
 use lib.ListN.{length, getD, take, drop}
 use Rattle.ring.specs.Ring
-use Rattle.ring.specs.Ring.{CRing, cast}
+use Rattle.ring.specs.Ring.{CRing}
 use Rattle.series.specs.Series.{Seq, conv, sum, conv-sum, sum-same}
-use Rattle.series.specs.Reversal.{rev}
 use Rattle.zmod.specs.Zmod.{Zmod, times}
 use Rattle.zmod.specs.Residues.{Residue, poly, Residues, residue-same, residues-at}
 use Rattle.expansion.specs.Parts.{part-at}
-use Rattle.isogeny.specs.Expansion.{sum-to, newton-step, expansion, from-sums}
+use Rattle.isogeny.specs.Expansion.{sum-to, expansion, from-sums}
 
 module _ (R : CRing) where
-  open CRing R using (Car, 𝟘, add as _⊕_, mul as _⊗_, neg, add-zero)
+  open CRing R using (Car, mul as _⊗_)
 
-  infixl 65 _⊕_
   infixl 70 _⊗_
   -- a coefficient by its terms
   pub conv-terms : (a b f : Seq R) (n : ℕ) → ((i : ℕ) → i ≤ n → a i ⊗ b (n - i) ≡ f i) → conv R a b n ≡ sum R f (suc n)
@@ -31,18 +29,7 @@ module _ (R : CRing) where
       (λ i m. ap₂ _⊗_ (e i (omega arith) ∙ ap h (omega arith)) (e (k - 3 - i) (omega arith) ∙ ap h (omega arith)))
       ∙ ap (sum R (λ i. h (suc i) ⊗ h (k - 1 - suc i))) (omega arith)
 
-  -- definitions by cases, above 0
-  pub newton-step-at : (d : ℕ) (g s : Seq R) (k : ℕ) → 1 ≤ k
-      → newton-step R d g k s ≡ neg (cast R (2 * k) ⊗ rev R d g k) ⊕ neg (sum-to R (λ i. s i ⊗ rev R d g (k - i)) (k - 1))
-  unfolding newton-step
-  newton-step-at d g s zero l = absurd (omega arith)
-  newton-step-at d g s (suc j) l =
-      ap (λ n. neg (cast R (2 * suc j) ⊗ rev R d g (suc j)) ⊕ neg (sum R (λ i. s (suc i) ⊗ rev R d g (suc j - suc i)) n)) (omega arith)
-
-  pub newton-step-zero : (d : ℕ) (g s : Seq R) → newton-step R d g 0 s ≡ cast R (2 * d)
-  unfolding newton-step
-  newton-step-zero d g s = refl
-
+  -- a definition by cases, above 0
   pub expansion-above : (A B : Car) (s : Seq R) (i : ℕ) → 1 ≤ i → expansion R A B s i ≡ from-sums R A B s i
   expansion-above A B s zero l = absurd (omega arith)
   expansion-above A B s (suc i) l = refl

@@ -14,8 +14,6 @@ use Rattle.series.specs.Series.{Seq}
 use Rattle.series.specs.Recursion.{Before}
 use Rattle.zmod.specs.Zmod.{Elt, Zmod, mk}
 use Rattle.zmod.specs.Residues.{Reduced, poly, poly-at}
-use Rattle.rows.specs.Rows.{Four}
-use Rattle.rows.specs.Room.{each}
 use Rattle.expansion.specs.Equations.{ReducedTo, Solved, Solves}
 
 module _ (p : ℕ) (xs : List ℕ) (k r : ℕ) where
@@ -32,17 +30,6 @@ reduced-all {p} xs n pos le h i = go (decLt i n)
     go : Dec (i < n) → getD xs i 0 < p
     go (yes l) = h i l
     go (no l) = let z : getD xs i 0 ≡ 0 = List·getD-eq-default xs 0 (omega arith) in omega arith
-
--- four words more
-pub reduced-four : (p : ℕ) (xs ys : List ℕ) (i w x y z : ℕ) → Four xs i w x y z ys → w < p → x < p → y < p → z < p → ReducedTo p xs i → ReducedTo p ys (i + 4)
-reduced-four p xs ys i w x y z f lw lx ly lz h j l = go (decLt j i)
-  where
-    go : Dec (j < i) → getD ys j 0 < p
-    go (yes m) = subst (λ t. t < p) (sym (f .before j m)) (h j m)
-    go (no m) =
-        each i (λ j. getD ys j 0 < p) (subst (λ t. t < p) (sym (f .first)) lw) (subst (λ t. t < p) (sym (ap (λ n. getD ys n 0) (omega arith) ∙ f .second)) lx)
-        (subst (λ t. t < p) (sym (ap (λ n. getD ys n 0) (omega arith) ∙ f .third)) ly)
-        (subst (λ t. t < p) (sym (ap (λ n. getD ys n 0) (omega arith) ∙ f .fourth)) lz) j (omega arith) (omega arith)
 
 module _ (p : ℕ) (E : Seq (Zmod p) → ℕ → Type 0) where
   -- the equation at k reads the sequence up to k
@@ -61,20 +48,6 @@ module _ (p : ℕ) (E : Seq (Zmod p) → ℕ → Type 0) where
       go : (j : ℕ) → j < k + 1 → Dec (j < k) → E (poly p (set xs k r)) j
       go j l (yes m) = causal j (poly p xs) (poly p (set xs k r)) (λ i n. sym (stored-before p xs k r i (omega arith))) (h .equations j m)
       go j l (no m) = let e : k ≡ j = omega arith in subst (E (poly p (set xs k r))) e (here .equation)
-
-  pub solved-four : Causal → (xs ys : List ℕ) (i w x y z : ℕ) → Four xs i w x y z ys → w < p → x < p → y < p → z < p
-      → E (poly p ys) i → E (poly p ys) (1 + i) → E (poly p ys) (2 + i) → E (poly p ys) (3 + i) → Solved p E xs i → Solved p E ys (i + 4)
-  solved-four causal xs ys i w x y z f lw lx ly lz a b c d h = record {
-    reduced = reduced-four p xs ys i w x y z f lw lx ly lz (h .reduced);
-    equations = λ j l. go j l (decLt j i);
-  }
-    where
-      before : (n : ℕ) → n < i → poly p xs n ≡ poly p ys n
-      before n m = poly-at p xs n ∙ ap (mk p) (sym (f .before n m)) ∙ sym (poly-at p ys n)
-
-      go : (j : ℕ) → j < i + 4 → Dec (j < i) → E (poly p ys) j
-      go j l (yes m) = causal j (poly p xs) (poly p ys) (λ n k. before n (omega arith)) (h .equations j m)
-      go j l (no m) = each i (E (poly p ys)) a b c d j (omega arith) (omega arith)
 
   pub solved-all : 0 < p → (xs : List ℕ) (n : ℕ) → length xs ≤ n → Solved p E xs n → Reduced p xs
   solved-all pos xs n le h = reduced-all xs n pos le (h .reduced)

@@ -38,7 +38,7 @@ fn completed_in(
     requires { ⌜ (length (now e) ≡ 130) × (length (now acc) ≡ 5) × (length (now s) ≡ 5) × (length (now h) ≡ 3) ⌝ }
     ensures { λ r. ⌜ Completed v (now (g .entry)) r ⌝ }
 {
-    expansion::power_sums(v, g, e, acc, s, 0);
+    power_sums::power_sums(v, g, e, acc, s, 0);
     expansion::expansion(v, s, h, 0);
     let p = v.p;
     let second = g.len() - 2;

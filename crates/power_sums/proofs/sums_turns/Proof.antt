@@ -1,4 +1,4 @@
--- `expansion::sums_turns` meets its contract. Assumes nothing.
+-- `power_sums::sums_turns` meets its contract. Assumes nothing.
 use mathlib.Core.Path.{_≡_, refl, subst}
 use Prim.Native.Nat.{ℕ, _-_, _%_, _≤_}
 use native.Mathlib.Omega.{arith}
@@ -6,10 +6,10 @@ use borrow.Author.Needs.{needs}
 use lib.ListN.{length, getD}
 use Rattle.series.specs.Series.{Seq}
 use Rattle.zmod.specs.Zmod.{Zmod}
 use Rattle.expansion.specs.Equations.{ReducedTo}
-use Rattle.expansion.specs.Sums.{most-due, Negated, Known}
-use Rattle.expansion.proofs.sums_turns.Statement.{statement}
-use Rattle.expansion.proofs.sums_turns.Tie as tie
+use Rattle.power_sums.specs.Sums.{most-due, Negated, Known}
+use Rattle.power_sums.proofs.sums_turns.Statement.{statement}
+use Rattle.power_sums.proofs.sums_turns.Tie as tie
 
 abbrev Inv-loop : tie.InvT-loop
 Inv-loop e d acc₀ s₀ from p i₀ acc s i =

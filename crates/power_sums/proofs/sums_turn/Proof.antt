@@ -1,4 +1,4 @@
--- `expansion::sums_turn` meets its contract. Assumes nothing.
+-- `power_sums::sums_turn` meets its contract. Assumes nothing.
 use mathlib.Core.Path.{sym, _∙_, ap}
 use Prim.Native.Nat.{_+_}
 use native.Mathlib.Omega.{arith}
@@ -6,11 +6,10 @@ use borrow.Author.Needs.{needs}
 use lib.ListN.{getD}
 use Rattle.rows.specs.Sums.{product-le}
 use Rattle.zmod.specs.Zmod.{Zmod, mk}
-use Rattle.expansion.specs.Equations.{Newton}
-use Rattle.expansion.specs.Stores.{solved-four, reduced-four}
-use Rattle.expansion.specs.Sums.{newton-causal, newton₀, newton₁, newton₂, newton₃, due-now}
-use Rattle.expansion.proofs.sums_turn.Statement.{statement}
-use Rattle.expansion.proofs.sums_turn.Tie as tie
+use Rattle.power_sums.specs.Four.{solved-four, reduced-four}
+use Rattle.power_sums.specs.Sums.{Newton, newton-causal, newton₀, newton₁, newton₂, newton₃, due-now}
+use Rattle.power_sums.proofs.sums_turn.Statement.{statement}
+use Rattle.power_sums.proofs.sums_turn.Tie as tie
 
 mul-reduce : tie.Need-mul-reduce
 mul-reduce c = search needs

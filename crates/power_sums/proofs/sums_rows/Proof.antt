@@ -1,15 +1,15 @@
--- `expansion::sums_rows` meets its contract. Assumes nothing.
+-- `power_sums::sums_rows` meets its contract. Assumes nothing.
 use mathlib.Core.Path.{_≡_, _∙_}
 use Prim.Native.Nat.{ℕ, _+_, _-_, _*_, _≤_, _<_, min}
 use native.Mathlib.Omega.{arith}
 use lib.ListN.{length, getD, take, drop, length-take, length-drop}
 use Rattle.slices.specs.Stored.{part-below}
 use Rattle.rows.specs.Rows.{row-le, added-le}
-use Rattle.expansion.specs.Parts.{tail-at}
-use Rattle.expansion.specs.Sums.{most-due, same-rows, due-rows}
+use Rattle.power_sums.specs.Four.{tail-at}
+use Rattle.power_sums.specs.Sums.{most-due, same-rows, due-rows}
 use borrow.Author.Needs.{needs}
-use Rattle.expansion.proofs.sums_rows.Statement.{statement}
-use Rattle.expansion.proofs.sums_rows.Tie as tie
+use Rattle.power_sums.proofs.sums_rows.Statement.{statement}
+use Rattle.power_sums.proofs.sums_rows.Tie as tie
 
 grown : (i a b : ℕ) → 1 ≤ i → a ≤ most-due i → b ≤ a + 4 * (268435455 * 268435455) → b ≤ most-due (i + 4)
 grown i a b l h m = omega arith

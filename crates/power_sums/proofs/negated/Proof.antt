@@ -1,4 +1,4 @@
--- `expansion::negated` meets its contract. Assumes nothing.
+-- `power_sums::negated` meets its contract. Assumes nothing.
 use mathlib.Core.Path.{_≡_, sym, _∙_, ap, subst}
 use Prim.Native.Nat.{_-_, _≤_}
 use native.Mathlib.Omega.{arith}
@@ -8,8 +8,8 @@ use Rattle.slices.specs.Stored.{Stored, stored-none, stored-more}
 use Rattle.zmod.specs.Zmod.{mk, minus}
 use Rattle.zmod.specs.Residues.{Residue}
 use Rattle.rows.specs.Room.{zero-at}
-use Rattle.expansion.proofs.negated.Statement.{statement}
-use Rattle.expansion.proofs.negated.Tie as tie
+use Rattle.power_sums.proofs.negated.Statement.{statement}
+use Rattle.power_sums.proofs.negated.Tie as tie
 
 abbrev Inv-loop : tie.InvT-loop
 Inv-loop g e₀ p d t₀ e t = (d ≡ length g - 1) × (t ≤ d) × Stored (λ j v. Residue p (minus p (mk p (getD g (d - 1 - j) 0))) v) e₀ e t

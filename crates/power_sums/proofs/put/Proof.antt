@@ -1,10 +1,10 @@
--- `expansion::put` meets its contract. Assumes nothing.
+-- `power_sums::put` meets its contract. Assumes nothing.
 use native.Mathlib.Omega.{arith}
 use lib.ListN.{length-set}
 use borrow.Author.Needs.{needs}
 use Rattle.rows.specs.Rows.{put-four}
-use Rattle.expansion.proofs.put.Statement.{statement}
-use Rattle.expansion.proofs.put.Tie as tie
+use Rattle.power_sums.proofs.put.Statement.{statement}
+use Rattle.power_sums.proofs.put.Tie as tie
 
 mul-out : tie.Need-mul-out
 mul-out c = search needs

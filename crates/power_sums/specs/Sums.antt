@@ -2,7 +2,7 @@
 -- Assumes nothing.
 use mathlib.Core.Path.{_≡_, refl, sym, _∙_, ap, ap₂, subst}
 use mathlib.Core.List.{List}
-use Prim.Native.Nat.{ℕ, suc, _+_, _*_, _-_, _^_, _≤_, _<_, min}
+use Prim.Native.Nat.{ℕ, zero, suc, _+_, _*_, _-_, _^_, _≤_, _<_, min}
 use native.Mathlib.Nat as N
 use native.Mathlib.Decide.{decLt}
 use native.Mathlib.Omega.{arith}
@@ -19,10 +19,30 @@ use Rattle.isogeny.specs.Expansion.{sum-to, newton-step, power-sums}
 use Rattle.slices.specs.Stored.{Stored}
 use Rattle.rows.specs.Room.{blank, zero-at}
 use Rattle.rows.specs.Rows.{row-more, RowsAdded, Four}
-use Rattle.expansion.specs.Equations.{Newton, Solved}
+use Rattle.expansion.specs.Equations.{Solved}
 use Rattle.isogeny.specs.Proof.Sums.{newton-local, sums-obey}
 use Rattle.expansion.specs.Stores.{Causal, stored-at, solved-none, solved-more}
-use Rattle.expansion.specs.Products.{newton-step-at, newton-step-zero}
+
+module _ (R : CRing) where
+  open CRing R using (add as _⊕_, mul as _⊗_, neg)
+
+  infixl 65 _⊕_
+  infixl 70 _⊗_
+  -- s obeys Newton's identities, solved for s_k
+  abbrev pub Newton : ℕ → Seq R → Seq R → ℕ → Type 0
+  Newton d g s k = s k ≡ newton-step R d g k s
+
+  -- a definition by cases
+  pub newton-step-at : (d : ℕ) (g s : Seq R) (k : ℕ) → 1 ≤ k
+      → newton-step R d g k s ≡ neg (cast R (2 * k) ⊗ rev R d g k) ⊕ neg (sum-to R (λ i. s i ⊗ rev R d g (k - i)) (k - 1))
+  unfolding newton-step
+  newton-step-at d g s zero l = absurd (omega arith)
+  newton-step-at d g s (suc j) l =
+      ap (λ n. neg (cast R (2 * suc j) ⊗ rev R d g (suc j)) ⊕ neg (sum R (λ i. s (suc i) ⊗ rev R d g (suc j - suc i)) n)) (omega arith)
+
+  pub newton-step-zero : (d : ℕ) (g s : Seq R) → newton-step R d g 0 s ≡ cast R (2 * d)
+  unfolding newton-step
+  newton-step-zero d g s = refl
 
 module _ (R : CRing) (d : ℕ) (g : Seq R) where
   open CRing R using (Car, 𝟘, add as _⊕_, mul as _⊗_, neg)

@@ -1,14 +1,14 @@
--- `expansion::known_rows` meets its contract. The invariant: from `from` on acc has what is due once the words before i are known.
+-- `power_sums::known_rows` meets its contract. The invariant: from `from` on acc has what is due once the words before i are known.
 use mathlib.Core.Path.{_≡_, refl, subst}
 use Prim.Native.Nat.{ℕ, _-_, _%_, _≤_}
 use native.Mathlib.Omega.{arith}
 use lib.ListN.{length, getD}
 use Rattle.series.specs.Series.{Seq}
 use Rattle.zmod.specs.Zmod.{Zmod}
-use Rattle.expansion.specs.Sums.{most-due, Negated, Due}
+use Rattle.power_sums.specs.Sums.{most-due, Negated, Due}
 use borrow.Author.Needs.{needs}
-use Rattle.expansion.proofs.known_rows.Statement.{statement}
-use Rattle.expansion.proofs.known_rows.Tie as tie
+use Rattle.power_sums.proofs.known_rows.Statement.{statement}
+use Rattle.power_sums.proofs.known_rows.Tie as tie
 
 -- Assumes nothing.
 abbrev Inv-loop : tie.InvT-loop

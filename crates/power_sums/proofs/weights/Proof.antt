@@ -1,4 +1,4 @@
--- `expansion::weights` meets its contract. Assumes nothing.
+-- `power_sums::weights` meets its contract. Assumes nothing.
 use mathlib.Core.Path.{_≡_, refl, sym, _∙_, ap, subst}
 use Prim.Native.Nat.{ℕ, _+_, _*_, _-_, _≤_, _<_, min}
 use native.Mathlib.Nat as N
@@ -7,9 +7,9 @@ use borrow.Author.Needs.{needs}
 use lib.ListN.{length, getD}
 use Rattle.slices.specs.Stored.{Stored, stored-more}
 use Rattle.rows.specs.Room.{zero-at}
-use Rattle.expansion.specs.Sums.{weights-all}
-use Rattle.expansion.proofs.weights.Statement.{statement}
-use Rattle.expansion.proofs.weights.Tie as tie
+use Rattle.power_sums.specs.Sums.{weights-all}
+use Rattle.power_sums.proofs.weights.Statement.{statement}
+use Rattle.power_sums.proofs.weights.Tie as tie
 
 abbrev Inv-loop : tie.InvT-loop
 Inv-loop e d acc₀ n k₀ acc k = (n ≡ min (d + 1) (length acc₀)) × (1 ≤ k) × Stored (λ j v. v ≡ 2 * j * getD e (j - 1) 0) acc₀ acc k

@@ -1,4 +1,4 @@
--- `expansion::residue` meets its contract. Assumes nothing.
+-- `power_sums::residue` meets its contract. Assumes nothing.
 use mathlib.Core.Path.{_≡_, sym, _∙_, ap, ap₂, subst}
 use Prim.Native.Nat.{_+_, _*_, _^_, _<_}
 use native.Mathlib.Nat as N
@@ -6,8 +6,8 @@ use native.Mathlib.Omega.{arith}
 use borrow.Author.Needs.{needs}
 use Rattle.zmod.specs.Zmod.{mk}
 use Rattle.zmod.specs.Residues.{Residue}
-use Rattle.expansion.proofs.residue.Statement.{statement}
-use Rattle.expansion.proofs.residue.Tie as tie
+use Rattle.power_sums.proofs.residue.Statement.{statement}
+use Rattle.power_sums.proofs.residue.Tie as tie
 
 wide-requires : tie.Need-wide-requires
 wide-requires c κs = search needs

@@ -1,4 +1,4 @@
--- `expansion::power_sums` meets its contract. Assumes nothing.
+-- `power_sums::power_sums` meets its contract. Assumes nothing.
 use mathlib.Core.Path.{_≡_, sym, _∙_, ap, subst}
 use mathlib.Core.List.{List}
 use Prim.Native.Nat.{ℕ, zero, suc, _+_, _-_, _*_, _/_, _≤_, _<_}
@@ -12,12 +12,10 @@ use Rattle.zmod.specs.Residues.{Residue, poly, residue-same}
 use Rattle.isogeny.specs.Expansion.{power-sums}
 use Rattle.isogeny.specs.Proof.Sums.{sums-step, sums-obey}
 use Rattle.sheet.specs.Values.{half}
-use Rattle.expansion.specs.Equations.{Newton}
 use Rattle.expansion.specs.Stores.{solved-all}
-use Rattle.expansion.specs.Sums.{backwards-reduced, backwards-negated, weights-low, known-first, front-solved}
-use Rattle.expansion.specs.Products.{newton-step-zero}
-use Rattle.expansion.proofs.power_sums.Statement.{statement}
-use Rattle.expansion.proofs.power_sums.Tie as tie
+use Rattle.power_sums.specs.Sums.{Newton, newton-step-zero, backwards-reduced, backwards-negated, weights-low, known-first, front-solved}
+use Rattle.power_sums.proofs.power_sums.Statement.{statement}
+use Rattle.power_sums.proofs.power_sums.Tie as tie
 
 -- the first word, and those that are known
 front : (p d : ℕ) (g : Seq (Zmod p)) (s : List ℕ) (r known from : ℕ) → 1 ≤ length s → from ≤ known + 1 → Residue p (mk p (2 * d)) r
