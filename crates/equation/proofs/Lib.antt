@@ -1,4 +1,1 @@
-pub mod Cubic
-pub mod SideSteps
-pub mod ComparedSides
-pub mod Conditions
+pub mod Words

@@ -1,7 +1,6 @@
 // R3, the equation that takes the domain to the codomain, for a g with R1 and the N that R2 gives: by the expansion at infinity where p > 3ℓ - 3, and
 // coefficient by coefficient below.
 mod short;
-mod sides;
 
 use barrett::Modulus;
 use sheet::Values;
@@ -54,7 +53,7 @@ pub fn rule_three_from(
     ensures { λ r. ⌜ (r ≡ true) ↔ (R3 (Zmod (v .p)) (question v) (poly (v .p) (now (g .entry))) (poly (v .p) (now (n .entry)))) ⌝ }
 {
     if 3 * v.degree - 3 < v.p {
-        short::by_expansion_in(v, m, g, e, acc, s, h, squares, known)
+        conditions::by_expansion_in(v, m, g, e, acc, s, h, squares, known)
     } else {
         sides::compare(v, g, n)
     }

@@ -1,7 +1,7 @@
 -- `equation::rule_three` meets its contract. Assumes nothing.
 use native.Mathlib.Omega.{arith}
 use borrow.Author.Needs.{needs}
-use Rattle.equation.proofs.Conditions.{of-words}
+use Rattle.equation.proofs.Words.{of-words}
 use Rattle.equation.proofs.rule_three.Statement.{statement}
 use Rattle.equation.proofs.rule_three.Tie as tie
 

@@ -1,6 +1,6 @@
 -- `equation::rule_three_from` meets its contract. Assumes nothing.
 use native.Mathlib.Omega.{arith}
-use Rattle.equation.proofs.Conditions.{of-words}
+use Rattle.equation.proofs.Words.{of-words}
 use borrow.Author.Needs.{needs}
 use Rattle.equation.proofs.rule_three_from.Statement.{statement}
 use Rattle.equation.proofs.rule_three_from.Tie as tie

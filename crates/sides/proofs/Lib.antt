@@ -1,0 +1,3 @@
+pub mod Cubic
+pub mod SideSteps
+pub mod ComparedSides
