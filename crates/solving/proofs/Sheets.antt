@@ -1,37 +1,23 @@
 -- From what the reader and the solver of an accepted question answer to what solve answers.
 -- Assumes nothing.
-use mathlib.Core.Path.{refl, subst}
+use mathlib.Core.Path.{refl}
 use mathlib.Core.Logic.{inl, inr}
 use mathlib.Core.List.{List, [], _∷_}
 use Prim.Native.Nat.{ℕ, _<_}
 use native.Mathlib.Omega.{arith}
 use lib.ListN.{length}
-use Rattle.zmod.specs.Zmod.{Zmod}
 use Rattle.zmod.specs.Residues.{poly}
-use Rattle.isogeny.specs.Rules.{Meets}
 use Rattle.questions.specs.Questions.{AllYes, FirstNo}
 use Rattle.questions.specs.Joined.{no-before, no-after, all-all}
 use Rattle.sheet.specs.declared.Form.the-variants.{Question}
-use Rattle.sheet.specs.declared.Values.{Values}
 use Rattle.sheet.specs.Form.{mostWords}
-use Rattle.sheet.specs.Values.{valuesOf, question}
+use Rattle.sheet.specs.Values.{valuesOf}
 use Rattle.sheet.specs.Asked.{asked}
 use Rattle.promises.specs.declared.Written.{Written}
 use Rattle.promises.specs.declared.Written.the-variants.{Count, Refused}
 use Rattle.promises.specs.Asked.{Room, Solvable, solve-asks}
 use Rattle.promises.specs.Answer.{SolveRight}
-use Rattle.certifying.specs.Certified.{Certified}
-use Rattle.candidate.specs.Candidate.{Candidate}
-use Rattle.solving.specs.Solved.{Solved}
-
--- what becomes of the only polynomial that can meet the rules
-pub solved : (v : Values) (h s g before after : List ℕ) → Candidate v h s g → (r : Written) → Certified v g before after r → Solved v before after r
-solved v h s g before after only (Count c) made = made .certificate
-solved v h s g before after only (Refused k) made = record {
-  number = made .number;
-  none = λ t. made .unmet (subst (λ a. Meets (Zmod (v .p)) (question v) a) (only .only (t .g) (t .meets)) (t .meets));
-  kept = made .kept;
-}
+use Rattle.solution.specs.Solved.{Solved}
 
 module _ (ws before : List ℕ) where
   pub solve-short : length before < mostWords → FirstNo (solve-asks ws (length before)) 1

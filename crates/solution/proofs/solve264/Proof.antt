@@ -1,9 +1,9 @@
--- `solving::solve264` meets its contract. Assumes nothing.
+-- `solution::solve264` meets its contract. Assumes nothing.
 use native.Mathlib.Omega.{arith}
 use lib.ListN.{length-take}
 use borrow.Author.Needs.{needs}
-use Rattle.solving.proofs.solve264.Statement.{statement}
-use Rattle.solving.proofs.solve264.Tie as tie
+use Rattle.solution.proofs.solve264.Statement.{statement}
+use Rattle.solution.proofs.solve264.Tie as tie
 
 cast-n : tie.Need-cast-n
 cast-n c = search needs

@@ -1,8 +1,8 @@
--- `solving::solve_values` meets its contract. Assumes nothing.
+-- `solution::solve_values` meets its contract. Assumes nothing.
 use native.Mathlib.Omega.{arith}
 use borrow.Author.Needs.{needs}
-use Rattle.solving.proofs.solve_values.Statement.{statement}
-use Rattle.solving.proofs.solve_values.Tie as tie
+use Rattle.solution.proofs.solve_values.Statement.{statement}
+use Rattle.solution.proofs.solve_values.Tie as tie
 
 solve28-requires : tie.Need-solve28-requires
 solve28-requires c κs =

@@ -1,4 +1,4 @@
--- `solving::solve_in` meets its contract. Assumes nothing.
+-- `solution::solve_in` meets its contract. Assumes nothing.
 use mathlib.Core.Path.{_≡_, sym, _∙_, subst}
 use Prim.Native.Nat.{_-_, _%_}
 use native.Mathlib.Omega.{arith}
@@ -10,10 +10,10 @@ use Rattle.sheet.specs.Values.{half, question}
 use Rattle.sheet.specs.Ready.{HoldsG, HoldsN, degree-half}
 use Rattle.promises.specs.Numerators.{holds-n, whole-numerator}
 use Rattle.expansion.specs.Begun.{Begun}
-use Rattle.solving.proofs.Sheets.{solved}
+use Rattle.solution.proofs.Certified.{solved}
 use borrow.Author.Needs.{needs}
-use Rattle.solving.proofs.solve_in.Statement.{statement}
-use Rattle.solving.proofs.solve_in.Tie as tie
+use Rattle.solution.proofs.solve_in.Statement.{statement}
+use Rattle.solution.proofs.solve_in.Tie as tie
 
 -- ── the places
 
