@@ -20,7 +20,8 @@ use Rattle.promises.specs.declared.Image.{Image}
 use Rattle.promises.specs.declared.Image.the-variants as image
 use Rattle.promises.specs.Asked.{Room, check-asks, Given}
 use Rattle.promises.specs.Answer.{CheckRight, SolveRight, KernelRight, PushRight}
-use Rattle.sagepliers.specs.Entry.{WholeWords, bytes-ask, pointOf, push-number-asks, CheckAnswer, PushAnswer, SolveAnswer, KernelAnswer}
+use Rattle.encoding.specs.Encoding.{pointOf, unpointedOf}
+use Rattle.sagepliers.specs.Entry.{WholeWords, bytes-ask, push-number-asks, CheckAnswer, PushAnswer, SolveAnswer, KernelAnswer}
 
 module _ (bytes : List ℕ) where
   abbrev ws : List ℕ
@@ -57,11 +58,9 @@ module _ (bytes : List ℕ) where
     push-bytes (image.Refused n) even small h = push-no n even small h
 
     -- a number above 2^56, after a certificate that passes, and after one that does not
-    pub push-large : 2 ^ 56 < k → AllYes (bytes-ask bytes) → FirstNo (push-number-asks bytes k) 12
-    push-large large all = no-after (bytes-ask bytes) twelve 12 all (inl (refl, λ both. omega (arith, both .0)))
-
-    pub push-unpassed : (n : ℕ) → FirstNo (bytes-ask bytes) n → FirstNo (push-number-asks bytes k) n
-    push-unpassed n h = no-before (bytes-ask bytes) twelve n h
+    pub push-unpointed : 2 ^ 56 < k → (v : Verdict) → CheckAnswer bytes v → PushAnswer bytes k (unpointedOf v)
+    push-unpointed large verdict.Passes h = no-after (bytes-ask bytes) twelve 12 (h .0) (inl (refl, λ both. omega (arith, both .0)))
+    push-unpointed large (verdict.Refused n) h = no-before (bytes-ask bytes) twelve n h
 
   module _ (before after : List ℕ) where
     pub solve-bytes : (r : Written) → WholeWords bytes → SolveRight ws before after r → SolveAnswer bytes before after r

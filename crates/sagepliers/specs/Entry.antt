@@ -3,10 +3,8 @@
 -- Assumes nothing.
 use mathlib.Core.Path.{_≡_}
 use mathlib.Core.List.{List, [], _∷_, _++_}
-use Prim.Native.Nat.{ℕ, _+_, _*_, _/_, _%_, _^_, _<_, _≤_}
-use lib.Dec.{ltb}
-use lib.ListN.{length, take, drop}
-use mathlib.Core.Bool.{cond}
+use Prim.Native.Nat.{ℕ, _+_, _*_, _%_, _^_, _<_, _≤_}
+use lib.ListN.{length, drop}
 use Rattle.questions.specs.Questions.{Questions}
 use Rattle.questions.specs.Answers.{Answers, Writes}
 use Rattle.sheet.specs.declared.Form.the-variants.{Question, Certificate, Kernel}
@@ -15,13 +13,12 @@ use Rattle.sheet.specs.Values.{valuesOf, gOf, nOf}
 use Rattle.sheet.specs.Asked.{asked}
 use Rattle.promises.specs.declared.Verdict.{Verdict}
 use Rattle.promises.specs.declared.Written.{Written}
-use Rattle.promises.specs.declared.Point.{Point}
-use Rattle.promises.specs.declared.Point.the-variants as point
 use Rattle.promises.specs.declared.Image.{Image}
 use Rattle.promises.specs.declared.Image.the-variants as image
 use Rattle.promises.specs.declared.Named.{Named}
 use Rattle.promises.specs.Outcome.{verdictOutcome, writtenOutcome, imageOutcome, verdictNumber, writtenNumber, imageNumber, nameNumber}
 use Rattle.promises.specs.Asked.{Room, check-asks, Solvable, last-ask, Given}
+use Rattle.encoding.specs.Encoding.{pointOf}
 use Rattle.promises.specs.Answer.{Goes, CertificateIn, KernelIn, SolveRight, KernelRight, ComposeRight, NameRight}
 
 -- question 2 of bytes: they are whole words
@@ -42,10 +39,6 @@ pub record CheckNumber (bytes : List ℕ) (r : ℕ) : Type 0 where
   pub number : r ≡ verdictNumber answer
 
 -- ── push: 12 also asks that the point's number is at most 2^56
-
--- the point that a number up to 2^56 stands for
-abbrev pub pointOf : ℕ → Point
-pointOf k = cond (ltb k (2 ^ 56)) (point.Affine (k % 2 ^ 28) (k / 2 ^ 28)) point.Infinity
 
 abbrev pub push-number-asks : List ℕ → ℕ → Questions
 push-number-asks bytes k = bytes-ask bytes ++ (12, ((k ≤ 2 ^ 56) × Given (valuesOf Certificate (wordsOf bytes)) (pointOf k))) ∷ []
@@ -107,10 +100,3 @@ abbrev pub KernelAnswer : List ℕ → List ℕ → List ℕ → Written → Typ
 KernelAnswer bytes before after r =
     Writes (kernel-bytes-ask bytes (length before))
     (λ count after. KernelIn (valuesOf Kernel (wordsOf bytes)) (gOf Kernel (wordsOf bytes)) before after count) before after (writtenOutcome r)
-
--- ── the words of bytes at the front of a buffer, or the first of them if there is room for no more
-
-pub record Loaded (bytes : List ℕ) (room : ℕ) (after : List ℕ) (count : ℕ) : Type 0 where
-  pub fits : count ≤ length after
-  pub counted : count ≡ length (take count after)
-  pub words : take count after ≡ take room (wordsOf bytes)

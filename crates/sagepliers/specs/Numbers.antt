@@ -31,11 +31,11 @@ use Rattle.promises.specs.Asked.{solve-asks, kernel-asks, name-asks}
 use Rattle.promises.specs.Answer.{Goes, composed, SolveRight, KernelRight, ComposeRight, NameRight}
 use Rattle.sheet.specs.Ready.{half-most}
 use Rattle.services.specs.Compose.{composite-ready}
+use Rattle.encoding.specs.Encoding.{pointOf}
 use Rattle.sagepliers.specs.Entry.{
   bytes-ask,
   CheckAnswer,
   CheckNumber,
-  pointOf,
   push-number-asks,
   PushAnswer,
   PushNumber,

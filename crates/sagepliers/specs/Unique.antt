@@ -37,12 +37,12 @@ use Rattle.services.specs.Kernel.{one-kernel, kernel-unique}
 use Rattle.services.specs.Compose.{compose-unique}
 use Rattle.services.specs.Push.{goes-once}
 use Rattle.services.specs.Name.{name-unique}
+use Rattle.encoding.specs.Encoding.{pointOf}
 use Rattle.sagepliers.specs.Entry.{
   bytes-ask,
   push-number-asks,
   solve-bytes-ask,
   kernel-bytes-ask,
-  pointOf,
   CheckAnswer,
   CheckNumber,
   PushAnswer,

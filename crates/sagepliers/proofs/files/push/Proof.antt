@@ -3,11 +3,12 @@ use borrow.Author.Needs.{needs}
 use native.Mathlib.Omega.{arith}
 use lib.ListN.{take}
 use mathlib.Core.Logic.{inl}
-use mathlib.Core.Path.{refl, subst}
-use Rattle.sagepliers.specs.Entry.{CheckAnswer, pointOf}
+use mathlib.Core.Path.{refl, sym, subst}
+use Rattle.encoding.specs.Encoding.{pointOf}
+use Rattle.sagepliers.specs.Entry.{PushAnswer}
 use Rattle.sagepliers.proofs.Loading.{at-kept}
 use Rattle.sagepliers.proofs.Long.{push-long}
-use Rattle.sagepliers.proofs.Bytes.{push-bytes, push-large, push-unpassed}
+use Rattle.sagepliers.proofs.Bytes.{push-bytes, push-unpointed}
 use Rattle.promises.specs.Answer.{PushRight}
 use Rattle.sagepliers.proofs.files.push.Statement.{statement}
 use Rattle.sagepliers.proofs.files.push.Tie as tie
@@ -15,26 +16,19 @@ use Rattle.sagepliers.proofs.files.push.Tie as tie
 check-requires : tie.Need-check-requires
 check-requires c κs = search needs
 
-enum-known-n : tie.Need-enum-known-n
-enum-known-n c = search needs
-
-enum-told : tie.Need-enum-told
-enum-told c = search needs
+unpointed-requires : tie.Need-unpointed-requires
+unpointed-requires c κs = search needs
 
 returns : tie.Need-returns
 returns c =
-    let start = c .before .before .before .before .before in
-    push-large (start .args .bytes .now) (start .args .point) (omega (arith, c .before .before .before .if1 .taken))
-    (subst (CheckAnswer (start .args .bytes .now)) (c .enum-told .given .1) (c .before .before .check .ensures) .0)
+    let checked = c .before in
+    let start = checked .before .before .before in
+    let bytes = start .args .bytes .now in
+    subst (PushAnswer bytes (start .args .point)) (sym (c .unpointed .ensures))
+    (push-unpointed bytes (start .args .point) (omega (arith, checked .before .if1 .taken)) (checked .check .result) (checked .check .ensures))
 
 returns-2 : tie.Need-returns-2
-returns-2 c =
-    let start = c .before .before .before .before .before .before in
-    push-unpassed (start .args .bytes .now) (start .args .point) (c .before .n .given .0 .0)
-    (subst (CheckAnswer (start .args .bytes .now)) (c .before .n .given .1) (c .before .before .before .check .ensures))
-
-returns-3 : tie.Need-returns-3
-returns-3 c = inl (refl, λ even. omega (arith, even, c .if2 .taken))
+returns-2 c = inl (refl, λ even. omega (arith, even, c .if2 .taken))
 
 blank-requires : tie.Need-blank-requires
 blank-requires c κs = search needs
@@ -57,8 +51,8 @@ point-of-requires c κs = search needs
 push-requires : tie.Need-push-requires
 push-requires c κs = search needs
 
-returns-4 : tie.Need-returns-4
-returns-4 c =
+returns-3 : tie.Need-returns-3
+returns-3 c =
     let kept = c .before .before .before .before in
     let start = kept .before .before .before .before .before .before in
     push-bytes (start .args .bytes .now) (start .args .point) (c .push .result) (omega (arith, kept .before .before .before .if2 .left))
@@ -73,11 +67,9 @@ push-spec =
     tie.close
     (tie.spec
     check-requires
-    enum-known-n
-    enum-told
+    unpointed-requires
     returns
     returns-2
-    returns-3
     blank-requires
     slice-aggregate-keep
     keep-requires
@@ -85,4 +77,4 @@ push-spec =
     slice-aggregate-push
     point-of-requires
     push-requires
-    returns-4)
+    returns-3)

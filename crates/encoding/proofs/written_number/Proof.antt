@@ -1,9 +1,9 @@
--- `sagepliers::written_number` meets its contract. Assumes nothing.
+-- `encoding::written_number` meets its contract. Assumes nothing.
 use borrow.Author.Needs.{needs}
 use mathlib.Core.Path.{_∙_, sym, ap}
 use Rattle.promises.specs.Outcome.{writtenNumber}
-use Rattle.sagepliers.proofs.written_number.Statement.{statement}
-use Rattle.sagepliers.proofs.written_number.Tie as tie
+use Rattle.encoding.proofs.written_number.Statement.{statement}
+use Rattle.encoding.proofs.written_number.Tie as tie
 
 enum-known-written : tie.Need-enum-known-written
 enum-known-written c = search needs

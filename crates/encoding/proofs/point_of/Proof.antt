@@ -1,11 +1,11 @@
--- `sagepliers::files::point_of` meets its contract. Assumes nothing.
+-- `encoding::point_of` meets its contract. Assumes nothing.
 use borrow.Author.Needs.{needs}
 use borrow.Author.Tests.{lt-ltb, le-ltb}
 use native.Mathlib.Omega.{arith}
 use mathlib.Core.Path.{refl}
 use Prim.Native.Nat.{_^_}
-use Rattle.sagepliers.proofs.files.point_of.Statement.{statement}
-use Rattle.sagepliers.proofs.files.point_of.Tie as tie
+use Rattle.encoding.proofs.point_of.Statement.{statement}
+use Rattle.encoding.proofs.point_of.Tie as tie
 
 returns : tie.Need-returns
 returns c = rw (le-ltb (c .before .args .k) (2 ^ 56) (omega arith))

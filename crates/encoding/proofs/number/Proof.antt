@@ -1,4 +1,4 @@
--- `sagepliers::files::number` meets its contract. Assumes nothing.
+-- `encoding::number` meets its contract. Assumes nothing.
 use mathlib.Core.Path.{_≡_, _∙_, ap, ap₂}
 use mathlib.Core.List.{List}
 use Prim.Native.Nat.{ℕ, _+_, _*_, _/_, _^_, _<_, _≤_}
@@ -8,8 +8,8 @@ use lib.ListN.{length, getD, take}
 use lib.Seq.{getD-take}
 use Rattle.slices.specs.Filling.{getD-tab}
 use Rattle.sheet.specs.Word.{wordAt, wordsOf}
-use Rattle.sagepliers.proofs.files.number.Statement.{statement}
-use Rattle.sagepliers.proofs.files.number.Tie as tie
+use Rattle.encoding.proofs.number.Statement.{statement}
+use Rattle.encoding.proofs.number.Tie as tie
 
 -- the words of eight bytes or more
 front : (bytes : List ℕ) (i : ℕ) → 8 ≤ length bytes → i < 2 → getD (take 2 (wordsOf bytes)) i 0 ≡ wordAt bytes i

@@ -1,10 +1,10 @@
--- `sagepliers::files::keep` meets its contract. Assumes nothing.
+-- `encoding::keep` meets its contract. Assumes nothing.
 use borrow.Author.Needs.{needs}
 use native.Mathlib.Omega.{arith}
 use lib.ListN.{length-take}
-use Rattle.sagepliers.proofs.Loading.{loaded}
-use Rattle.sagepliers.proofs.files.keep.Statement.{statement}
-use Rattle.sagepliers.proofs.files.keep.Tie as tie
+use Rattle.encoding.proofs.Loading.{loaded}
+use Rattle.encoding.proofs.keep.Statement.{statement}
+use Rattle.encoding.proofs.keep.Tie as tie
 
 least-requires : tie.Need-least-requires
 least-requires c κs = search needs
