@@ -8,8 +8,7 @@ use Rattle.series.specs.Series.{Seq, sum-same}
 use Rattle.series.specs.Recursion.{Before}
 use Rattle.isogeny.specs.Rules.{Question}
 use Rattle.isogeny.specs.Expansion.{sum-to, from-sums}
-use Rattle.isogeny.specs.Proof.Terms.{recurrence-same}
-use Rattle.candidate.specs.Equations.{HAt, SAt, CAt}
+use Rattle.candidate.specs.Equations.{SAt, CAt}
 
 module _ (R : CRing) where
   open CRing R using (Car, mul as _⊗_, neg)
@@ -17,16 +16,6 @@ module _ (R : CRing) where
   infixl 70 _⊗_
   module _ (q : Question R) where
     open Question q using (A, B)
-
-    pub h-causal : (k : ℕ) (a b : Seq R) → Before Car (suc k) a b → HAt R q a k → HAt R q b k
-    h-causal k a b e x = record {
-      zero = λ z. sym (e 0 (omega arith)) ∙ x .zero z;
-      first = λ z. ap (λ y. cast R 5 ⊗ y) (sym (e 1 (omega arith))) ∙ x .first z;
-      second = λ z. ap (λ y. cast R 7 ⊗ y) (sym (e 2 (omega arith))) ∙ x .second z;
-      more = λ l.
-          ap (λ y. cast R (k - 2) ⊗ cast R (2 * k + 3) ⊗ y) (sym (e k (omega arith))) ∙ x .more l
-          ∙ recurrence-same R A B k l a b (λ i m. e i (omega arith));
-    }
 
     from-sums-same : (i : ℕ) (a b : Seq R) → Before Car (suc (suc i)) a b → from-sums R A B a i ≡ from-sums R A B b i
     from-sums-same i a b e = cc (e (i + 1) (omega arith), e (i - 1) (omega arith), e (i - 2) (omega arith))

@@ -22,7 +22,8 @@ use Rattle.sheet.specs.declared.Values.{Values}
 use Rattle.sheet.specs.Values.{half, question}
 use Rattle.candidate.specs.Candidate.{Candidate}
 use Rattle.sheet.specs.Ready.{Ready, half-least, degree-half}
-use Rattle.candidate.specs.Equations.{HAt, SAt, CAt}
+use Rattle.recurrence.specs.Equations.{HAt}
+use Rattle.candidate.specs.Equations.{SAt, CAt}
 use Rattle.expansion.specs.Begun.{ShortTo, short-to-same, sums-of, terms-of}
 use Rattle.expansion.specs.Equations.{Solved}
 use Rattle.expansion.specs.Stores.{solved-all}

@@ -1,24 +1,16 @@
--- The equations of what solving computes, one for each place of a sequence. An equation at k reads the sequence up to k.
+-- The equations of what solving computes from the expansion h, one for each place of a sequence. (Those of h: `recurrence/specs/Equations`.) An equation at
+-- k reads the sequence up to k.
 -- Assumes nothing.
 use mathlib.Core.Path.{_≡_}
-use Prim.Native.Nat.{ℕ, suc, _*_, _-_, _≤_, _<_}
+use Prim.Native.Nat.{ℕ, suc, _*_, _-_, _≤_}
 use Rattle.ring.specs.Ring.{CRing, cast}
 use Rattle.series.specs.Series.{Seq, sum}
-use Rattle.zmod.specs.Zmod.{mk, times}
 use Rattle.isogeny.specs.Rules.{Question}
-use Rattle.isogeny.specs.Expansion.{Newton, Recurs, from-sums}
+use Rattle.isogeny.specs.Expansion.{Newton, from-sums}
 
 module _ (R : CRing) where
   module _ (q : Question R) where
-    open Question q using (A, B, Ã, B̃, d, σ)
-    open CRing R using (𝟘, 𝟙, add, mul, neg)
-
-    -- h from the codomain
-    pub record HAt (h : Seq R) (k : ℕ) : Type 0 where
-      pub zero : k ≡ 0 → h 0 ≡ 𝟘
-      pub first : k ≡ 1 → mul (cast R 5) (h 1) ≡ add A (neg Ã)
-      pub second : k ≡ 2 → mul (cast R 7) (h 2) ≡ add B (neg B̃)
-      pub more : 3 ≤ k → Recurs R A B h k
+    open Question q using (A, B, d, σ)
 
     -- s from h and σ
     pub record SAt (h s : Seq R) (k : ℕ) : Type 0 where
@@ -34,8 +26,3 @@ module _ (R : CRing) where
   -- Newton's sum at k without the term that waits for c_(k − 1): s_i c_(k − i), i from 2 to k
   abbrev pub far : Seq R → Seq R → ℕ → R .Car
   far s c k = sum R (λ i. R .mul (s (suc (suc i))) (c (k - suc (suc i)))) (k - 1)
-
--- r is y / k
-pub record Quotient (p k y r : ℕ) : Type 0 where
-  pub below : r < p
-  pub product : times p (mk p k) (mk p r) ≡ mk p y

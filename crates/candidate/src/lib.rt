@@ -1,13 +1,12 @@
-// The one polynomial that can meet the rules for a question: from the codomain the expansion at infinity by document 01's recurrence, from it the power
-// sums, from them the coefficients. Each loop fills a slice from the front, a word a turn, by a function that solves the equation at that place from
-// the words before it.
+// The one polynomial that can meet the rules for a question: from the curves the expansion at infinity (crate `recurrence`), from it and σ the power sums,
+// from them the coefficients. Each loop fills a slice from the front, a word a turn, by a function that solves the equation at that place from the words
+// before it.
 use sheet::Values;
 ghost use mathlib.Core.Path.{_≡_};
-ghost use mathlib.Core.List.{List};
-ghost use Prim.Native.Nat.{ℕ, _+_, _-_, _*_, _^_, _<_, _≤_, min};
+ghost use Prim.Native.Nat.{_+_, _-_, _*_, _^_, _<_, _≤_};
 ghost use lib.ListN.{length};
 ghost use Rattle.series.specs.Series.{Seq};
-ghost use Rattle.zmod.specs.Zmod.{Zmod, mk, minus};
+ghost use Rattle.zmod.specs.Zmod.{Zmod, minus};
 ghost use Rattle.zmod.specs.Residues.{Residue, Reduced, poly};
 ghost use Rattle.field.specs.Inverse.{Inverses};
 ghost use Rattle.sheet.specs.Values.{half, question};
@@ -15,90 +14,7 @@ ghost use Rattle.sheet.specs.Ready.{Ready};
 ghost use Rattle.expansion.specs.Multiple.{Multiple};
 ghost use Rattle.expansion.specs.Equations.{ReducedTo, Solved, Solves};
 ghost use Rattle.candidate.specs.Candidate.{Candidate};
-ghost use Rattle.candidate.specs.Equations.{HAt, SAt, CAt, Quotient, far};
-
-// y / k, by the table of inverses.
-fn divide(y: u32, k: usize, table: &[u32], p: u32) -> u32
-    requires { ⌜ (0 < p) × (0 < k) × (k < length (now table)) × Inverses p (now table) ⌝ }
-    ensures { λ r. ⌜ Quotient p k y r ⌝ }
-{
-    field::multiply(table[k], y, p)
-}
-
-// -2a
-fn minus_twice(a: u32, p: u32) -> u32
-    requires { ⌜ (a < p) × (p ≤ 2 ^ 28) ⌝ }
-    ensures { λ r. ⌜ Multiple p 2 (minus p (mk p a)) r ⌝ }
-{
-    let n = field::negate(a, p);
-    field::add(n, n, p)
-}
-
-// h_k for k up to 2: h₀ = 0, 5h₁ = A - Ã, 7h₂ = B - B̃. (At 2 the recurrence's left side is 0.)
-fn first_h(v: Values, table: &[u32], k: usize) -> u32
-    requires { ⌜ Ready v ⌝ }
-    requires { ⌜ Inverses (v .p) (now table) × (2 * half v + 1 < length (now table)) ⌝ }
-    requires { ⌜ (k < 3) × (k < half v) ⌝ }
-    ensures { λ r. ⌜ ((h : List ℕ) → k < length h → Solves (v .p) (HAt (Zmod (v .p)) (question v)) h k r) ⌝ }
-{
-    let p = v.p;
-    if k == 0 {
-        return 0;
-    }
-    if k == 1 {
-        return divide(field::subtract(v.a, v.atilde, p), 5, table, p);
-    }
-    divide(field::subtract(v.b, v.btilde, p), 7, table, p)
-}
-
-// The words before 3, as many of them as there are.
-fn begin_h(v: Values, table: &[u32], h: &mut [u32])
-    requires { ⌜ Ready v ⌝ }
-    requires { ⌜ Inverses (v .p) (now table) × (2 * half v + 1 < length (now table)) × (length (now h) ≤ half v) ⌝ }
-    ensures { λ _. ⌜ Solved (v .p) (HAt (Zmod (v .p)) (question v)) (now (h .exit)) (min 3 (length (now (h .entry)))) ⌝ }
-{
-    let n = rows::least(3, h.len());
-    let mut k = 0;
-    while k < n {
-        h[k] = first_h(v, table, k);
-        k += 1;
-    }
-}
-
-// h_k by the recurrence, divided by k - 2: (2k + 3)h_k = 3x/(k - 2) + y h_(k-2) + z h_(k-3), where x is its sum, y = -(2k - 3)A and z = -(2k - 6)B.
-fn next_h(v: Values, table: &[u32], h: &[u32], k: usize, y: u32, z: u32) -> u32
-    requires { ⌜ Ready v ⌝ }
-    requires { ⌜ Inverses (v .p) (now table) × (2 * half v + 1 < length (now table)) ⌝ }
-    requires { ⌜ (3 ≤ k) × (k < half v) × (k < length (now h)) × ReducedTo (v .p) (now h) k ⌝ }
-    requires { ⌜ (Multiple (v .p) (2 * k - 3) (minus (v .p) (question v .A)) y) × (Multiple (v .p) (2 * k - 6) (minus (v .p) (question v .B)) z) ⌝ }
-    ensures { λ r. ⌜ Solves (v .p) (HAt (Zmod (v .p)) (question v)) (now (h .entry)) k r ⌝ }
-{
-    let p = v.p;
-    let x = expansion::square_sum(h, k, p);
-    let w = expansion::weighted(3 * table[k - 2], x, y, h[k - 2], z, h[k - 3], p);
-    divide(w, 2 * k + 3, table, p)
-}
-
-// The multiples of A and B are added up, so that they take no remainder.
-fn fill_h(v: Values, table: &[u32], h: &mut [u32])
-    requires { ⌜ Ready v ⌝ }
-    requires { ⌜ Inverses (v .p) (now table) × (2 * half v + 1 < length (now table)) × (length (now h) ≤ half v) ⌝ }
-    ensures { λ r. ⌜ Solved (v .p) (HAt (Zmod (v .p)) (question v)) (now (h .exit)) (length (now (h .entry))) ⌝ }
-{
-    let p = v.p;
-    let a = minus_twice(v.a, p);
-    let b = minus_twice(v.b, p);
-    begin_h(v, table, h);
-    let mut k = 3;
-    let mut y = field::add(a, field::negate(v.a, p), p);
-    let mut z = 0;
-    while k < h.len() {
-        h[k] = next_h(v, table, h, k, y, z);
-        y = field::add(y, a, p);
-        z = field::add(z, b, p);
-        k += 1;
-    }
-}
+ghost use Rattle.candidate.specs.Equations.{SAt, CAt, far};
 
 // s₀ = ℓ - 1 and s₁ = σ.
 fn begin_s(v: Values, s: &mut [u32])
@@ -121,7 +37,7 @@ fn next_s(v: Values, table: &[u32], h: &[u32], s: &[u32], i: usize, y: u32, z: u
 {
     let p = v.p;
     let w = expansion::weighted(1, h[i], y, s[i - 1], z, s[poly::over(i, 2)], p);
-    divide(w, 2 * i + 1, table, p)
+    recurrence::divide(w, 2 * i + 1, table, p)
 }
 
 fn fill_s(v: Values, table: &[u32], h: &[u32], s: &mut [u32])
@@ -131,8 +47,8 @@ fn fill_s(v: Values, table: &[u32], h: &[u32], s: &mut [u32])
     ensures { λ r. ⌜ Solved (v .p) (SAt (Zmod (v .p)) (question v) (poly (v .p) (now (h .entry)))) (now (s .exit)) (length (now (s .entry))) ⌝ }
 {
     let p = v.p;
-    let a = minus_twice(v.a, p);
-    let b = minus_twice(v.b, p);
+    let a = recurrence::minus_twice(v.a, p);
+    let b = recurrence::minus_twice(v.b, p);
     begin_s(v, s);
     let mut i = 1;
     let mut y = field::negate(v.a, p);
@@ -202,7 +118,7 @@ fn solution(
     ensures { λ r. ⌜ Candidate v (now (h .exit)) (now (s .exit)) (now (g .exit)) ⌝ }
 {
     field::inverses(table, v.p);
-    fill_h(v, table, h);
+    recurrence::expansion_of_curves(v, table, h);
     fill_s(v, table, h, s);
     fill_c(v, table, s, c);
     expansion::reverse(c, g);

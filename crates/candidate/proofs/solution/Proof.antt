@@ -3,7 +3,8 @@ use mathlib.Core.Path.{_∙_, subst}
 use native.Mathlib.Omega.{arith}
 use lib.ListN.{length}
 use borrow.Author.Needs.{needs}
-use Rattle.candidate.specs.Equations.{HAt, SAt, CAt}
+use Rattle.recurrence.specs.Equations.{HAt}
+use Rattle.candidate.specs.Equations.{SAt, CAt}
 use Rattle.expansion.specs.Equations.{Solved}
 use Rattle.candidate.proofs.Only.{answer}
 use Rattle.expansion.specs.Stores.{solved-all}
@@ -18,10 +19,10 @@ use Rattle.candidate.proofs.solution.Tie as tie
 abbrev start : tie.After-inverses → tie.Start
 start c = c .before .before .before .before .before .before .before
 
-abbrev inverted : tie.After-fill-h → tie.After-inverses
+abbrev inverted : tie.After-expansion-of-curves → tie.After-inverses
 inverted c = c .before .before .before .before .before
 
-abbrev with-h : tie.After-fill-s → tie.After-fill-h
+abbrev with-h : tie.After-fill-s → tie.After-expansion-of-curves
 with-h c = c .before .before .before .before .before .before
 
 abbrev with-s : tie.After-fill-c → tie.After-fill-s
@@ -34,8 +35,8 @@ inverses-requires c κs =
     let s = c .before .before .before .before .before .before in
     (s .pre .0 .prime .prime, omega arith)
 
-fill-h-requires : tie.Need-fill-h-requires
-fill-h-requires c κs =
+expansion-of-curves-requires : tie.Need-expansion-of-curves-requires
+expansion-of-curves-requires c κs =
     let first = c .before .before .before .before in
     let table = first .inverses in
     (start first .pre .0, (table .ensures, omega (arith, table .kept .0), omega arith))
@@ -47,7 +48,7 @@ fill-s-requires c κs =
     let begin = start first in
     let a = begin .args in
     let table = first .inverses in
-    let h = second .fill-h in (
+    let h = second .expansion-of-curves in (
       begin .pre .0,
       (
         (table .ensures, omega (arith, begin .pre, table .kept .0)),
@@ -68,7 +69,7 @@ fill-c-requires c κs =
     let begin = start first in
     let a = begin .args in
     let table = first .inverses in
-    let h = second .fill-h in
+    let h = second .expansion-of-curves in
     let s = third .fill-s in (
       begin .pre .0,
       (
@@ -109,7 +110,7 @@ returns c =
     let a = begin .args in
     let v = a .v in
     let p = v .p in
-    let h = second .fill-h in
+    let h = second .expansion-of-curves in
     let s = third .fill-s in
     let k = fourth .fill-c in
     let g = c .before .before .reverse in
@@ -124,7 +125,7 @@ solution-spec =
     tie.close
     (tie.spec
     inverses-requires
-    fill-h-requires
+    expansion-of-curves-requires
     fill-s-requires
     fill-c-requires
     reverse-requires

@@ -1,9 +1,9 @@
--- `candidate::divide` meets its contract. Assumes nothing.
+-- `recurrence::divide` meets its contract. Assumes nothing.
 use lib.ListN.{getD}
 use borrow.Author.Needs.{needs}
-use Rattle.candidate.proofs.EquationTurns.{quotient-is}
-use Rattle.candidate.proofs.divide.Statement.{statement}
-use Rattle.candidate.proofs.divide.Tie as tie
+use Rattle.recurrence.proofs.EquationTurns.{quotient-is}
+use Rattle.recurrence.proofs.divide.Statement.{statement}
+use Rattle.recurrence.proofs.divide.Tie as tie
 
 mul-multiply : tie.Need-mul-multiply
 mul-multiply c = search needs

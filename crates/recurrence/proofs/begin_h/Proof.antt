@@ -1,4 +1,4 @@
--- `candidate::begin_h` meets its contract. The invariant: the words before k solve their equations. Assumes nothing.
+-- `recurrence::begin_h` meets its contract. The invariant: the words before k solve their equations. Assumes nothing.
 use mathlib.Core.Path.{_≡_, subst}
 use Prim.Native.Nat.{_-_, _≤_, _<_, min}
 use native.Mathlib.Omega.{arith}
@@ -6,12 +6,12 @@ use lib.ListN.{length, length-set}
 use borrow.Author.Needs.{needs}
 use Rattle.zmod.specs.Zmod.{Zmod}
 use Rattle.sheet.specs.Values.{question}
-use Rattle.candidate.specs.Equations.{HAt}
+use Rattle.recurrence.specs.Equations.{HAt}
 use Rattle.expansion.specs.Equations.{Solved}
 use Rattle.expansion.specs.Stores.{solved-none, solved-more}
-use Rattle.candidate.proofs.Causal.{h-causal}
-use Rattle.candidate.proofs.begin_h.Statement.{statement}
-use Rattle.candidate.proofs.begin_h.Tie as tie
+use Rattle.recurrence.proofs.Causal.{h-causal}
+use Rattle.recurrence.proofs.begin_h.Statement.{statement}
+use Rattle.recurrence.proofs.begin_h.Tie as tie
 
 abbrev Inv-loop : tie.InvT-loop
 Inv-loop v table h₀ n k₀ h k = (length h ≡ length h₀) × (k ≤ n) × Solved (v .p) (HAt (Zmod (v .p)) (question v)) h k
@@ -33,7 +33,7 @@ loop-holds c =
 first-h-requires : tie.Need-first-h-requires Inv-loop μ-loop
 first-h-requires c κs =
     let begin = start (c .before) in
-    (begin .pre .0, ((begin .pre .1 .0, begin .pre .1 .1), (omega arith, omega arith)))
+    (begin .pre .0, ((begin .pre .1 .0, omega arith), omega arith))
 
 mul-h : tie.Need-mul-h Inv-loop μ-loop
 mul-h c = search needs

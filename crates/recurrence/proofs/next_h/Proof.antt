@@ -1,12 +1,12 @@
--- `candidate::next_h` meets its contract. Assumes nothing.
+-- `recurrence::next_h` meets its contract. Assumes nothing.
 use native.Mathlib.Omega.{arith}
 use Prim.Native.Nat.{_-_}
 use lib.ListN.{getD}
 use borrow.Author.Needs.{needs}
 use Rattle.sheet.specs.Values.{question}
-use Rattle.candidate.proofs.EquationTurns.{h-more}
-use Rattle.candidate.proofs.next_h.Statement.{statement}
-use Rattle.candidate.proofs.next_h.Tie as tie
+use Rattle.recurrence.proofs.EquationTurns.{h-more}
+use Rattle.recurrence.proofs.next_h.Statement.{statement}
+use Rattle.recurrence.proofs.next_h.Tie as tie
 
 abbrev start : tie.After-square-sum → tie.Start
 start c = c .before .before .before

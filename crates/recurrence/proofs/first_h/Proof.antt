@@ -1,12 +1,12 @@
--- `candidate::first_h` meets its contract. Assumes nothing.
+-- `recurrence::first_h` meets its contract. Assumes nothing.
 use mathlib.Core.Path.{_≡_}
 use Prim.Native.Nat.{ℕ, _<_}
 use native.Mathlib.Omega.{arith}
 use borrow.Author.Needs.{needs}
 use Rattle.sheet.specs.Values.{question}
-use Rattle.candidate.proofs.EquationTurns.{h-zero, h-first, h-second}
-use Rattle.candidate.proofs.first_h.Statement.{statement}
-use Rattle.candidate.proofs.first_h.Tie as tie
+use Rattle.recurrence.proofs.EquationTurns.{h-zero, h-first, h-second}
+use Rattle.recurrence.proofs.first_h.Statement.{statement}
+use Rattle.recurrence.proofs.first_h.Tie as tie
 
 returns : tie.Need-returns
 returns c =
@@ -38,7 +38,7 @@ left : (c : tie.Else2) → c .before .before .before .args .k ≡ 2
 left c =
     let at-if1 = c .before in
     let start = at-if1 .before .before in
-    two (start .args .k) (start .pre .1 .1 .0) (at-if1 .if1 .left) (c .if2 .left)
+    two (start .args .k) (start .pre .1 .1) (at-if1 .if1 .left) (c .if2 .left)
 
 subtract-requires-2 : tie.Need-subtract-requires-2
 subtract-requires-2 c κs = search needs

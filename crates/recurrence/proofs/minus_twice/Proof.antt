@@ -1,10 +1,10 @@
--- `candidate::minus_twice` meets its contract. Assumes nothing.
+-- `recurrence::minus_twice` meets its contract. Assumes nothing.
 use mathlib.Core.Path.{refl}
 use borrow.Author.Needs.{needs}
 use Rattle.zmod.specs.Zmod.{mk, minus}
 use Rattle.expansion.specs.Multiple.{once, both}
-use Rattle.candidate.proofs.minus_twice.Statement.{statement}
-use Rattle.candidate.proofs.minus_twice.Tie as tie
+use Rattle.recurrence.proofs.minus_twice.Statement.{statement}
+use Rattle.recurrence.proofs.minus_twice.Tie as tie
 
 negate-requires : tie.Need-negate-requires
 negate-requires c κs = search needs

@@ -1,4 +1,4 @@
--- `candidate::fill_h` meets its contract. The invariant: the words before k solve their equations, and y and z are the multiples of −A and −B for k.
+-- `recurrence::expansion_of_curves` meets its contract. The invariant: the words before k solve their equations, and y and z are the multiples of −A and −B for k.
 -- Assumes nothing.
 use mathlib.Core.Path.{_≡_, refl, sym, _∙_, subst}
 use Prim.Native.Nat.{_+_, _-_, _*_, _≤_, _<_, min}
@@ -7,13 +7,13 @@ use lib.ListN.{length, set, length-set}
 use borrow.Author.Needs.{needs}
 use Rattle.zmod.specs.Zmod.{Zmod, minus}
 use Rattle.sheet.specs.Values.{question}
-use Rattle.candidate.specs.Equations.{HAt}
+use Rattle.recurrence.specs.Equations.{HAt}
 use Rattle.expansion.specs.Multiple.{Multiple, none, once, both}
 use Rattle.expansion.specs.Equations.{Solved}
 use Rattle.expansion.specs.Stores.{solved-more}
-use Rattle.candidate.proofs.Causal.{h-causal}
-use Rattle.candidate.proofs.fill_h.Statement.{statement}
-use Rattle.candidate.proofs.fill_h.Tie as tie
+use Rattle.recurrence.proofs.Causal.{h-causal}
+use Rattle.recurrence.proofs.expansion_of_curves.Statement.{statement}
+use Rattle.recurrence.proofs.expansion_of_curves.Tie as tie
 
 abbrev Inv-loop : tie.InvT-loop
 Inv-loop v table h₀ p a b k₀ y₀ z₀ h k y z =
@@ -51,7 +51,7 @@ minus-twice-requires-2 c κs = search needs
 begin-h-requires : tie.Need-begin-h-requires Inv-loop μ-loop
 begin-h-requires c κs =
     let begin = start (c .before .before) in
-    (begin .pre .0, begin .pre .1)
+    (begin .pre .0, (begin .pre .1 .0, begin .pre .1 .1))
 
 negate-requires : tie.Need-negate-requires Inv-loop μ-loop
 negate-requires c κs = search needs
@@ -85,7 +85,7 @@ next-h-requires c κs =
     let size = first .begin-h .kept .1 .1 .0 in (
       begin .pre .0,
       (
-        (begin .pre .1 .0, begin .pre .1 .1),
+        (begin .pre .1 .0, omega (arith, size)),
         ((omega arith, omega (arith, size), omega arith, λ j l. inv .2 .reduced j (omega arith)), (inv .3, inv .4)),
       ),
     )
@@ -154,8 +154,8 @@ returns c =
     let end : min (loop .k) (length (loop .h)) ≡ length (a .h .now) = omega (arith, first .begin-h .kept .1 .1 .0) in
     subst (Solved p (HAt (Zmod p) (question (a .v))) (loop .h)) end (loop .inv .2)
 
-pub fill-h-spec : {M : Type 1} → statement M
-fill-h-spec =
+pub expansion-of-curves-spec : {M : Type 1} → statement M
+expansion-of-curves-spec =
     tie.close
     (tie.spec
     Inv-loop
