@@ -23,6 +23,7 @@ use Rattle.sheet.specs.Values.{half, question}
 use Rattle.candidate.specs.Candidate.{Candidate}
 use Rattle.sheet.specs.Ready.{Ready, half-least, degree-half}
 use Rattle.recurrence.specs.Equations.{HAt}
+use Rattle.recurrence.specs.Expands.{zeroth, first, second, recurs}
 use Rattle.candidate.specs.Equations.{SAt, CAt}
 use Rattle.expansion.specs.Begun.{ShortTo, short-to-same, sums-of, terms-of}
 use Rattle.expansion.specs.Equations.{Solved}
@@ -37,10 +38,10 @@ module _ {p : ℕ} (q : Question (Zmod p)) (d≥1 : 1 ≤ q .d) (h s c g : List 
 
   computed : Computed (Zmod p) q (poly p h) (poly p s) (poly p c)
   computed = record {
-    h-zero = hs .equations 0 (omega arith) .zero refl;
-    h-first = λ l. hs .equations 1 l .first refl;
-    h-second = λ l. hs .equations 2 l .second refl;
-    h-more = λ k l m. hs .equations k m .more l;
+    h-zero = zeroth hs (omega arith);
+    h-first = first hs;
+    h-second = second hs;
+    h-more = recurs hs;
     s-zero = ss .equations 0 (omega arith) .zero refl;
     s-one = ss .equations 1 (omega arith) .one refl;
     s-more = λ i l m.
