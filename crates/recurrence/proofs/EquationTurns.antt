@@ -31,7 +31,7 @@ quotient-is p k y t r i h = record {
       ∙ Ring.one-mul (Zmod p) (mk p y);
 }
 
--- ── h from the codomain
+-- ── h from the two curves
 
 module _ (p : ℕ) (q : Question (Zmod p)) (h : List ℕ) (k : ℕ) (inside : k < length h) where
   open Question q using (A, B, Ã, B̃)

@@ -13,7 +13,7 @@ module _ (R : CRing) (q : Question R) where
   open Question q using (A, B, Ã, B̃)
   open CRing R using (𝟘, add, mul, neg)
 
-  -- h from the codomain
+  -- h from the two curves
   pub record HAt (h : Seq R) (k : ℕ) : Type 0 where
     pub zero : k ≡ 0 → h 0 ≡ 𝟘
     pub first : k ≡ 1 → mul (cast R 5) (h 1) ≡ add A (neg Ã)

@@ -1,4 +1,5 @@
--- `recurrence::expansion_of_curves` meets its contract. The invariant: the words before k solve their equations, and y and z are the multiples of −A and −B for k.
+-- `recurrence::expansion_of_curves` meets its contract. The invariant: the words before k solve their equations, and y and z are the multiples of −A and −B
+-- for k.
 -- Assumes nothing.
 use mathlib.Core.Path.{_≡_, refl, sym, _∙_, subst}
 use Prim.Native.Nat.{_+_, _-_, _*_, _≤_, _<_, min}
