@@ -2,7 +2,6 @@
 use promises::Written;
 use reading::Reading;
 use sheet::Form;
-use sheet::Reading;
 ghost use Rattle.promises.specs.Answer.{SolveRight};
 
 // The certificate for a question, in the answer; or the number of the first of questions 1 to 7 and 11 with a no, and then the answer is as it was.

@@ -4,6 +4,7 @@ use borrow.Author.Needs.{needs}
 use native.Mathlib.Omega.{arith}
 use Rattle.sheet.specs.declared.Form.the-variants.{Question}
 use Rattle.sheet.specs.Ready.{Ready, ready}
+use Rattle.reading.specs.Reading.{Right}
 use Rattle.solution.specs.Solved.{Solved}
 use Rattle.solving.proofs.Sheets.{solve-short, solve-unread, solve-right}
 use Rattle.solving.proofs.solve.Statement.{statement}
