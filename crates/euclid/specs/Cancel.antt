@@ -8,7 +8,7 @@ use native.Mathlib.Decide.{decLt}
 use native.Mathlib.Omega.{arith}
 use lib.ListN.{length, getD, set, take, drop, length-take, length-drop, length-append, List·getD-eq-default}
 use lib.Seq.{getD-set-same, getD-set-other}
-use Rattle.ring.specs.Field.{Inverse}
+use Rattle.ring.specs.Field.{Inverse, unit-product}
 use Rattle.ring.specs.Identity.{solve3}
 use Rattle.ring.specs.Identity.Ex.{:0, _:+_, _:*_}
 use Rattle.series.specs.Series.{Seq, conv, sums, scaled, head-then, const, conv-scalar}
@@ -20,7 +20,7 @@ use Rattle.zmod.specs.Residues.{Residue, Reduced, poly, poly-at, poly-below, Re
 use Rattle.divisibility.specs.Congruence.{Congruent}
 use Rattle.euclid.specs.Words.{Leads, leads-leading, poly-front, front-inside, front-past}
 use Rattle.euclid.specs.Combination.{linear, plus-multiple-congruent, shifted-congruent, cancelled-one, cancelled-two}
-use Rattle.euclid.specs.Pseudo.{PseudoRemainder, unit-product}
+use Rattle.euclid.specs.Pseudo.{PseudoRemainder}
 
 module _ (p : ℕ) (a b : List ℕ) (P : Prime p) (divisor : Leads p b) where
   abbrev A : Seq (Zmod p)

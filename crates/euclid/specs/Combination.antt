@@ -47,7 +47,7 @@ module _ (R : CRing) where
     is = solve3 (Series R) (λ b f s. b :* f) (λ b f s. s :+ f :* b :- s) tt b f (scaled R c a);
   }
 
-  linear-poly : (s : ℕ) (y z : Car) → Poly R (shift R s (linear y z))
+  pub linear-poly : (s : ℕ) (y z : Car) → Poly R (shift R s (linear y z))
   linear-poly s y z = (
     s + 2,
     λ i l.

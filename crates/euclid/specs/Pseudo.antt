@@ -9,7 +9,7 @@ use native.Mathlib.Omega.{arith}
 use lib.ListN.{length, getD, take, drop}
 use Rattle.ring.specs.Ring
 use Rattle.ring.specs.Ring.{CRing}
-use Rattle.ring.specs.Field.{Inverse}
+use Rattle.ring.specs.Field.{Inverse, unit-product}
 use Rattle.ring.specs.Identity.{solve3, solve4, solve5}
 use Rattle.ring.specs.Identity.Ex.{_:+_, _:*_}
 use Rattle.series.specs.Series.{Series, Seq, scaled, const, conv-scalar}
@@ -19,7 +19,7 @@ use Rattle.zmod.specs.Zmod.{Elt, Zmod, mk, times}
 use Rattle.zmod.specs.Residues.{Reduced, poly, poly-at, poly-past}
 use Rattle.divisibility.specs.Congruence.{Congruent, congruent-refl, congruent-sym, congruent-trans, congruent-scaled}
 use Rattle.divisibility.specs.Gcd.{Gcd, gcd-modulo}
-use Rattle.euclid.specs.Words.{Trimmed, take-poly, trimmed-past, front-inside, front-past}
+use Rattle.euclid.specs.Words.{Trimmed, take-poly, trimmed-past, front-poly, front-reduced}
 
 pub record PseudoRemainder (p n : ℕ) (b a : Seq (Zmod p)) (r : List ℕ) : Type 0 where
   pub reduced : Reduced p r
@@ -35,12 +35,6 @@ module _ (R : CRing) where
 
   infixl 65 _+ₛ_
   infixl 70 _*ₛ_
-  pub unit-product : (x y : R .Car) → Inverse R x → Inverse R y → Inverse R (R .mul x y)
-  unit-product x y (u, e) (v, f) = (
-    R .mul u v,
-    solve4 R (λ x y u v. x :* y :* (u :* v)) (λ x y u v. x :* u :* (y :* v)) tt x y u v ∙ ap₂ (R .mul) e f ∙ R .mul-one (R .𝟙),
-  )
-
   -- a unit changes nothing
   gcd-scaled : (b r : Seq R) (u : R .Car) → Inverse R u → (n : ℕ) (c : Seq R) → Gcd R b (scaled R u r) n c → Gcd R b r n c
   gcd-scaled b r u (v, unit) n c G = record {
@@ -105,19 +99,10 @@ module _ {p n k : ℕ} {b A : Seq (Zmod p)} {a part : List ℕ} (h : PseudoRemai
   back = part ++ drop k a
 
   back-poly : poly p back ≡ poly p part
-  back-poly = fun-ext λ i. poly-at p back i ∙ go i (decLt i k)
-    where
-      go : (i : ℕ) → Dec (i < k) → mk p (getD back i 0) ≡ poly p part i
-      go i (yes l) = ap (mk p) (front-inside a part k long i l) ∙ sym (poly-at p part i)
-      go i (no l) =
-          ap (mk p) (front-past a part k long i (omega arith)) ∙ sym (poly-at p a i) ∙ h .below i (omega arith) ∙ sym (poly-past p part i (omega arith))
+  back-poly = front-poly p a part k long (h .below)
 
   back-reduced : Reduced p back
-  back-reduced i = go (decLt i k)
-    where
-      go : Dec (i < k) → getD back i 0 < p
-      go (yes l) = omega (arith, front-inside a part k long i l, g .reduced i)
-      go (no l) = omega (arith, front-past a part k long i (omega arith), h .reduced i)
+  back-reduced = front-reduced p a part k long (h .reduced) (g .reduced)
 
   pub pseudo-further : PseudoRemainder p n b A back
   pseudo-further = record {

@@ -79,6 +79,22 @@ module _ (xs part : List ℕ) (n : ℕ) (long : length part ≡ n) where
       let f : n + (i - n) ≡ i = omega arith in
       ap (λ j. getD (part ++ drop n xs) j 0) (sym e) ∙ getD-append-add part (drop n xs) (i - n) 0 ∙ getD-drop n xs (i - n) 0 ∙ ap (λ j. getD xs j 0) f
 
+-- where the words behind are 0, it holds all
+pub front-poly : (p : ℕ) (xs part : List ℕ) (n : ℕ) → length part ≡ n → Below (Zmod p) n (poly p xs) → poly p (part ++ drop n xs) ≡ poly p part
+front-poly p xs part n long below = fun-ext λ i. poly-at p (part ++ drop n xs) i ∙ go i (decLt i n)
+  where
+    go : (i : ℕ) → Dec (i < n) → mk p (getD (part ++ drop n xs) i 0) ≡ poly p part i
+    go i (yes l) = ap (mk p) (front-inside xs part n long i l) ∙ sym (poly-at p part i)
+    go i (no l) =
+        ap (mk p) (front-past xs part n long i (omega arith)) ∙ sym (poly-at p xs i) ∙ below i (omega arith) ∙ sym (poly-past p part i (omega arith))
+
+pub front-reduced : (p : ℕ) (xs part : List ℕ) (n : ℕ) → length part ≡ n → Reduced p xs → Reduced p part → Reduced p (part ++ drop n xs)
+front-reduced p xs part n long low low′ i = go (decLt i n)
+  where
+    go : Dec (i < n) → getD (part ++ drop n xs) i 0 < p
+    go (yes l) = omega (arith, front-inside xs part n long i l, low′ i)
+    go (no l) = omega (arith, front-past xs part n long i (omega arith), low i)
+
 -- ── the leading coefficient of a divisor
 
 module _ {p : ℕ} {b : List ℕ} (P : Prime p) (h : Leads p b) where

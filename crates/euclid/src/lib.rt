@@ -19,7 +19,7 @@ ghost use Rattle.euclid.specs.Pseudo.{PseudoRemainder};
 ghost use Rattle.euclid.specs.Euclid.{GcdDegree};
 
 // c x
-fn multiply(c: u64, x: u64, m: Modulus) -> u64
+pub fn multiply(c: u64, x: u64, m: Modulus) -> u64
     requires { ⌜ Prepared m × (c < m .p) × (x < m .p) ⌝ }
     ensures { λ r. ⌜ Residue (m .p) (times (m .p) (mk (m .p) c) (mk (m .p) x)) r ⌝ }
 {
@@ -27,7 +27,7 @@ fn multiply(c: u64, x: u64, m: Modulus) -> u64
 }
 
 // -x
-fn negate(x: u64, m: Modulus) -> u64
+pub fn negate(x: u64, m: Modulus) -> u64
     requires { ⌜ x < m .p ⌝ }
     ensures { λ r. ⌜ Residue (m .p) (minus (m .p) (mk (m .p) x)) r ⌝ }
 {
@@ -35,7 +35,7 @@ fn negate(x: u64, m: Modulus) -> u64
 }
 
 // c x + z y
-fn two_products(c: u64, x: u64, z: u64, y: u64, m: Modulus) -> u64
+pub fn two_products(c: u64, x: u64, z: u64, y: u64, m: Modulus) -> u64
     requires { ⌜ Prepared m × (c < m .p) × (x < m .p) × (z < m .p) × (y < m .p) ⌝ }
     ensures { λ r. ⌜ Residue (m .p) (plus (m .p) (times (m .p) (mk (m .p) c) (mk (m .p) x)) (times (m .p) (mk (m .p) z) (mk (m .p) y))) r ⌝ }
 {
@@ -79,7 +79,7 @@ fn scale(out: &mut [u64], c: u64, m: Modulus)
 }
 
 // a = c a + (y x + z) x^s b, where s is by how much a is longer than b; of the product only the words that a has.
-fn add_multiple(a: &mut [u64], b: &[u64], c: u64, y: u64, z: u64, m: Modulus)
+pub fn add_multiple(a: &mut [u64], b: &[u64], c: u64, y: u64, z: u64, m: Modulus)
     requires { ⌜ Prepared m × (c < m .p) × (y < m .p) × (z < m .p) × (0 < length (now b)) × (length (now b) ≤ length (now a)) ⌝ }
     requires { ⌜ (Reduced (m .p) (now a)) × (Reduced (m .p) (now b)) ⌝ }
     ensures { λ _. ⌜ Residues (m .p) (sums (Zmod (m .p)) (scaled (Zmod (m .p)) (mk (m .p) c) (poly (m .p) (now (a .entry))))

@@ -7,20 +7,13 @@ use native.Mathlib.Numerals.{add-one}
 use native.Mathlib.Omega.{arith}
 use lib.ListN.{length, getD}
 use Rattle.ring.specs.Ring
-use Rattle.series.specs.Series.{Seq, sum, sum-suc, conv, conv-sum}
+use Rattle.series.specs.Series.{Seq, sum, sum-suc, sum-rest, conv, conv-sum}
 use Rattle.zmod.specs.Zmod.{Elt, Zmod, mk, plus, times, plus-assoc, plus-zero, mk-add, mk-mul}
 use Rattle.zmod.specs.Residues.{Residue, Reduced, poly, poly-at, poly-past, residue-same}
 use Rattle.poly.specs.Partial.{partial}
 
 pub reduced-mono : {p q : ℕ} (xs : List ℕ) → p ≤ q → Reduced p xs → Reduced q xs
 reduced-mono xs le h i = omega (arith, h i)
-
--- terms that are 0 add nothing
-sum-rest : (p : ℕ) (f : Seq (Zmod p)) (n d : ℕ) → ((i : ℕ) → n ≤ i → i < n + d → f i ≡ mk p 0) → sum (Zmod p) f (n + d) ≡ sum (Zmod p) f n
-sum-rest p f n zero h = ap (sum (Zmod p) f) (omega arith)
-sum-rest p f n (suc d) h =
-    ap (sum (Zmod p) f) (omega arith) ∙ sum-suc (Zmod p) f (n + d)
-    ∙ ap₂ (plus p) (sum-rest p f n d (λ i lo hi. h i lo (omega arith))) (h (n + d) (omega arith) (omega arith)) ∙ plus-zero p _
 
 sum-none : (p : ℕ) (f : Seq (Zmod p)) → sum (Zmod p) f 0 ≡ mk p 0
 unfolding sum
@@ -42,14 +35,14 @@ module _ (p : ℕ) (a b : List ℕ) (k : ℕ) where
   -- where b has ended, and where a has, the terms are 0
   pub partial-before : (n : ℕ) → n ≤ k + 1 - length b → partial p a b k n ≡ mk p 0
   unfolding partial term
-  partial-before n h = ap (partial p a b k) (omega arith) ∙ sum-rest p term 0 n none ∙ sum-none p term
+  partial-before n h = ap (partial p a b k) (omega arith) ∙ sum-rest (Zmod p) term 0 n none ∙ sum-none p term
     where
       none : (i : ℕ) → 0 ≤ i → i < 0 + n → term i ≡ mk p 0
       none i _ lt = ap (times p (poly p a i)) (poly-past p b (k - i) (omega arith)) ∙ Ring.mul-zero (Zmod p) _
 
   pub partial-all : (n : ℕ) → min (k + 1) (length a) ≤ n → n ≤ k + 1 → partial p a b k n ≡ conv (Zmod p) (poly p a) (poly p b) k
   unfolding partial term
-  partial-all n past h = sym (conv-sum (Zmod p) (poly p a) (poly p b) k ∙ ap (partial p a b k) (omega arith) ∙ sum-rest p term n (k + 1 - n) none)
+  partial-all n past h = sym (conv-sum (Zmod p) (poly p a) (poly p b) k ∙ ap (partial p a b k) (omega arith) ∙ sum-rest (Zmod p) term n (k + 1 - n) none)
     where
       none : (i : ℕ) → n ≤ i → i < n + (k + 1 - n) → term i ≡ mk p 0
       none i lo hi = ap (λ x. times p x (poly p b (k - i))) (poly-past p a i (omega arith)) ∙ Ring.zero-mul (Zmod p) _

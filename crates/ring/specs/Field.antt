@@ -1,10 +1,11 @@
--- Inverses, and fields whose elements can be told from zero: a unit is cancelled, a product of nonzero elements is not zero.
+-- Inverses, and fields whose elements can be told from zero: a unit is cancelled, a product of units is one, a product of nonzero elements is not
+-- zero.
 -- Assumes nothing.
-use mathlib.Core.Path.{_≡_, sym, _∙_, ap}
+use mathlib.Core.Path.{_≡_, sym, _∙_, ap, ap₂}
 use mathlib.Core.Logic.{_≢_}
 use Rattle.ring.specs.Ring
 use Rattle.ring.specs.Ring.{CRing}
-use Rattle.ring.specs.Identity.{solve3}
+use Rattle.ring.specs.Identity.{solve3, solve4}
 use Rattle.ring.specs.Identity.Ex.{_:*_}
 
 -- an inverse of x
@@ -26,6 +27,12 @@ module _ (R : CRing) where
       sym (Ring.one-mul R y) ∙ ap (λ z. z ⊗ y) (sym (u .1))
       ∙ solve3 R (λ x i y. x :* i :* y) (λ x i y. i :* (x :* y)) tt x (u .0) y
       ∙ ap (λ z. u .0 ⊗ z) e ∙ Ring.mul-zero R (u .0)
+
+  pub unit-product : (x y : Car) → Inverse R x → Inverse R y → Inverse R (x ⊗ y)
+  unit-product x y (u, e) (v, f) = (
+    u ⊗ v,
+    solve4 R (λ x y u v. x :* y :* (u :* v)) (λ x y u v. x :* u :* (y :* v)) tt x y u v ∙ ap₂ _⊗_ e f ∙ R .mul-one 𝟙,
+  )
 
   pub product : Field R → (x y : Car) → x ≢ 𝟘 → y ≢ 𝟘 → x ⊗ y ≢ 𝟘
   product F x y hx hy e = hy (unit-cancel x y (F .invert x hx) e)

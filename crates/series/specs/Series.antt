@@ -4,7 +4,7 @@
 -- Assumes nothing.
 use mathlib.Core.Path.{_≡_, refl, sym, _∙_, ap, ap₂, fun-ext}
 use mathlib.Core.HLevel.{→-set}
-use Prim.Native.Nat.{ℕ, zero, suc, _-_, _<_}
+use Prim.Native.Nat.{ℕ, zero, suc, _+_, _-_, _≤_, _<_}
 use native.Mathlib.Nat as N
 use native.Mathlib.Omega.{arith}
 use Rattle.ring.specs.Ring
@@ -252,6 +252,13 @@ module _ (R : CRing) where
   unfolding sum
   sum-same a b zero h = refl
   sum-same a b (suc n) h = ap₂ _⊕_ (sum-same a b n (λ i l. h i (omega arith))) (h n (omega arith))
+
+  -- terms that are 0 add nothing
+  pub sum-rest : (a : Seq) (n k : ℕ) → ((i : ℕ) → n ≤ i → i < n + k → a i ≡ 𝟘) → sum a (n + k) ≡ sum a n
+  sum-rest a n zero h = ap (sum a) (omega arith)
+  sum-rest a n (suc k) h =
+      ap (sum a) (omega arith) ∙ sum-suc a (n + k) ∙ ap₂ _⊕_ (sum-rest a n k (λ i l g. h i l (omega arith))) (h (n + k) (omega arith) (omega arith))
+      ∙ add-zero _
 
   pub sum-scaled : (c : Car) (a : Seq) (n : ℕ) → sum (scaled c a) n ≡ c ⊗ sum a n
   unfolding sum
