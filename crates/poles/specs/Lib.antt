@@ -1,0 +1,5 @@
+pub mod Rows
+pub mod Words
+pub mod Front
+pub mod Steps
+pub mod Poles
