@@ -11,7 +11,7 @@ use Rattle.questions.specs.Questions.{AllYes}
 use Rattle.questions.specs.SomeNo.{SomeNo, not-all}
 use Rattle.questions.specs.Answers.{Outcome, result, refused, apart}
 use Rattle.promises.specs.Asked.{check-asks}
-use Rattle.services.specs.Again.{same-certificate}
+use Rattle.guarantees.specs.Again.{same-certificate}
 use Rattle.chains.specs.Chain.{chain-asks, Chain}
 use Rattle.chains.specs.Brackets.{Brackets, sheet, both, sheets, Way, given}
 use Rattle.chains.specs.Proof.Pairs.{pairs-chain, same-values}

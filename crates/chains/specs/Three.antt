@@ -12,8 +12,8 @@ use Rattle.promises.specs.declared.Written.the-variants as written
 use Rattle.promises.specs.Outcome.{writtenOutcome}
 use Rattle.promises.specs.Asked.{Room}
 use Rattle.promises.specs.Answer.{composed, ComposeRight}
-use Rattle.services.specs.Compose.{composite-ready, composite-curves}
-use Rattle.services.specs.Certified.{written-count, written-buffer}
+use Rattle.guarantees.specs.Compose.{composite-ready, composite-curves}
+use Rattle.guarantees.specs.Certified.{written-count, written-buffer}
 use Rattle.chains.specs.Chain.{values, chain-asks, Chain}
 use Rattle.chains.specs.Brackets.{wrote, Brackets, sheet, both, Way, given, called, left-refused, right-refused}
 use Rattle.chains.specs.Theorems as T

@@ -13,7 +13,7 @@ use Rattle.questions.specs.Questions.{AllYes}
 use Rattle.promises.specs.declared.Verdict.the-variants as verdict
 use Rattle.promises.specs.Asked.{check-asks}
 use Rattle.promises.specs.Certificates.{check-asked}
-use Rattle.services.specs.Words.{words-small}
+use Rattle.guarantees.specs.Words.{words-small}
 use Rattle.sagepliers.specs.Entry.{WholeWords, CheckNumber}
 
 -- the bytes of words

@@ -30,7 +30,7 @@ use Rattle.promises.specs.Outcome.{verdictNumber, imageNumber, writtenNumber, n
 use Rattle.promises.specs.Asked.{solve-asks, kernel-asks, name-asks}
 use Rattle.promises.specs.Answer.{Goes, composed, SolveRight, KernelRight, ComposeRight, NameRight}
 use Rattle.sheet.specs.Ready.{half-most}
-use Rattle.services.specs.Compose.{composite-ready}
+use Rattle.guarantees.specs.Compose.{composite-ready}
 use Rattle.encoding.specs.Encoding.{pointOf}
 use Rattle.sagepliers.specs.Entry.{
   bytes-ask,

@@ -31,12 +31,12 @@ use Rattle.promises.specs.Outcome.{
 }
 use Rattle.promises.specs.Asked.{Given, Solvable, last-ask}
 use Rattle.promises.specs.Answer.{Goes, CertificateIn, KernelIn}
-use Rattle.services.specs.Certified.{one-certificate}
-use Rattle.services.specs.Solve.{solve-unique}
-use Rattle.services.specs.Kernel.{one-kernel, kernel-unique}
-use Rattle.services.specs.Compose.{compose-unique}
-use Rattle.services.specs.Push.{goes-once}
-use Rattle.services.specs.Name.{name-unique}
+use Rattle.guarantees.specs.Certified.{one-certificate}
+use Rattle.guarantees.specs.Solve.{solve-unique}
+use Rattle.guarantees.specs.Kernel.{one-kernel, kernel-unique}
+use Rattle.guarantees.specs.Compose.{compose-unique}
+use Rattle.guarantees.specs.Push.{goes-once}
+use Rattle.guarantees.specs.Name.{name-unique}
 use Rattle.encoding.specs.Encoding.{pointOf}
 use Rattle.sagepliers.specs.Entry.{
   bytes-ask,

@@ -10,7 +10,7 @@ use Rattle.promises.specs.declared.Written.{Written}
 use Rattle.promises.specs.declared.Written.the-variants as written
 use Rattle.promises.specs.Asked.{Room, check-asks, ComposableValues, ProductAllowed}
 use Rattle.promises.specs.Answer.{composed, ComposeRight}
-use Rattle.services.specs.Compose.{first-passes, second-passes, they-meet, product-allowed, compose-certified, compose-values}
+use Rattle.guarantees.specs.Compose.{first-passes, second-passes, they-meet, product-allowed, compose-certified, compose-values}
 use Rattle.chains.specs.Chain.{values}
 use Rattle.chains.specs.Brackets.{wrote, Call, Brackets, sheet, both, Way, given, called}
 use Rattle.chains.specs.Proof.Pairs.{valuesIn, Pairs}

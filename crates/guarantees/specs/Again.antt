@@ -35,12 +35,12 @@ use Rattle.promises.specs.declared.Written.{Written}
 use Rattle.promises.specs.declared.Written.the-variants as written
 use Rattle.promises.specs.Asked.{Room, Solvable, Passing, last-ask, check-asks}
 use Rattle.promises.specs.Answer.{CertificateIn, with, SolveRight, KernelRight}
-use Rattle.services.specs.Solve.{solve-unique}
-use Rattle.services.specs.Kernel.{kernel-unique}
+use Rattle.guarantees.specs.Solve.{solve-unique}
+use Rattle.guarantees.specs.Kernel.{kernel-unique}
 use Rattle.promises.specs.Certificates.{check-asked, certificate-N, certificate-meets}
-use Rattle.services.specs.Abscissas.{certificate-abscissas}
-use Rattle.services.specs.Words.{certificate-back, g-section}
-use Rattle.services.specs.Certified.{one-certificate}
+use Rattle.guarantees.specs.Abscissas.{certificate-abscissas}
+use Rattle.guarantees.specs.Words.{certificate-back, g-section}
+use Rattle.guarantees.specs.Certified.{one-certificate}
 
 -- the question sheet of a certificate: its first seven words, and the end
 abbrev pub questionOf : List ℕ → List ℕ

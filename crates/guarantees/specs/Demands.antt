@@ -32,10 +32,10 @@ use Rattle.promises.specs.declared.Image.{Image}
 use Rattle.promises.specs.declared.Image.the-variants as image
 use Rattle.promises.specs.Asked.{Room, Solvable, Leading, Passing, OnDomain, Given, prime, put, g, check-asks, solve-asks, last-ask, kernel-asks, push-asks}
 use Rattle.promises.specs.Answer.{CheckRight, CertificateIn, SolveRight, KernelRight, PushRight, ToPoint}
-use Rattle.services.specs.Check.{check-unique}
-use Rattle.services.specs.Solve.{solve-unique, refused-11, unsolved-11}
-use Rattle.services.specs.Push.{push-on-codomain}
-use Rattle.services.specs.Kernel.{kernel-unique}
+use Rattle.guarantees.specs.Check.{check-unique}
+use Rattle.guarantees.specs.Solve.{solve-unique, refused-11, unsolved-11}
+use Rattle.guarantees.specs.Push.{push-on-codomain}
+use Rattle.guarantees.specs.Kernel.{kernel-unique}
 
 -- ── solve
 

@@ -27,9 +27,9 @@ use Rattle.promises.specs.declared.Written.the-variants as written
 use Rattle.promises.specs.Asked.{Leading, prime, put, g, n, check-asks}
 use Rattle.promises.specs.Answer.{SolveRight, KernelRight}
 use Rattle.promises.specs.Certificates.{certificate-ready, certificate-N, certificate-meets}
-use Rattle.services.specs.Solve.{solve-certified}
-use Rattle.services.specs.Kernel.{kernel-certified}
-use Rattle.services.specs.Demands.{KernelPasses}
+use Rattle.guarantees.specs.Solve.{solve-certified}
+use Rattle.guarantees.specs.Kernel.{kernel-certified}
+use Rattle.guarantees.specs.Demands.{KernelPasses}
 
 -- ── certificates
 

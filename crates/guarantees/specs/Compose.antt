@@ -25,7 +25,7 @@ use Rattle.promises.specs.Asked.{ComposableValues, ProductAllowed, check-asks, 
 use Rattle.promises.specs.Answer.{composed, ComposeIn, ComposeRight}
 use Rattle.promises.specs.Composed.{over, over-same, composed-ready}
 use Rattle.promises.specs.Certificates.{certificate-ready}
-use Rattle.services.specs.Certified.{certified, written-values, written-g, one-certificate}
+use Rattle.guarantees.specs.Certified.{certified, written-values, written-g, one-certificate}
 
 module _ (first second : List ℕ) where
   -- the values on the two sheets

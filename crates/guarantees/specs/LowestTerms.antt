@@ -29,9 +29,9 @@ use Rattle.promises.specs.declared.Written.the-variants as written
 use Rattle.promises.specs.Asked as Asked
 use Rattle.promises.specs.Asked.{OnDomain, prime, put, check-asks}
 use Rattle.promises.specs.Answer.{CheckRight, SolveRight, KernelRight, ComposeRight}
-use Rattle.services.specs.Solve.{solve-certified}
-use Rattle.services.specs.Kernel.{kernel-certified}
-use Rattle.services.specs.Compose.{compose-certified}
+use Rattle.guarantees.specs.Solve.{solve-certified}
+use Rattle.guarantees.specs.Kernel.{kernel-certified}
+use Rattle.guarantees.specs.Compose.{compose-certified}
 use Rattle.promises.specs.Certificates.{certificate-ready, certificate-N, certificate-meets}
 
 -- Check's verdict on the words is that they pass.

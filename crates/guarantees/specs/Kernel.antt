@@ -27,7 +27,7 @@ use Rattle.promises.specs.declared.Written.the-variants as written
 use Rattle.promises.specs.Outcome.{writtenOutcome, same-written}
 use Rattle.promises.specs.Asked.{check-asks, last-ask, kernel-asks}
 use Rattle.promises.specs.Answer.{CertificateIn, with, KernelIn, KernelRight}
-use Rattle.services.specs.Certified.{certified, one-certificate}
+use Rattle.guarantees.specs.Certified.{certified, one-certificate}
 
 -- the questions before 8
 pub kernel-asked : (ws : List ℕ) (room : ℕ) → AllYes (kernel-asks ws room) → AllYes (asked Kernel ws)

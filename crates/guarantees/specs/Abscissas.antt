@@ -29,12 +29,12 @@ use Rattle.promises.specs.declared.Written.the-variants as written
 use Rattle.promises.specs.Abscissas.{rational-abscissas, abscissas-most}
 use Rattle.promises.specs.Asked.{prime, put, g, n, certificate-rules, check-asks}
 use Rattle.promises.specs.Answer.{CheckRight, SolveRight, KernelRight, ComposeRight}
-use Rattle.services.specs.Check.{check-unique}
+use Rattle.guarantees.specs.Check.{check-unique}
 use Rattle.promises.specs.Certificates.{check-asked}
-use Rattle.services.specs.Solve.{solve-certified}
-use Rattle.services.specs.Kernel.{kernel-certified}
-use Rattle.services.specs.Compose.{compose-certified}
-use Rattle.services.specs.Demands.{passes-exactly}
+use Rattle.guarantees.specs.Solve.{solve-certified}
+use Rattle.guarantees.specs.Kernel.{kernel-certified}
+use Rattle.guarantees.specs.Compose.{compose-certified}
+use Rattle.guarantees.specs.Demands.{passes-exactly}
 
 -- The sheet's count is right.
 abbrev pub Counted : List ℕ → Type 0

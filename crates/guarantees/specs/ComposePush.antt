@@ -32,9 +32,9 @@ use Rattle.promises.specs.Asked.{OnDomain, Given, ComposableValues, ProductAllo
 use Rattle.promises.specs.Answer.{CertificateIn, composed, ComposeIn, ComposeRight, ToPoint, Goes, PushRight}
 use Rattle.promises.specs.Composed.{over, over-same, composable, composed-question, meets-over}
 use Rattle.promises.specs.Certificates.{certificate-N, certificate-meets}
-use Rattle.services.specs.Certified.{written-values, written-g, written-n}
-use Rattle.services.specs.Push.{push-answers, push-unique, push-on-codomain}
-use Rattle.services.specs.Compose as C
+use Rattle.guarantees.specs.Certified.{written-values, written-g, written-n}
+use Rattle.guarantees.specs.Push.{push-answers, push-unique, push-on-codomain}
+use Rattle.guarantees.specs.Compose as C
 
 -- Where a point goes under the first, and from there under the second; what the first refuses stays refused.
 abbrev pub Onward : List ℕ → Image → Image → Type 0

@@ -23,7 +23,7 @@ use Rattle.promises.specs.declared.Written.the-variants as written
 use Rattle.promises.specs.Outcome.{writtenOutcome, same-written}
 use Rattle.promises.specs.Asked.{Room, Solvable, check-asks, solve-asks}
 use Rattle.promises.specs.Answer.{CertificateIn, SolveRight}
-use Rattle.services.specs.Certified.{certified, one-certificate}
+use Rattle.guarantees.specs.Certified.{certified, one-certificate}
 
 -- the questions before 11
 pub solve-asked : (ws : List ℕ) (room : ℕ) → AllYes (solve-asks ws room) → AllYes (asked Question ws)
