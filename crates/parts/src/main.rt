@@ -74,7 +74,7 @@ fn main() {
     let mut acc = [0u64; 3];
     let mut h = [0u32; 1];
     let mut q = [0u32; 3];
-    rules::products(
+    numerator::products(
         v,
         m,
         &g,

@@ -1,24 +1,22 @@
--- What the sums of words say of coefficients: each part of N by its coefficients, the products that the parts are made of, and N as the sum of its parts.
+-- What the sums of words say of coefficients: the products that the parts of N are made of and each part by their coefficients, and N as the sum of its parts.
 -- Assumes nothing.
 use mathlib.Core.Path.{_≡_, sym, _∙_, ap, ap₂}
 use mathlib.Core.List.{List}
 use Prim.Native.Nat.{ℕ, suc, _+_, _*_, _-_, _≤_, _<_}
 use native.Mathlib.Decide.{decLt}
 use native.Mathlib.Omega.{arith}
-use lib.ListN.{length, getD}
+use lib.ListN.{getD}
 use Rattle.ring.specs.Ring
 use Rattle.ring.specs.Identity.{solve2}
 use Rattle.ring.specs.Identity.Ex.{:0, _:-_, _:*_, :-_}
-use Rattle.series.specs.Series.{Seq, conv, negs, ∂, ∂-at}
-use Rattle.series.specs.Degree.{negs-below}
+use Rattle.series.specs.Series.{Seq, conv, ∂, ∂-at}
 use Rattle.zmod.specs.Zmod.{Zmod, mk, plus, minus, times, mk-add, mk-mul, mk-combination, cast-mk}
-use Rattle.zmod.specs.Residues.{Residue, Reduced, poly, poly-at, poly-past, Residues, residue-same}
+use Rattle.zmod.specs.Residues.{Residue, Reduced, poly, poly-at, residue-same}
 use Rattle.isogeny.specs.Rules.{N, f, linear-part, first-logarithmic-part, second-logarithmic-part, N-parts}
 use Rattle.isogeny.specs.Source.{line, quadratic}
 use Rattle.sheet.specs.declared.Values.{Values}
 use Rattle.sheet.specs.Values.{half, question}
 use Rattle.sheet.specs.Ready.{Ready, degree-half}
-use Rattle.rules.specs.Degrees.{below-∂, below-conv}
 use Rattle.rules.specs.Numerator.{
   shifted,
   shifted-low,
@@ -26,9 +24,6 @@ use Rattle.rules.specs.Numerator.{
   minus-slope,
   minus-bend,
   bend-from,
-  slope-of-square,
-  bend-of-slope,
-  bend-from-below,
   line-at,
   quadratic-at,
   cubic-at,
@@ -36,8 +31,6 @@ use Rattle.rules.specs.Numerator.{
   first-is,
   second-is,
 }
-use Rattle.rules.specs.Words.{Whole, whole, whole-same, from-derivative, from-product}
-use Rattle.rules.specs.Products.{Products}
 
 module _ (p : ℕ) where
   -- ── the products
@@ -69,32 +62,6 @@ module _ (p : ℕ) where
       (ap (λ y. times p y (mk p (getD s (i + 1) 0))) (mk-mul p 2 (i + 1)) ∙ Zmod p .mul-assoc (mk p 2) (mk p (i + 1)) (mk p (getD s (i + 1) 0))
       ∙ ap₂ (times p) (sym (cast-mk p 2)) (above s i))
       (ap₂ (times p) (sym (cast-mk p 8)) (sym (poly-at p t i))))
-
-  -- the five calls that form them
-  pub products-steps : (g square slope h hh bend : List ℕ) → length square + 1 ≡ 2 * length g → length square ≡ length slope + 1
-      → length g ≡ length h + 1 → 2 * length h ≤ length hh + 1 → length slope ≡ length bend + 1 → length bend + 1 ≡ 2 * length h
-      → Residues p (conv (Zmod p) (poly p g) (poly p g)) square → Residues p (negs (Zmod p) (∂ (Zmod p) (poly p square))) slope
-      → Residues p (∂ (Zmod p) (poly p g)) h → Residues p (conv (Zmod p) (poly p h) (poly p h)) hh
-      → Residues p (bend-from (Zmod p) (poly p slope) (poly p hh)) bend → Products p (poly p g) square slope bend
-  products-steps g square slope h hh bend l₁ l₂ l₃ l₄ l₅ l₆ r₁ r₂ r₃ r₄ r₅ = record { square-is = square-whole; slope-is = slope-whole; bend-is = bend-whole }
-    where
-      square-whole : Whole p (conv (Zmod p) (poly p g) (poly p g)) square
-      square-whole = from-product p g g square (omega arith) r₁
-
-      slope-whole : Whole p (minus-slope (Zmod p) (poly p g)) slope
-      slope-whole =
-          whole-same (ap (λ a. negs (Zmod p) (∂ (Zmod p) a)) (square-whole .same) ∙ slope-of-square (Zmod p) (poly p g))
-          (whole r₂ (negs-below (Zmod p) (length slope) _ (below-∂ (Zmod p) (poly p square) (omega arith) (poly-past p square))))
-
-      derivative² : poly p hh ≡ conv (Zmod p) (∂ (Zmod p) (poly p g)) (∂ (Zmod p) (poly p g))
-      derivative² = from-product p h h hh (omega arith) r₄ .same ∙ ap (λ a. conv (Zmod p) a a) (from-derivative p g h (omega arith) r₃ .same)
-
-      bend-whole : Whole p (minus-bend (Zmod p) (poly p g)) bend
-      bend-whole =
-          whole-same (ap₂ (bend-from (Zmod p)) (slope-whole .same) derivative² ∙ bend-of-slope (Zmod p) (poly p g))
-          (whole r₅ (bend-from-below (Zmod p) (length bend) (poly p slope) (poly p hh) (λ i l. poly-past p slope i (omega arith))
-          (λ i l. ap (λ f. f i) (from-product p h h hh (omega arith) r₄ .same)
-          ∙ below-conv (Zmod p) (length h) (length h) (poly p h) (poly p h) (omega arith) (poly-past p h) (poly-past p h) i l)))
 
   -- ── the word j places before k
 

@@ -12,9 +12,7 @@ ghost use Rattle.isogeny.specs.Rules.{N, linear-part, first-logarithmic-part, s
 ghost use Rattle.sheet.specs.Values.{half, question};
 ghost use Rattle.sheet.specs.Ready.{Ready, HoldsG};
 ghost use Rattle.rules.specs.Numerator.{minus-slope, minus-bend, bend-from};
-ghost use Rattle.rules.specs.Over.{Over};
 ghost use Rattle.rules.specs.Products.{Products};
-use barrett::Modulus;
 use sheet::Values;
 
 // ── R1
@@ -58,7 +56,7 @@ fn slope_coefficient(s: &[u32], i: usize, p: u32) -> u32
 }
 
 // out = -s′
-fn slope_of(s: &[u32], out: &mut [u32], p: u32)
+pub fn slope_of(s: &[u32], out: &mut [u32], p: u32)
     requires { ⌜ (0 < p) × (p ≤ 2 ^ 28) × (Reduced p (now s)) × (length (now out) ≤ 255) ⌝ }
     ensures { λ _. ⌜ Residues p (negs (Zmod p) (∂ (Zmod p) (poly p (now (s .entry))))) (now (out .exit)) ⌝ }
 {
@@ -83,7 +81,7 @@ fn bend_coefficient(s: &[u32], t: &[u32], i: usize, p: u32) -> u32
 }
 
 // out = 2s′ + 8t
-fn bend_of(s: &[u32], t: &[u32], out: &mut [u32], p: u32)
+pub fn bend_of(s: &[u32], t: &[u32], out: &mut [u32], p: u32)
     requires { ⌜ (0 < p) × (p ≤ 2 ^ 28) × (Reduced p (now s)) × (Reduced p (now t)) × (length (now out) ≤ 255) ⌝ }
     ensures { λ _. ⌜ Residues p (bend-from (Zmod p) (poly p (now (s .entry))) (poly p (now (t .entry)))) (now (out .exit)) ⌝ }
 {
@@ -92,31 +90,6 @@ fn bend_of(s: &[u32], t: &[u32], out: &mut [u32], p: u32)
         out[i] = bend_coefficient(s, t, i, p);
         i += 1;
     }
-}
-
-// g², -2gg′ and -4(gg″ - g′²), from two squares: with s = -(g²)′ the last one is 2s′ + 8g′². h takes g′ and q its square; e and acc are the squares' room.
-pub fn products(
-    v: Values,
-    m: Modulus,
-    g: &[u32],
-    e: &mut [u64],
-    acc: &mut [u64],
-    h: &mut [u32],
-    q: &mut [u32],
-    square: &mut [u32],
-    slope: &mut [u32],
-    bend: &mut [u32],
-)
-    requires { ⌜ (Ready v) × HoldsG v (now g) × Over v m ⌝ }
-    requires { ⌜ (length (now e) ≡ half v + 7) × (length (now acc) ≡ 2 * half v + 1) × (length (now h) ≡ half v) × (length (now q) ≡ 2 * half v + 1) ⌝ }
-    requires { ⌜ (length (now square) ≡ 2 * half v + 1) × (length (now slope) ≡ 2 * half v) × (length (now bend) ≡ 2 * half v - 1) ⌝ }
-    ensures { λ _. ⌜ Products (v .p) (poly (v .p) (now (g .entry))) (now (square .exit)) (now (slope .exit)) (now (bend .exit)) ⌝ }
-{
-    poly::square(g, e, acc, square, m);
-    slope_of(square, slope, v.p);
-    poly::derivative(g, h, v.p);
-    poly::square(h, e, acc, q, m);
-    bend_of(slope, q, bend, v.p);
 }
 
 // The word j places before k, 0 where there is none.

@@ -1,12 +1,12 @@
--- `rules::products` meets its contract: g², −(g²)′, g′, g′² and 2s′ + 8g′² with s = −(g²)′ are formed in turn.
+-- `numerator::products` meets its contract: g², −(g²)′, g′, g′² and 2s′ + 8g′² with s = −(g²)′ are formed in turn.
 -- Assumes nothing.
 use native.Mathlib.Omega.{arith}
 use borrow.Author.Needs.{needs}
 use Rattle.rows.specs.Room.{turns-fit}
 use Rattle.rules.specs.Over.{over-reduced, over-square}
-use Rattle.rules.proofs.NumeratorSteps.{products-steps}
-use Rattle.rules.proofs.products.Statement.{statement}
-use Rattle.rules.proofs.products.Tie as tie
+use Rattle.numerator.proofs.ProductSteps.{products-steps}
+use Rattle.numerator.proofs.products.Statement.{statement}
+use Rattle.numerator.proofs.products.Tie as tie
 
 -- ── the places, each behind the call before it
 
