@@ -1,4 +1,4 @@
--- `equation::short/begins` meets its contract. Assumes nothing.
+-- `conditions::begins` meets its contract. Assumes nothing.
 use Rattle.conditions.proofs.Decided.{begins-known, first-no, second}
 use borrow.Author.Needs.{needs}
 use Rattle.conditions.proofs.begins.Statement.{statement}

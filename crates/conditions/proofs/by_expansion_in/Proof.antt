@@ -1,4 +1,4 @@
--- `equation::short/by_expansion_in` meets its contract. Assumes nothing.
+-- `conditions::by_expansion_in` meets its contract. Assumes nothing.
 use native.Mathlib.Omega.{arith}
 use Rattle.conditions.proofs.Decided.{terms-known, short-known, decided}
 use borrow.Author.Needs.{needs}

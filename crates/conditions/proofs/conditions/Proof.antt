@@ -1,4 +1,4 @@
--- `equation::short/conditions` meets its contract. Assumes nothing.
+-- `conditions::conditions` meets its contract. Assumes nothing.
 use native.Mathlib.Omega.{arith}
 use lib.ListN.{length-take}
 use borrow.Author.Tests.{not-true, not-false}
