@@ -7,6 +7,7 @@ use crate::poly::Poly;
 use crate::rational;
 use crate::rules::{self, R3};
 use crate::sheet::{self, Certificate, KernelSheet, Question, Reading, Refusal};
+use crate::without_sum::{self, CurvePair};
 
 #[derive(Clone, Copy, Debug, PartialEq, Eq)]
 pub enum Checked {
@@ -108,6 +109,18 @@ pub fn solve(words: &[u32], room: usize) -> Written {
     written(sheet::ask_room(room).and_then(|()| {
         let question = Question::read(words)?;
         solution(&question).ok_or(11)
+    }))
+}
+
+/// Solve as request E9 has it, for question sheets with or without the word of kind 7. With
+/// it the answer is that of solve, which knows no other form until the request has landed.
+pub fn solve_with_or_without_sum(words: &[u32], room: usize) -> Written {
+    if !without_sum::is_without_sum(words) {
+        return solve(words, room);
+    }
+    written(sheet::ask_room(room).and_then(|()| {
+        let pair = CurvePair::read(words)?;
+        without_sum::solution(&pair).ok_or(11)
     }))
 }
 
