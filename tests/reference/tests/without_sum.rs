@@ -9,6 +9,7 @@ use reference::curve::Curve;
 use reference::field::Field;
 use reference::generate::{self, dual, random_curve, rescale, twist, with_multiplications};
 use reference::marked;
+use reference::poly::Poly;
 use reference::primes::{is_prime, next_prime, previous_prime};
 use reference::random::Random;
 use reference::services::{self, solve, solve_with_or_without_sum, Point, Written};
@@ -90,12 +91,13 @@ fn count_of_maps(p: u64) -> u64 {
 /// Every pair of curves: R1 to R3 are asked for each sigma, which is 2r for g = x - r, with
 /// no recurrence. At most one works. From the first domains elimination finds it, or that
 /// there is none, for all codomains; the search with solve is made for all of 23, and for
-/// each eighth codomain over the others and those with an answer.
+/// each eighth codomain over the others and those with an answer. Where none works there may
+/// be no denominator, one that is no square, or a square with which R3 does not hold.
 #[test]
 fn every_pair_of_curves_with_degree_3() {
     for p in [23, 29, 31, 37, 41] {
         let first: BTreeSet<(u64, u64)> = first_domains(p).into_iter().collect();
-        let [mut with, mut without] = [0, 0];
+        let [mut with, mut no_denominator, mut no_square, mut square] = [0, 0, 0, 0];
         for (a, b) in all_pairs(p).filter(|&(a, b)| is_curve(p, a, b)) {
             let found = by_curves(all_isogenies(p, a, b, 3));
             for (pair, list) in &found {
@@ -115,11 +117,19 @@ fn every_pair_of_curves_with_degree_3() {
                     let all = by_search(&pair);
                     assert_eq!(all.iter().collect::<Vec<_>>(), Vec::from_iter(expected));
                 }
-                without += u64::from(expected.is_none());
+                match denominator(&pair) {
+                    _ if expected.is_some() => {}
+                    None => no_denominator += 1,
+                    Some(d) if (0..p).all(|r| d != Poly::with_roots(pair.field(), &[r, r])) => {
+                        no_square += 1;
+                    }
+                    Some(_) => square += 1,
+                }
             }
         }
         assert_eq!(with, count_of_maps(p));
-        assert!(without > 10_000, "{p}: {without}");
+        let without = [no_denominator, no_square, square];
+        assert!(without.iter().all(|&count| count > p), "{without:?}");
     }
 }
 
@@ -295,6 +305,16 @@ fn certificates() -> Vec<Certificate> {
             list.extend(with_multiplications(&certificate));
             list.extend([dual(&certificate), rescale(&certificate, 2)]);
             list.push(twist(&certificate, 1 + random.below(p - 1)));
+        }
+    }
+    // With A = 0 or B = 0 two of three terms of the expansion are 0, or each second one.
+    for p in [131, 2053, LARGEST] {
+        for (a, b) in [(0, 1), (1, 0), (0, p - 2), (p - 3, 0)] {
+            let curve = Curve::new(p, a, b);
+            let lawful = (3..=15).step_by(2).filter(|&m| passes_17(m * m, p));
+            list.extend(lawful.map(|m| generate::multiplication(&curve, m)));
+            let tries = (3..30).step_by(2).filter(|&l| passes_17(l, p));
+            list.extend(tries.filter_map(|l| generate::step(&mut random, &curve, l, 20)));
         }
     }
     for degrees in [&[3, 5, 17][..], &[3, 3, 3, 3, 3], &[15, 17], &[5, 7, 7]] {
