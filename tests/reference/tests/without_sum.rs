@@ -622,8 +622,8 @@ fn question_2() {
             refused(&[&words[..], &[0xf000_0000]].concat(), 2);
         }
     }
-    for place in 0..6 {
-        for other in (0..16).filter(|&k| k != kind(FIRST[place])) {
+    for (place, right) in [P, A, B, A_T, B_T, L].into_iter().enumerate() {
+        for other in (0..16).filter(|&k| k != right) {
             refused(&with_word(&FIRST, place, word(other, 3)), 2);
         }
         for second in 0..place {
