@@ -272,7 +272,7 @@ fn certificates_at_the_edge_of_17() {
             above += 1;
         }
     }
-    assert!(below > 60 && above > 60, "{below}, {above}");
+    assert!(below > 120 && above > 120, "{below}, {above}");
 }
 
 /// Over small and large primes, of every degree, with kernels of all kinds.
