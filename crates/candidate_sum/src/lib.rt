@@ -3,17 +3,14 @@
 use poles::PoleSum;
 use sheet::Values;
 ghost use mathlib.Core.Path.{_≡_};
-ghost use Prim.Native.Nat.{_+_, _*_, _-_, _<_, _≤_};
+ghost use Prim.Native.Nat.{_+_, _*_, _≤_};
 ghost use lib.ListN.{length};
-ghost use Rattle.zmod.specs.Zmod.{Zmod};
-ghost use Rattle.isogeny.specs.Curve.{Nonsingular};
-ghost use Rattle.sheet.specs.Values.{half, question};
-ghost use Rattle.sheet.specs.Ready.{Ready};
-ghost use Rattle.candidate_sum.specs.CandidateSum.{CandidateSum};
+ghost use Rattle.sheet.specs.Values.{half};
+ghost use Rattle.candidate_sum.specs.CandidateSum.{Determined, CandidateSum};
 
 // In room: a table of inverses, the expansion, and two rows.
 fn sum_in(v: Values, table: &mut [u32], h: &mut [u32], t: &mut [u64], u: &mut [u64]) -> PoleSum
-    requires { ⌜ (Ready v) × (8 * v .degree - 5 < v .p) × Nonsingular (Zmod (v .p)) (question v .A) (question v .B) ⌝ }
+    requires { ⌜ Determined v ⌝ }
     requires { ⌜ (length (now table) ≡ 8 * half v + 4) × (length (now h) ≡ 4 * half v + 1) ⌝ }
     requires { ⌜ (length (now t) ≡ 2 * half v + 1) × (length (now u) ≡ 2 * half v + 1) ⌝ }
     ensures { λ r. ⌜ CandidateSum v r ⌝ }
@@ -34,7 +31,7 @@ fn blank1024() -> [u32; 1024] {
 
 // The same with room of its own, for degrees up to 21 and for all.
 fn small(v: Values) -> PoleSum
-    requires { ⌜ (Ready v) × (8 * v .degree - 5 < v .p) × Nonsingular (Zmod (v .p)) (question v .A) (question v .B) × (v .degree ≤ 21) ⌝ }
+    requires { ⌜ Determined v × (v .degree ≤ 21) ⌝ }
     ensures { λ r. ⌜ CandidateSum v r ⌝ }
 {
     let l = v.degree as usize;
@@ -48,7 +45,7 @@ fn small(v: Values) -> PoleSum
 }
 
 fn large(v: Values) -> PoleSum
-    requires { ⌜ (Ready v) × (8 * v .degree - 5 < v .p) × Nonsingular (Zmod (v .p)) (question v .A) (question v .B) ⌝ }
+    requires { ⌜ Determined v ⌝ }
     ensures { λ r. ⌜ CandidateSum v r ⌝ }
 {
     let l = v.degree as usize;
@@ -63,7 +60,7 @@ fn large(v: Values) -> PoleSum
 
 // The kernel sum for the curves and the degree of v, whose own σ does not matter, or none.
 pub fn candidate_sum(v: Values) -> PoleSum
-    requires { ⌜ (Ready v) × (8 * v .degree - 5 < v .p) × Nonsingular (Zmod (v .p)) (question v .A) (question v .B) ⌝ }
+    requires { ⌜ Determined v ⌝ }
     ensures { λ r. ⌜ CandidateSum v r ⌝ }
 {
     if v.degree <= 21 {

@@ -1,5 +1,5 @@
--- One map, as a test of the definitions: from y² = x³ + B to y² = x³ − 27 B, of degree 3, the expansion is x + 4 B / x²; Euclid's algorithm on x⁴ and
--- 4 B x² finds t = x² and the remainder 0; so σ = 0 and g² = x², as `isogeny`'s example has it. N = x³ + 4 B and g = x are coprime where 4 B is invertible.
+-- One map, as a test of the definitions: from y² = x³ + B to y² = x³ − 27 B, of degree 3, the expansion is x + 4 B / x², t = x² fits
+-- it with the remainder 0, and g² is x², as `isogeny`'s example has it. N = x³ + 4 B and g = x are coprime where 4 B is invertible.
 -- Assumes nothing.
 use mathlib.Core.Path.{_≡_, refl, sym, _∙_, ap, fun-ext}
 use Prim.Native.Nat.{ℕ, zero, suc, _≤_}

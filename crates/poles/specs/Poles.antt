@@ -4,7 +4,7 @@
 use mathlib.Core.Logic.{_≢_}
 use mathlib.Core.Path.{_≡_, refl, sym, _∙_, ap, subst, fun-ext}
 use mathlib.Core.List.{List}
-use Prim.Native.Nat.{ℕ, zero, suc, _+_, _-_, _*_, _/_, _≤_, _<_}
+use Prim.Native.Nat.{ℕ, zero, suc, _+_, _-_, _/_, _≤_, _<_}
 use native.Mathlib.Decide.{decLt}
 use native.Mathlib.Omega.{arith}
 use lib.ListN.{length, getD, set, replicate, length-replicate}
@@ -12,13 +12,13 @@ use lib.Seq.{getD-set-same, getD-set-other}
 use Rattle.ring.specs.Ring
 use Rattle.ring.specs.Ring.{CRing}
 use Rattle.ring.specs.Field.{Inverse}
-use Rattle.series.specs.Series.{Seq, conv, zeros, const}
+use Rattle.series.specs.Series.{Seq, zeros, const}
 use Rattle.series.specs.Degree.{Below}
-use Rattle.zmod.specs.Zmod.{Zmod, mk, plus, minus, times, mk-nonzero}
+use Rattle.zmod.specs.Zmod.{Zmod, mk, minus, times, mk-nonzero}
 use Rattle.zmod.specs.Prime.{Prime, prime-pos, Zmod-field}
 use Rattle.zmod.specs.Residues.{Residue, Reduced, poly, poly-at, residues-poly, residues-zeros}
-use Rattle.reconstruction.specs.Approximant.{Approximant}
-use Rattle.poles.specs.Rows.{H, m, Rows, rows-start, rows-stop, rows-nonzero, rows-leading, rows-below, turn}
+use Rattle.reconstruction.specs.Approximant.{Fits}
+use Rattle.poles.specs.Rows.{Rows, rows-start, rows-stop, rows-nonzero, rows-leading, rows-below, turn}
 use Rattle.poles.specs.Words.{remainder, RowsOf, cancelling}
 use Rattle.poles.specs.Steps.{Sized, Highest, highest-unit}
 use Rattle.poles.specs.declared.PoleSum.{PoleSum}
@@ -66,11 +66,11 @@ abbrev pub SumOf : (p a : ℕ) (t : Seq (Zmod p)) → PoleSum → Type 0
 SumOf p a t Missing = t a ≡ mk p 0
 SumOf p a t (Sum σ) = (σ < p) × (t a ≢ mk p 0) × (times p (mk p σ) (t a) ≡ minus p (t (a - 1)))
 
--- r = t (h₀ xⁿ + h₁ xⁿ⁻¹ + .. + h_n) + s xⁿ with r of degree below n/2 and t of degree at most n/2, not 0, and the sum of t's roots if it has degree n/2
+-- a denominator t that fits the expansion h₁/x + .. + h_n/xⁿ and is not 0, and the sum of its roots if it has degree n/2
 pub record PolesOf (p : ℕ) (h : List ℕ) (result : PoleSum) : Type 0 where
   pub r : Seq (Zmod p)
   pub t : Seq (Zmod p)
-  pub found : Approximant (Zmod p) (m (Zmod p) (length h - 1) (poly p h)) (H (Zmod p) (length h - 1) (poly p h)) ((length h - 1) / 2) ((length h - 1) / 2) r t
+  pub found : Fits (Zmod p) (length h - 1) (poly p h) ((length h - 1) / 2) r t
   pub nonzero : t ≢ zeros (Zmod p)
   pub sum : SumOf p ((length h - 1) / 2) t result
 
@@ -99,7 +99,7 @@ running-start p h t u large size same low-h low-t low-u first t-is u-is = record
 
 -- ── a step
 
-module _ (p : ℕ) (h t u : List ℕ) (k top next : ℕ) (P : Prime p) (run : Running p h t u k top next) where
+module _ (p : ℕ) (h t u : List ℕ) (k top next : ℕ) (run : Running p h t u k top next) where
   -- the slices hold no more than these words
   pub row-below : Below (Zmod p) (length h - k) (poly p u)
   row-below i g = rows-leading (Zmod p) (length h - 1) (poly p h) (run .rows) .below i (omega (arith, run .size .words, run .size .most))

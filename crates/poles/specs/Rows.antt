@@ -3,7 +3,7 @@
 -- Assumes nothing.
 use mathlib.Core.Logic.{_≢_}
 use mathlib.Core.Path.{_≡_, refl, sym, _∙_, ap, ap₂, subst}
-use Prim.Native.Nat.{ℕ, zero, suc, _+_, _-_, _≤_, _<_}
+use Prim.Native.Nat.{ℕ, suc, _+_, _-_, _≤_, _<_}
 use native.Mathlib.Decide.{decLt}
 use native.Mathlib.Omega.{arith}
 use Rattle.ring.specs.Ring
@@ -12,12 +12,12 @@ use Rattle.ring.specs.Field.{Inverse, unit-product}
 use Rattle.ring.specs.Identity.{solve2, solve3}
 use Rattle.ring.specs.Identity.Ex.{:0, _:+_, _:*_, :-_}
 use Rattle.series.specs.Series.{Series, Seq, conv, const, sums, scaled, zeros, head-then, conv-scalar}
-use Rattle.series.specs.Degree.{Below, Poly, Leading, leading, below-drop}
+use Rattle.series.specs.Degree.{Below, Leading, leading, below-drop}
 use Rattle.series.specs.Indeterminate.{ind}
 use Rattle.series.specs.Binomial.{monic-power, ind-monic, ind-power}
 use Rattle.series.specs.Local.{conv-local}
 use Rattle.series.specs.Reversal.{rev, rev-sub, rev-past, shift, conv-shift}
-use Rattle.reconstruction.specs.Approximant.{Approximant}
+use Rattle.reconstruction.specs.Approximant.{Fits}
 use Rattle.reconstruction.specs.Euclid as Euclid
 use Rattle.reconstruction.specs.Euclid.{Stage, Eliminated, eliminated-none, eliminated-more, eliminated-row}
 use Rattle.euclid.specs.Combination.{linear, linear-poly, shifted-at, cancelled-two}
@@ -35,7 +35,7 @@ module _ (R : CRing) where
     abbrev pub H : Seq R
     H = rev R n h
 
-    abbrev pub m : Seq R
+    abbrev m : Seq R
     m = pow (Series R) (ind R) n
 
     pub record Rows (k : ℕ) (top next : R .Car) (t t′ : Seq R) : Type 0 where
@@ -119,46 +119,46 @@ module _ (R : CRing) where
           b-unit : Inverse R b
           b-unit = subst (Inverse R) b-is unit
 
-          abbrev y : Seq R → Seq R → Seq R
-          y = combination (i - l) b (R .𝟘) z
+          abbrev less-by : Seq R → Seq R → Seq R
+          less-by = combination (i - l) b (R .𝟘) z
 
-          at : (j : ℕ) → y (now .left) r′ ((i - l) + j) ≡ R .add (R .mul b (now .left ((i - l) + j))) (R .mul z (r′ j))
+          at : (j : ℕ) → less-by (now .left) r′ ((i - l) + j) ≡ R .add (R .mul b (now .left ((i - l) + j))) (R .mul z (r′ j))
           at j =
               shifted-at R (i - l) b (R .𝟘) z (now .left) r′ j
               ∙ solve3 R (λ x y z. x :+ (y :+ :0 :* z)) (λ x y z. x :+ y) tt (R .mul b (now .left ((i - l) + j))) (R .mul z (r′ j)) (head-then R (R .𝟘) r′ j)
 
-          past : Below R (suc i) (y (now .left) r′)
+          past : Below R (suc i) (less-by (now .left) r′)
           past j g =
               let e : (i - l) + (j - (i - l)) ≡ j = omega arith in
-              ap (y (now .left) r′) (sym e) ∙ at (j - (i - l))
+              ap (less-by (now .left) r′) (sym e) ∙ at (j - (i - l))
               ∙ ap₂ (λ a c. R .add (R .mul b a) (R .mul z c)) (now .below _ (omega arith)) (r′-degree .below _ (omega arith))
               ∙ solve2 R (λ b z. b :* :0 :+ z :* :0) (λ b z. :0) tt b z
 
-          highest : y (now .left) r′ i ≡ R .𝟘
+          highest : less-by (now .left) r′ i ≡ R .𝟘
           highest =
               let e : (i - l) + l ≡ i = omega arith in
-              ap (y (now .left) r′) (sym e) ∙ at l
+              ap (less-by (now .left) r′) (sym e) ∙ at l
               ∙ ap₂ (λ a c. R .add (R .mul b a) (R .mul z c)) (ap (now .left) e ∙ now .w-is) (remainder-at l (omega (arith, within)) ∙ b-is)
               ∙ ap (λ a. R .add (R .mul b w) (R .mul a b)) z-is ∙ solve2 R (λ b w. b :* w :+ :- w :* b) (λ b w. :0) tt b w
 
-          less : Below R i (y (now .left) r′)
+          less : Below R i (less-by (now .left) r′)
           less = below-drop R i _ past highest
 
-          also : Eliminated R m H n r r′ t t′ (y (now .left) r′) (y x t′)
+          also : Eliminated R m H n r r′ t t′ (less-by (now .left) r′) (less-by x t′)
           also = eliminated-combination (now .left) x (now .done) (i - l) b (R .𝟘) z b-unit
 
           -- one coefficient less,
-          pub reducing-next : (j : ℕ) → i ≡ suc j → Reducing j (conv R (y x t′) H j) (y x t′)
+          pub reducing-next : (j : ℕ) → i ≡ suc j → Reducing j (conv R (less-by x t′) H j) (less-by x t′)
           reducing-next j e = record {
-            left = y (now .left) r′;
+            left = less-by (now .left) r′;
             done = also;
-            below = subst (λ a. Below R a (y (now .left) r′)) e less;
-            w-is = row-at (y (now .left) r′) (y x t′) _ (eliminated-row R m H n k (n - k) r r′ t t′ stage _ _ also) j (omega (arith, within));
+            below = subst (λ a. Below R a (less-by (now .left) r′)) e less;
+            w-is = row-at (less-by (now .left) r′) (less-by x t′) _ (eliminated-row R m H n k (n - k) r r′ t t′ stage _ _ also) j (omega (arith, within));
           }
 
           -- until no more than those of r′ are left
-          pub reducing-end : i ≡ l → Rows l (conv R t′ H l) (conv R t′ H (l - 1)) t′ (y x t′)
-          reducing-end e = rows-step (y (now .left) r′) (y x t′) also (subst (λ a. Below R a (y (now .left) r′)) e less)
+          pub reducing-end : i ≡ l → Rows l (conv R t′ H l) (conv R t′ H (l - 1)) t′ (less-by x t′)
+          reducing-end e = rows-step (less-by (now .left) r′) (less-by x t′) also (subst (λ a. Below R a (less-by (now .left) r′)) e less)
 
     -- ── r′ of the degree k − 1: two coefficients of r are cancelled at once
 
@@ -200,7 +200,7 @@ module _ (R : CRing) where
     module _ {k : ℕ} {top next : R .Car} {t t′ : Seq R} (rows : Rows k top next t t′) where
       open Rows rows using (r′, stage)
 
-      pub rows-stop : (a : ℕ) → a + a ≡ n → a ≤ k → ((i : ℕ) → a ≤ i → i < k → conv R t′ H i ≡ R .𝟘) → Approximant R m H a a r′ t′
+      pub rows-stop : (a : ℕ) → a + a ≡ n → a ≤ k → ((i : ℕ) → a ≤ i → i < k → conv R t′ H i ≡ R .𝟘) → Fits R n h a r′ t′
       rows-stop a whole least none = Euclid.stop R m H n k (n - k) (rows .r) r′ t t′ stage a a whole least (λ i l. go i l (decLt i k))
         where
           go : (i : ℕ) → a ≤ i → Dec (i < k) → r′ i ≡ R .𝟘

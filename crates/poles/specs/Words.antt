@@ -2,7 +2,7 @@
 -- Assumes nothing.
 use mathlib.Core.Path.{_≡_, refl, sym, _∙_, ap, ap₂}
 use mathlib.Core.List.{List}
-use Prim.Native.Nat.{ℕ, zero, suc, _+_, _-_, _*_, _≤_, _<_}
+use Prim.Native.Nat.{ℕ, suc, _+_, _-_, _*_, _≤_, _<_}
 use native.Mathlib.Numerals.{add-one}
 use native.Mathlib.Omega.{arith}
 use lib.ListN.{length, getD, take, drop}
@@ -12,7 +12,7 @@ use Rattle.ring.specs.Ring
 use Rattle.series.specs.Series.{Seq, sum, sum-suc, sum-same, sum-rest, conv, conv-sum}
 use Rattle.series.specs.Degree.{Below}
 use Rattle.series.specs.Reversal.{rev-sub}
-use Rattle.zmod.specs.Zmod.{Elt, Zmod, mk, plus, minus, times, plus-zero, mk-add, mk-mul}
+use Rattle.zmod.specs.Zmod.{Elt, Zmod, mk, plus, minus, times, mk-add, mk-mul}
 use Rattle.zmod.specs.Residues.{poly, poly-at}
 use Rattle.euclid.specs.Words.{poly-front}
 use Rattle.poles.specs.Rows.{combination, H, Rows}

@@ -1,10 +1,10 @@
 // The sum of the poles of a rational function over ℤ/p, for p below 2^28, from its expansion at infinity, h₁/x + h₂/x² + .. + h_n/xⁿ, where its denominator
-// has degree n/2 at most: Euclid's algorithm on xⁿ and h₁ xⁿ⁻¹ + .. + h_n finds a denominator t, and the sum is minus its second coefficient over its first.
-// Of the remainders nothing is stored: a coefficient of one is a sum of products of the words of its t with those of h. Nor is anything divided before
-// the end: a row is multiplied by a unit, and two coefficients of a remainder are cancelled at once.
+// in lowest terms has degree n/2: Euclid's algorithm on xⁿ and h₁ xⁿ⁻¹ + .. + h_n finds a denominator t that fits, and the sum is minus its second coefficient
+// over its first. Of the remainders nothing is stored: a coefficient of one is a sum of products of the words of its t with those of h. Nor is anything
+// divided before the end: a row is multiplied by a unit, and two coefficients of a remainder are cancelled at once.
 use barrett::Modulus;
 ghost use mathlib.Core.Path.{_≡_};
-ghost use Prim.Native.Nat.{ℕ, _+_, _-_, _*_, _/_, _^_, _<_, _≤_};
+ghost use Prim.Native.Nat.{ℕ, _+_, _-_, _^_, _<_, _≤_};
 ghost use lib.ListN.{length, getD};
 ghost use Rattle.series.specs.Series.{zeros, const};
 ghost use Rattle.series.specs.Degree.{Below};
@@ -17,7 +17,7 @@ ghost use Rattle.poles.specs.Words.{correlation, remainder, RowsOf, canc
 ghost use Rattle.poles.specs.Steps.{Sized, Highest};
 ghost use Rattle.poles.specs.Poles.{Running, Stepped, QuotientOf, PolesOf};
 
-// The sum of the poles, or none where the denominator that was found has a smaller degree than n/2.
+// The sum of the roots of a denominator of degree n/2 that fits; none where the one that was found has a smaller degree.
 pub enum PoleSum {
     Missing,
     Sum(u32),
@@ -186,7 +186,7 @@ fn begin(t: &mut [u64], u: &mut [u64])
     u[0] = 1;
 }
 
-// Minus the second coefficient over the first, if u has the degree that its words allow.
+// Minus the second coefficient over the first, if u has the degree that its words allow: n − k, where k is the degree of the remainder before u's.
 fn quotient(u: &[u64], k: usize, p: u32) -> PoleSum
     requires { ⌜ Prime p × (p ≤ 2 ^ 28) × (2 ≤ length (now u)) × (Reduced p (now u)) ⌝ }
     requires { ⌜ (k ≡ length (now u) - 1 → 0 < getD (now u) (length (now u) - 1) 0) ⌝ }
@@ -201,7 +201,7 @@ fn quotient(u: &[u64], k: usize, p: u32) -> PoleSum
     PoleSum::Sum(field::multiply(second, inverse, p))
 }
 
-// The sum of the poles, where h₀ = 0 and h has n + 1 words; t and u are room for rows, of n/2 + 1 words. The rows change places with each step.
+// The sum of the roots of a denominator that fits, where h₀ = 0 and h has n + 1 words; t and u are room for rows, of n/2 + 1 words. The rows change places with each step.
 pub fn sum_of_poles(h: &[u32], t: &mut [u64], u: &mut [u64], m: Modulus) -> PoleSum
     requires { ⌜ Prime (m .p) × Prepared m × (Sized (now h) (now u) (length (now h) - 1)) × (length (now t) ≡ length (now u)) ⌝ }
     requires { ⌜ (Reduced (m .p) (now h)) × (getD (now h) 0 0 ≡ 0) ⌝ }

@@ -1,10 +1,9 @@
 -- `candidate_sum::candidate_sum` meets its contract. Assumes nothing.
-use borrow.Author.Needs.{needs}
 use Rattle.candidate_sum.proofs.candidate_sum.Statement.{statement}
 use Rattle.candidate_sum.proofs.candidate_sum.Tie as tie
 
 small-requires : tie.Need-small-requires
-small-requires c κs = let pre = c .before .before .pre in (pre .0, pre .1, pre .2, c .if1 .taken)
+small-requires c κs = (c .before .before .pre, c .if1 .taken)
 
 returns : tie.Need-returns
 returns c = c .small .ensures

@@ -33,21 +33,21 @@ start c = c .before .before .before .before .before .before
 inverses-requires : tie.Need-inverses-requires
 inverses-requires c κs =
     let at = c .before .before .before .before .before in
-    let r = at .pre .0 .0 in
-    (r .prime .prime, omega (arith, at .pre .0 .1, at .pre .1 .0 .0, degree-half (at .args .v) r, half-least (at .args .v) r))
+    let r = at .pre .0 .ready in
+    (r .prime .prime, omega (arith, at .pre .0 .large, at .pre .1 .0 .0, degree-half (at .args .v) r, half-least (at .args .v) r))
 
 expansion-of-curves-requires : tie.Need-expansion-of-curves-requires
 expansion-of-curves-requires c κs =
     let call = c .before .before .before .before in
     let at = start call in
-    let r = at .pre .0 .0 in
+    let r = at .pre .0 .ready in
     let size = at .pre .1 .0 in
     (r, (call .inverses .ensures, omega (arith, size .0, size .1, call .inverses .kept), omega (arith, size .1, half-most (at .args .v) r)))
 
 modulus-requires : tie.Need-modulus-requires
 modulus-requires c κs =
     let at = start (inverted (c .before .before)) in
-    let r = at .pre .0 .0 in
+    let r = at .pre .0 .ready in
     (omega (arith, r .prime .least), r .prime .most)
 
 -- the expansion's words
@@ -72,19 +72,19 @@ low-h c i = go (decLt i (length (words c)))
     go (yes l) = solved c .reduced i l
     go (no l) =
         let z : getD (words c) i 0 ≡ 0 = List·getD-eq-default (words c) 0 (omega arith) in
-        omega (arith, origin c .pre .0 .0 .prime .least)
+        omega (arith, origin c .pre .0 .ready .prime .least)
 
 first-h : (c : tie.After-modulus) → getD (words c) 0 0 ≡ 0
 first-h c =
     let p = origin c .args .v .p in
-    let pos : 0 < p = omega (arith, origin c .pre .0 .0 .prime .least) in
+    let pos : 0 < p = omega (arith, origin c .pre .0 .ready .prime .least) in
     mk-apart {p = p} pos (getD (words c) 0 0) 0 (low-h c 0) pos (sym (poly-at p (words c) 0) ∙ zeroth (solved c) (omega (arith, size-h c)))
 
 sum-of-poles-requires : tie.Need-sum-of-poles-requires
 sum-of-poles-requires c κs =
     let made = c .before .before .before in
     let at = origin made in
-    let r = at .pre .0 .0 in
+    let r = at .pre .0 .ready in
     let v = at .args .v in
     let e = sym (made .modulus .ensures .0) in
     let sized : Sized (words made) (at .args .u .now) (length (words made) - 1) = record {
@@ -117,7 +117,7 @@ returns c =
     let call = c .before .before .before .before in
     let made = call .before .before .before .before in
     let at = origin made in
-    candidate-sum (at .args .v) (words made) (at .pre .0 .0) (at .pre .0 .1) (at .pre .0 .2) (size-h made) (solved made) (call .sum-of-poles .result)
+    candidate-sum (at .args .v) (words made) (at .pre .0) (size-h made) (solved made) (call .sum-of-poles .result)
     (subst (λ p. PolesOf p (words made) (call .sum-of-poles .result)) (made .modulus .ensures .0) (call .sum-of-poles .ensures))
 
 pub sum-in-spec : {M : Type 1} → statement M

@@ -3,7 +3,7 @@
 use mathlib.Core.Path.{_≡_, sym, ap, subst}
 use Prim.Native.Nat.{ℕ}
 use native.Mathlib.Omega.{arith}
-use lib.ListN.{length, set, replicate, length-replicate}
+use lib.ListN.{length, set, length-replicate}
 use borrow.Author.Needs.{needs}
 use Rattle.series.specs.Series.{zeros, const}
 use Rattle.zmod.specs.Zmod.{Zmod, mk}

@@ -1,11 +1,10 @@
 -- `poles::cancel` meets its contract.
 -- Assumes nothing.
-use mathlib.Core.Path.{_≡_, sym, _∙_, ap, subst}
-use Prim.Native.Nat.{_-_}
+use mathlib.Core.Path.{sym, _∙_, ap, subst}
 use native.Mathlib.Omega.{arith}
 use borrow.Author.Needs.{needs}
 use Rattle.series.specs.Degree.{Below}
-use Rattle.zmod.specs.Zmod.{Zmod, mk, minus}
+use Rattle.zmod.specs.Zmod.{Zmod, mk}
 use Rattle.zmod.specs.Residues.{poly}
 use Rattle.barrett.specs.Modulus.{prepared-positive}
 use Rattle.poles.specs.Rows.{combination}

@@ -1,7 +1,6 @@
 -- `poles::cancel_two` meets its contract.
 -- Assumes nothing.
 use mathlib.Core.Path.{_∙_}
-use Prim.Native.Nat.{_-_}
 use native.Mathlib.Omega.{arith}
 use borrow.Author.Needs.{needs}
 use Rattle.zmod.specs.Zmod.{Zmod, mk}

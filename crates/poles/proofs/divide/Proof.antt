@@ -1,12 +1,12 @@
 -- `poles::divide` meets its contract. The invariant: t belongs to what is left of its remainder, which begins with w at i.
 -- Assumes nothing.
-use mathlib.Core.Path.{_≡_, refl, sym, _∙_, ap, subst}
-use Prim.Native.Nat.{ℕ, _-_, _≤_, _<_}
+use mathlib.Core.Path.{_≡_, refl, ap}
+use Prim.Native.Nat.{_-_, _≤_, _<_}
 use native.Mathlib.Omega.{arith}
 use lib.ListN.{length}
 use borrow.Author.Needs.{needs}
 use Rattle.series.specs.Degree.{Below}
-use Rattle.zmod.specs.Zmod.{Zmod, mk}
+use Rattle.zmod.specs.Zmod.{Zmod}
 use Rattle.zmod.specs.Prime.{Prime, prime-pos}
 use Rattle.zmod.specs.Residues.{Residue, Reduced, poly, residue-same}
 use Rattle.barrett.specs.Modulus.{prepared-below}

@@ -1,6 +1,6 @@
 -- `poles::quotient` meets its contract.
 -- Assumes nothing.
-use mathlib.Core.Path.{_≡_, sym, _∙_, ap, ap₂}
+use mathlib.Core.Path.{sym, _∙_, ap, ap₂}
 use Prim.Native.Nat.{_-_}
 use native.Mathlib.Omega.{arith}
 use lib.ListN.{length, getD}
@@ -9,7 +9,7 @@ use Rattle.ring.specs.Identity.{solve3}
 use Rattle.ring.specs.Identity.Ex.{_:*_}
 use Rattle.ring.specs.Ring.{CRing}
 use Rattle.zmod.specs.Zmod.{Zmod, mk, minus, times}
-use Rattle.zmod.specs.Residues.{poly, poly-at}
+use Rattle.zmod.specs.Residues.{poly-at}
 use Rattle.poles.proofs.quotient.Statement.{statement}
 use Rattle.poles.proofs.quotient.Tie as tie
 

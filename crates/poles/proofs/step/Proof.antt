@@ -1,9 +1,8 @@
 -- `poles::step` meets its contract.
 -- Assumes nothing.
-use mathlib.Core.Path.{_≡_, refl, sym, _∙_, ap}
-use Prim.Native.Nat.{_+_, _-_, _<_}
+use mathlib.Core.Path.{refl, ap}
+use Prim.Native.Nat.{_-_, _<_}
 use native.Mathlib.Omega.{arith}
-use lib.ListN.{length}
 use borrow.Author.Needs.{needs}
 use Rattle.zmod.specs.Prime.{prime-pos}
 use Rattle.zmod.specs.Residues.{Residue, residue-same}
@@ -53,7 +52,7 @@ highest-requires c κs =
       (
         run .low-h,
         run .low-u,
-        row-below (a .m .p) (a .h .now) (a .t .now) (a .u .now) (a .row .degree) (a .row .top) (a .row .next) (pre .0 .0) run,
+        row-below (a .m .p) (a .h .now) (a .t .now) (a .u .now) (a .row .degree) (a .row .top) (a .row .next) run,
       ),
     )
 
@@ -98,7 +97,7 @@ coefficient-requires c κs =
         omega (arith, size .words, size .most),
         omega (arith, size .words, size .most, high .least, high .inside (positive c)),
       ),
-      (run .low-u, run .low-h, row-below (a .m .p) (a .h .now) (a .t .now) (a .u .now) (a .row .degree) (a .row .top) (a .row .next) (pre .0 .0) run),
+      (run .low-u, run .low-h, row-below (a .m .p) (a .h .now) (a .t .now) (a .u .now) (a .row .degree) (a .row .top) (a .row .next) run),
     )
 
 add-if2 : tie.Need-add-if2
@@ -136,11 +135,11 @@ cancel-two-requires c κs =
       (
         (run .low-t, run .low-u),
         (
-          λ i l. before-below (a .m .p) (a .h .now) (a .t .now) (a .u .now) (a .row .degree) (a .row .top) (a .row .next) (pre .0 .0) run i (omega (
+          λ i l. before-below (a .m .p) (a .h .now) (a .t .now) (a .u .now) (a .row .degree) (a .row .top) (a .row .next) run i (omega (
             arith,
             high .inside pos,
           )),
-          λ i l. row-below (a .m .p) (a .h .now) (a .t .now) (a .u .now) (a .row .degree) (a .row .top) (a .row .next) (pre .0 .0) run i (omega (
+          λ i l. row-below (a .m .p) (a .h .now) (a .t .now) (a .u .now) (a .row .degree) (a .row .top) (a .row .next) run i (omega (
             arith,
             c .before .if2 .taken,
           )),
@@ -173,11 +172,11 @@ divide-requires c κs =
         (
           high,
           (
-            λ i l. before-below (a .m .p) (a .h .now) (a .t .now) (a .u .now) (a .row .degree) (a .row .top) (a .row .next) (pre .0 .0) run i (omega (
+            λ i l. before-below (a .m .p) (a .h .now) (a .t .now) (a .u .now) (a .row .degree) (a .row .top) (a .row .next) run i (omega (
               arith,
               high .inside pos,
             )),
-            row-below (a .m .p) (a .h .now) (a .t .now) (a .u .now) (a .row .degree) (a .row .top) (a .row .next) (pre .0 .0) run,
+            row-below (a .m .p) (a .h .now) (a .t .now) (a .u .now) (a .row .degree) (a .row .top) (a .row .next) run,
           ),
         ),
       ),

@@ -1,6 +1,6 @@
 -- `poles::sum_of_poles` meets its contract. The invariant: the rows of u and t are two that follow each other, or that of u is the last.
 -- Assumes nothing.
-use mathlib.Core.Path.{_≡_, refl, sym, _∙_, subst}
+use mathlib.Core.Path.{_≡_, refl}
 use Prim.Native.Nat.{_-_, _<_}
 use native.Mathlib.Omega.{arith}
 use lib.ListN.{length}
