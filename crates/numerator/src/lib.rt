@@ -1,4 +1,5 @@
-// The N that R2 gives for the values of a sheet and a g, from the products that its parts are made of, in room of three sizes. g has d + 1 words and N has 2d + 2, the constant term first.
+// The N that R2 gives for the values of a sheet and a g, from the products that its parts are made of, in room of three sizes. g has d + 1 words and N has
+// 2d + 2, the constant term first.
 ghost use mathlib.Core.Path.{_≡_};
 ghost use Prim.Native.Nat.{_+_, _-_, _*_, _≤_};
 ghost use lib.ListN.{length};
