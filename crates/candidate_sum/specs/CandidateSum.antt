@@ -1,5 +1,5 @@
 -- What is promised of the kernel sum that is found: every σ that has a g which meets the rules is this one; where none is found, no σ has one. And that the
--- sum of the roots of a denominator that fits the expansion is such a one.
+-- sum of the poles of the expansion is such a one.
 -- Assumes nothing.
 use mathlib.Core.Path.{_≡_, subst}
 use mathlib.Core.List.{List}

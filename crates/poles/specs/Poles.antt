@@ -2,7 +2,7 @@
 -- to make; `PolesOf`, a denominator and the sum of its roots.
 -- Assumes nothing.
 use mathlib.Core.Logic.{_≢_}
-use mathlib.Core.Path.{_≡_, refl, sym, _∙_, ap, subst, fun-ext}
+use mathlib.Core.Path.{_≡_, refl, sym, _∙_, ap, ap₂, subst, fun-ext}
 use mathlib.Core.List.{List}
 use Prim.Native.Nat.{ℕ, zero, suc, _+_, _-_, _/_, _≤_, _<_}
 use native.Mathlib.Decide.{decLt}
@@ -10,15 +10,20 @@ use native.Mathlib.Omega.{arith}
 use lib.ListN.{length, getD, set, replicate, length-replicate}
 use lib.Seq.{getD-set-same, getD-set-other}
 use Rattle.ring.specs.Ring
-use Rattle.ring.specs.Ring.{CRing}
-use Rattle.ring.specs.Field.{Inverse}
-use Rattle.series.specs.Series.{Seq, zeros, const}
-use Rattle.series.specs.Degree.{Below}
-use Rattle.zmod.specs.Zmod.{Zmod, mk, minus, times, mk-nonzero}
-use Rattle.zmod.specs.Prime.{Prime, prime-pos, Zmod-field}
+use Rattle.ring.specs.Ring.{CRing, pow}
+use Rattle.ring.specs.Field.{Inverse, product, unit-cancel}
+use Rattle.ring.specs.Identity.{solve2, solve3}
+use Rattle.ring.specs.Identity.Ex.{:0, _:-_, _:*_, :-_}
+use Rattle.series.specs.Series.{Series, Seq, conv, zeros, const, conv-const}
+use Rattle.series.specs.Degree.{Below, Leading, leading}
+use Rattle.series.specs.Indeterminate.{ind}
+use Rattle.series.specs.Binomial.{monic-power, ind-monic}
+use Rattle.zmod.specs.Zmod.{Zmod, mk, minus, times, mk-nonzero, mk-apart}
+use Rattle.zmod.specs.Prime.{Prime, prime-pos, inverse, Zmod-field}
 use Rattle.zmod.specs.Residues.{Residue, Reduced, poly, poly-at, residues-poly, residues-zeros}
-use Rattle.reconstruction.specs.Approximant.{Fits}
-use Rattle.poles.specs.Rows.{Rows, rows-start, rows-stop, rows-nonzero, rows-leading, rows-below, turn}
+use Rattle.divisibility.specs.Coprime.{Coprime}
+use Rattle.reconstruction.specs.Approximant.{Fits, proportional, multiple-nonzero}
+use Rattle.poles.specs.Rows.{Rows, rows-start, rows-stop, rows-coprime, rows-nonzero, rows-leading, rows-below, turn}
 use Rattle.poles.specs.Words.{remainder, RowsOf, cancelling}
 use Rattle.poles.specs.Steps.{Sized, Highest, highest-unit}
 use Rattle.poles.specs.declared.PoleSum.{PoleSum}
@@ -66,12 +71,13 @@ abbrev pub SumOf : (p a : ℕ) (t : Seq (Zmod p)) → PoleSum → Type 0
 SumOf p a t Missing = t a ≡ mk p 0
 SumOf p a t (Sum σ) = (σ < p) × (t a ≢ mk p 0) × (times p (mk p σ) (t a) ≡ minus p (t (a - 1)))
 
--- a denominator t that fits the expansion h₁/x + .. + h_n/xⁿ and is not 0, and the sum of its roots if it has degree n/2
+-- the fraction that fits the expansion h₁/x + .. + h_n/xⁿ, in lowest terms, with the denominator t, and the sum of t's roots if it has degree n/2
 pub record PolesOf (p : ℕ) (h : List ℕ) (result : PoleSum) : Type 0 where
   pub r : Seq (Zmod p)
   pub t : Seq (Zmod p)
   pub found : Fits (Zmod p) (length h - 1) (poly p h) ((length h - 1) / 2) r t
   pub nonzero : t ≢ zeros (Zmod p)
+  pub lowest : Coprime (Zmod p) (found .s) t
   pub sum : SumOf p ((length h - 1) / 2) t result
 
 -- the same of the words of u, where k is the degree of the remainder before u's
@@ -194,6 +200,7 @@ module _ (p : ℕ) (h u : List ℕ) (k : ℕ) (P : Prime p) (end : Ended p h u k
     t = poly p u;
     found = rows-stop R n (poly p h) (end .rows) (n / 2) (omega (arith, end .size .words)) (omega (arith, end .size .words, end .size .least)) (end .none);
     nonzero = rows-nonzero R n (poly p h) (end .rows) (Zmod-field P .apart);
+    lowest = rows-coprime R n (poly p h) (end .rows) (n / 2) _ _ (end .none);
     sum = go result q;
   }
     where
@@ -227,3 +234,49 @@ blank-one p n large some = (low, fun-ext λ i. poly-at p (set (replicate n 0) 0 
     low : Reduced p (set (replicate n 0) 0 1)
     low zero = omega (arith, first)
     low (suc i) = omega (arith, other i, blank-zeros p n (omega arith) .0 (suc i))
+
+-- ── one answer is right at most, for an even n
+
+module _ (p : ℕ) (h : List ℕ) (P : Prime p) (even : (length h - 1) / 2 + (length h - 1) / 2 ≡ length h - 1) where
+  abbrev F : CRing
+  F = Zmod p
+
+  abbrev a : ℕ
+  a = (length h - 1) / 2
+
+  modulus : Leading F (a + a) (pow (Series F) (ind F) (length h - 1))
+  modulus = subst (λ k. Leading F k (pow (Series F) (ind F) (length h - 1))) (sym even) (leading F _ _ (monic-power F (ind F) (ind-monic F) (length h - 1)))
+
+  -- where one denominator has degree n/2, any other is a constant times it
+  module _ (x y : PoleSum) (one : PolesOf p h x) (other : PolesOf p h y) (top : other .t a ≢ mk p 0) where
+    leads : Leading F a (other .t)
+    leads = record { below = other .found .t-below; unit = inverse P _ top }
+
+    times-one : (c : F .Car) × (one .t ≡ conv F (const F c) (other .t))
+    times-one = proportional F _ _ a a modulus (one .r) (one .t) (other .r) (other .t) (one .found) (other .found) leads (other .lowest)
+
+    abbrev c : F .Car
+    c = times-one .0
+
+    at : (i : ℕ) → one .t i ≡ times p c (other .t i)
+    at i = ap (λ f. f i) (times-one .1) ∙ conv-const F c (other .t) i
+
+    top-too : one .t a ≢ mk p 0
+    top-too e = product F (Zmod-field P) c (other .t a) (multiple-nonzero F c (one .t) (other .t) (times-one .1) (one .nonzero)) top (sym (at a) ∙ e)
+
+    same-sum : (σ σ′ : F .Car) → times p σ (one .t a) ≡ minus p (one .t (a - 1)) → times p σ′ (other .t a) ≡ minus p (other .t (a - 1)) → σ ≡ σ′
+    same-sum σ σ′ e e′ =
+        Ring.sub-zero F σ σ′
+        (unit-cancel F (one .t a) (F .add σ (minus p σ′)) (inverse P _ top-too)
+        (solve3 F (λ t s u. t :* (s :- u)) (λ t s u. s :* t :- u :* t) tt (one .t a) σ σ′
+        ∙ ap₂ (λ v w. F .add v (minus p w)) (e ∙ ap (minus p) (at (a - 1)))
+        (ap (times p σ′) (at a) ∙ solve3 F (λ s c t. s :* (c :* t)) (λ s c t. c :* (s :* t)) tt σ′ c (other .t a) ∙ ap (times p c) e′)
+        ∙ solve2 F (λ c t. :- (c :* t) :- c :* :- t) (λ c t. :0) tt c (other .t (a - 1))))
+
+  pub poles-unique : (x y : PoleSum) → PolesOf p h x → PolesOf p h y → x ≡ y
+  poles-unique Missing Missing one other = refl
+  poles-unique Missing (Sum σ) one other = absurd (top-too Missing (Sum σ) one other (other .sum .1) (one .sum))
+  poles-unique (Sum σ) Missing one other = absurd (top-too Missing (Sum σ) other one (one .sum .1) (other .sum))
+  poles-unique (Sum σ) (Sum σ′) one other =
+      ap Sum (mk-apart {p = p} (prime-pos P) σ σ′ (one .sum .0) (other .sum .0)
+      (same-sum (Sum σ) (Sum σ′) one other (other .sum .1) (mk p σ) (mk p σ′) (one .sum .2) (other .sum .2)))

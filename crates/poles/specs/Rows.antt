@@ -17,6 +17,7 @@ use Rattle.series.specs.Indeterminate.{ind}
 use Rattle.series.specs.Binomial.{monic-power, ind-monic, ind-power}
 use Rattle.series.specs.Local.{conv-local}
 use Rattle.series.specs.Reversal.{rev, rev-sub, rev-past, shift, conv-shift}
+use Rattle.divisibility.specs.Coprime.{Coprime}
 use Rattle.reconstruction.specs.Approximant.{Fits}
 use Rattle.reconstruction.specs.Euclid as Euclid
 use Rattle.reconstruction.specs.Euclid.{Stage, Eliminated, eliminated-none, eliminated-more, eliminated-row}
@@ -206,6 +207,14 @@ module _ (R : CRing) where
           go : (i : ℕ) → a ≤ i → Dec (i < k) → r′ i ≡ R .𝟘
           go i l (yes g) = remainder-at rows i (omega (arith, within rows)) ∙ none i l g
           go i l (no g) = stage .r′-below i (omega arith)
+
+      -- in lowest terms
+      pub rows-coprime : (a : ℕ) (whole : a + a ≡ n) (least : a ≤ k) (none : (i : ℕ) → a ≤ i → i < k → conv R t′ H i ≡ R .𝟘)
+          → Coprime R (rows-stop a whole least none .s) t′
+      unfolding rows-stop
+      rows-coprime a whole least none =
+          subst (λ s. Coprime R s t′) (sym (Euclid.stop-cofactor R m H n k (n - k) (rows .r) r′ t t′ stage a a whole least _))
+          (Euclid.coprime R m H n k (n - k) (rows .r) r′ t t′ stage)
 
       pub rows-nonzero : R .𝟙 ≢ R .𝟘 → t′ ≢ zeros R
       rows-nonzero = Euclid.nonzero R m H n k (n - k) (rows .r) r′ t t′ stage

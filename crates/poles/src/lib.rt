@@ -1,5 +1,5 @@
 // The sum of the poles of a rational function over ℤ/p, for p below 2^28, from its expansion at infinity, h₁/x + h₂/x² + .. + h_n/xⁿ, where its denominator
-// in lowest terms has degree n/2: Euclid's algorithm on xⁿ and h₁ xⁿ⁻¹ + .. + h_n finds a denominator t that fits, and the sum is minus its second coefficient
+// has degree n/2 at most: Euclid's algorithm on xⁿ and h₁ xⁿ⁻¹ + .. + h_n finds the denominator t in lowest terms, and the sum is minus its second coefficient
 // over its first. Of the remainders nothing is stored: a coefficient of one is a sum of products of the words of its t with those of h. Nor is anything
 // divided before the end: a row is multiplied by a unit, and two coefficients of a remainder are cancelled at once.
 use barrett::Modulus;
@@ -17,7 +17,7 @@ ghost use Rattle.poles.specs.Words.{correlation, remainder, RowsOf, canc
 ghost use Rattle.poles.specs.Steps.{Sized, Highest};
 ghost use Rattle.poles.specs.Poles.{Running, Stepped, QuotientOf, PolesOf};
 
-// The sum of the roots of a denominator of degree n/2 that fits; none where the one that was found has a smaller degree.
+// The sum of the poles, each as often as it counts, if there are n/2 of them; fewer have no sum here.
 pub enum PoleSum {
     Missing,
     Sum(u32),
@@ -201,7 +201,7 @@ fn quotient(u: &[u64], k: usize, p: u32) -> PoleSum
     PoleSum::Sum(field::multiply(second, inverse, p))
 }
 
-// The sum of the roots of a denominator that fits, where h₀ = 0 and h has n + 1 words; t and u are room for rows, of n/2 + 1 words. The rows change places with each step.
+// The sum of the poles, where h₀ = 0 and h has n + 1 words; t and u are room for rows, of n/2 + 1 words. The rows change places with each step.
 pub fn sum_of_poles(h: &[u32], t: &mut [u64], u: &mut [u64], m: Modulus) -> PoleSum
     requires { ⌜ Prime (m .p) × Prepared m × (Sized (now h) (now u) (length (now h) - 1)) × (length (now t) ≡ length (now u)) ⌝ }
     requires { ⌜ (Reduced (m .p) (now h)) × (getD (now h) 0 0 ≡ 0) ⌝ }

@@ -3,18 +3,26 @@
 -- without inverses, which multiplies r by a unit (`Eliminated`), and where it stops at the first r′ of degree below a, r′ and t′ are an approximant.
 -- Assumes nothing.
 use mathlib.Core.Logic.{_≢_}
-use mathlib.Core.Path.{_≡_, refl, sym, _∙_, ap, ap₂}
-use Prim.Native.Nat.{ℕ, suc, _+_, _-_, _≤_, _<_}
+use mathlib.Core.Path.{_≡_, refl, sym, _∙_, ap, ap₂, fun-ext}
+use Prim.Native.Nat.{ℕ, zero, suc, _+_, _-_, _≤_, _<_}
 use native.Mathlib.Omega.{arith}
 use Rattle.ring.specs.Ring
 use Rattle.ring.specs.Ring.{CRing}
 use Rattle.ring.specs.Field.{Inverse, unit-product}
-use Rattle.ring.specs.Identity.{solve1, solve2, solve3, solve4, solve6, solve8}
+use Rattle.ring.specs.Identity.{solve1, solve2, solve3, solve4, solve5, solve6, solve8}
 use Rattle.ring.specs.Identity.Ex.{:0, :1, _:+_, _:-_, _:*_, :-_}
-use Rattle.series.specs.Series.{Series, Seq, const, zeros, conv-const}
+use Rattle.series.specs.Series.{Series, Seq, const, zeros, negs, conv-const}
 use Rattle.series.specs.Indeterminate.{const-mul}
-use Rattle.series.specs.Degree.{Below, Poly, Leading, poly-zeros, poly-const, const-below, poly-add, poly-mul, top, factor-below, leading-mul}
+use Rattle.series.specs.Degree.{Below, Poly, Leading, poly-zeros, poly-const, const-below, poly-add, poly-neg, poly-mul, top, factor-below, leading-mul}
+use Rattle.divisibility.specs.Coprime.{Coprime}
 use Rattle.reconstruction.specs.Approximant.{Approximant}
+
+const-neg : (R : CRing) (c : R .Car) → negs R (const R c) ≡ const R (R .neg c)
+const-neg R c = fun-ext go
+  where
+    go : (i : ℕ) → R .neg (const R c i) ≡ const R (R .neg c) i
+    go zero = refl
+    go (suc i) = Ring.neg-zero R
 
 module _ (R : CRing) (m H : Seq R) (e : ℕ) where
   open CRing (Series R) using (𝟘, 𝟙, add as _⊕_, mul as _⊗_, neg)
@@ -36,6 +44,9 @@ module _ (R : CRing) (m H : Seq R) (e : ℕ) where
     pub t-below : Below R j t
     pub t′-degree : Leading R j t′
     pub degrees : k + j ≡ e
+    pub det : R .Car
+    pub det-unit : Inverse R det
+    pub unimodular : s ⊗ t′ ⊖ s′ ⊗ t ≡ const R det
 
   -- m and H, with 0 and 1
   pub start : Leading R e m → Below R e H → Stage e 0 m H 𝟘 𝟙
@@ -51,6 +62,9 @@ module _ (R : CRing) (m H : Seq R) (e : ℕ) where
     t-below = λ i l. refl;
     t′-degree = record { below = const-below R (R .𝟙); unit = (R .𝟙, R .mul-one (R .𝟙)) };
     degrees = omega arith;
+    det = R .𝟙;
+    det-unit = (R .𝟙, R .mul-one (R .𝟙));
+    unimodular = solve2 (Series R) (λ m h. :1 :* :1 :- :0 :* :0) (λ m h. :1) tt m H;
   }
 
   -- a unit times r, and a multiple of r′ added to it; and the same of t and t′
@@ -174,6 +188,17 @@ module _ (R : CRing) (m H : Seq R) (e : ℕ) where
             );
           };
           degrees = omega arith;
+          det = R .neg (R .mul c (stage .det));
+          det-unit = (
+            R .neg (R .mul (done .unit .0) (stage .det-unit .0)),
+            solve4 R (λ c d x y. :- (c :* d) :* :- (x :* y)) (λ c d x y. c :* x :* (d :* y)) tt c (stage .det) (done .unit .0) (stage .det-unit .0)
+                ∙ ap₂ (R .mul) (done .unit .1) (stage .det-unit .1) ∙ R .mul-one (R .𝟙),
+          );
+          unimodular =
+              ap (λ x. stage .s′ ⊗ x ⊖ s″ ⊗ t′) (done .cofactor)
+              ∙ solve6 (Series R) (λ c q s v t u. v :* (c :* t :+ q :* u) :- (c :* s :+ q :* v) :* u) (λ c q s v t u. :- (c :* (s :* u :- v :* t))) tt
+              (const R c) Q (stage .s) (stage .s′) t t′
+              ∙ ap (λ x. neg (const R c ⊗ x)) (stage .unimodular) ∙ ap neg (const-mul R c (stage .det)) ∙ const-neg R (R .mul c (stage .det));
         }
 
     -- ── the end: r has degree a or more, and r′ less
@@ -186,6 +211,25 @@ module _ (R : CRing) (m H : Seq R) (e : ℕ) where
       r-below = below;
       t-below = λ i g. stage .t′-degree .below i (omega arith);
     }
+
+    pub stop-cofactor : (a n : ℕ) (sum : a + n ≡ e) (h : a ≤ k) (below : Below R a r′) → stop a n sum h below .s ≡ stage .s′
+    unfolding stop
+    stop-cofactor a n sum h below = refl
+
+    -- the cofactors of a row are coprime, since s t′ − s′ t is a unit
+    pub coprime : Coprime R (stage .s′) t′
+    coprime = record {
+      u = neg (const R i ⊗ t);
+      v = const R i ⊗ stage .s;
+      poly-u = poly-neg R _ (poly-mul R _ _ (poly-const R i) (j, stage .t-below));
+      poly-v = poly-mul R _ _ (poly-const R i) (stage .poly-s);
+      is =
+          solve5 (Series R) (λ i s v t u. :- (i :* t) :* v :+ i :* s :* u) (λ i s v t u. (s :* u :- v :* t) :* i) tt (const R i) (stage .s) (stage .s′) t t′
+          ∙ ap (λ x. x ⊗ const R i) (stage .unimodular) ∙ const-mul R (stage .det) i ∙ ap (const R) (stage .det-unit .1);
+    }
+      where
+        i : R .Car
+        i = stage .det-unit .0
 
     pub nonzero : R .𝟙 ≢ R .𝟘 → t′ ≢ zeros R
     nonzero apart z =

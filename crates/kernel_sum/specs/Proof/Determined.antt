@@ -86,11 +86,18 @@ module _ (R : CRing) (A B Ã B̃ : R .Car) (d : ℕ) (d≥1 : 1 ≤ d) where
     abbrev polys : Polys R names
     polys = (lowest .poly-u, (lowest .poly-v, ((suc d, meets .r1 .degree), (poly-n, ((2, r-ind R .below), tt)))))
 
-    coprime : neg T ⊗ neg (M R A B Ã B̃ d d≥1 σ g (meets .r1)) ⊕ (lowest .u ^ 2 ⊕ x ⊗ T) ⊗ g ^ 2 ≡ 𝟙
-    coprime =
-        solve5 (Series R) (λ s t g n x. :- :T s t g n :* :- (n :- x :* g :^ 2) :+ (s :^ 2 :+ x :* :T s t g n) :* g :^ 2)
-        (λ s t g n x. (s :* g :+ t :* n) :^ 2) tt (lowest .u) (lowest .v) g n x
-        ∙ ap (λ y. y ^ 2) (lowest .is) ∙ solve1 (Series R) (λ y. :1 :^ 2) (λ y. :1) tt x
+    -- so g² is coprime to −M
+    coprime : Coprime R (neg (M R A B Ã B̃ d d≥1 σ g (meets .r1))) (g ^ 2)
+    coprime = record {
+      u = neg T;
+      v = lowest .u ^ 2 ⊕ x ⊗ T;
+      poly-u = poly-eval R names polys (:- :T (var 0) (var 1) (var 2) (var 3));
+      poly-v = poly-eval R names polys (var 0 :^ 2 :+ var 4 :* :T (var 0) (var 1) (var 2) (var 3));
+      is =
+          solve5 (Series R) (λ s t g n x. :- :T s t g n :* :- (n :- x :* g :^ 2) :+ (s :^ 2 :+ x :* :T s t g n) :* g :^ 2)
+          (λ s t g n x. (s :* g :+ t :* n) :^ 2) tt (lowest .u) (lowest .v) g n x
+          ∙ ap (λ y. y ^ 2) (lowest .is) ∙ solve1 (Series R) (λ y. :1 :^ 2) (λ y. :1) tt x;
+    }
 
     module _ (h : Seq R) (computed : Expands R A B Ã B̃ (4 * d) h) (r t : Seq R) (found : Found R d h r t) where
       same : Before (R .Car) (4 * d + 1) h (expansion R A B (power-sums R d g))
@@ -104,9 +111,7 @@ module _ (R : CRing) (A B Ã B̃ : R .Car) (d : ℕ) (d≥1 : 1 ≤ d) where
       square-found =
           reconstructed R (x ^ (4 * d)) (rev R (4 * d) h) (2 * d) (2 * d) modulus r t _ (g ^ 2) found
           (approximant R A B Ã B̃ d d≥1 σ g (meets .r1) h same) (g²-monic R A B Ã B̃ d d≥1 σ g (meets .r1))
-          (neg T) (lowest .u ^ 2 ⊕ x ⊗ T) (poly-eval R names polys (:- :T (var 0) (var 1) (var 2) (var 3)))
-          (poly-eval R names polys (var 0 :^ 2 :+ var 4 :* :T (var 0) (var 1) (var 2) (var 3)))
-          (ap (λ y. neg T ⊗ y ⊕ (lowest .u ^ 2 ⊕ x ⊗ T) ⊗ g ^ 2) (cofactor R A B Ã B̃ d d≥1 σ g (meets .r1) h same) ∙ coprime)
+          (subst (λ s. Coprime R s (g ^ 2)) (sym (cofactor R A B Ã B̃ d d≥1 σ g (meets .r1) h same)) coprime)
 
       pub found-nonzero : t ≢ zeros R → t (2 * d) ≢ R .𝟘
       found-nonzero = multiple-nonzero R (t (2 * d)) t (g ^ 2) square-found
