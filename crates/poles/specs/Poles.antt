@@ -1,5 +1,5 @@
 -- What the search for the poles promises, and the states between: `Running`, two rows in slices; `Stepped`, what a step leaves; `Ended`, that no step is left
--- to make; `PolesOf`, a denominator and the sum of its roots.
+-- to make; `PolesOf`, the fraction in lowest terms and the sum of its denominator's roots, of which one is right at most (`poles-unique`).
 -- Assumes nothing.
 use mathlib.Core.Logic.{_≢_}
 use mathlib.Core.Path.{_≡_, refl, sym, _∙_, ap, ap₂, subst, fun-ext}

@@ -1,6 +1,7 @@
 -- The extended Euclidean algorithm on m, of degree e, and H, of a smaller degree: rows r = t H + s m, of which s need not be computed. `Stage` is what
 -- holds of two rows that follow each other, r of degree k and t′ of degree e − k: it holds at the start, a division with remainder keeps it, also one
--- without inverses, which multiplies r by a unit (`Eliminated`), and where it stops at the first r′ of degree below a, r′ and t′ are an approximant.
+-- without inverses, which multiplies r by a unit (`Eliminated`), and where it stops at the first r′ of degree below a, r′ and t′ are an approximant, in
+-- lowest terms: s t′ − s′ t stays a unit.
 -- Assumes nothing.
 use mathlib.Core.Logic.{_≢_}
 use mathlib.Core.Path.{_≡_, refl, sym, _∙_, ap, ap₂, fun-ext}
