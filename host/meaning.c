@@ -21,8 +21,6 @@ const char *sagepliers_meaning(uint32_t number)
         "the point is not one of the domain",
         "the two certificates have different primes, or the first codomain is not the second domain",
         "the product l of the degrees is above 255, or 2 l - 1 is not below p",
-        [17] = "the question is without sigma, and 8 l - 5 is not below p",
     };
-    const char *meaning = number < sizeof meanings / sizeof *meanings ? meanings[number] : NULL;
-    return meaning != NULL ? meaning : "no refusal has this number";
+    return number < sizeof meanings / sizeof *meanings ? meanings[number] : "no refusal has this number";
 }

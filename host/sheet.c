@@ -87,12 +87,12 @@ bool sheet_of_numbers(enum form form, const int64_t *numbers, size_t count, stru
 /* Whether the sheet has the kinds of the form, at their places, and its length. */
 static bool has_form(const struct sheet *sheet, enum form form)
 {
-    size_t header = form == KERNEL_SHEET ? 4 : form == QUESTION_WITHOUT_SUM ? 6 : 7;
+    size_t header = form == KERNEL_SHEET ? 4 : 7;
     if (sheet->count % 4 != 0 || sheet->count < 4 * (header + 1))
         return false;
     uint32_t degree = value_of(word_at(sheet, form == KERNEL_SHEET ? 3 : 5));
     /* Coefficients, and on a certificate the count. */
-    size_t between = form == KERNEL_SHEET ? half(degree) + 1 : form == CERTIFICATE ? 3 * half(degree) + 4 : 0;
+    size_t between = form == QUESTION ? 0 : form == KERNEL_SHEET ? half(degree) + 1 : 3 * half(degree) + 4;
     size_t words = header + between + 1;
     if (sheet->count != 4 * words)
         return false;
@@ -104,8 +104,8 @@ static bool has_form(const struct sheet *sheet, enum form form)
 
 enum form form_of(const struct sheet *sheet)
 {
-    static const enum form forms[4] = {QUESTION, QUESTION_WITHOUT_SUM, CERTIFICATE, KERNEL_SHEET};
-    for (size_t i = 0; i < 4; i++)
+    static const enum form forms[3] = {QUESTION, CERTIFICATE, KERNEL_SHEET};
+    for (size_t i = 0; i < 3; i++)
         if (has_form(sheet, forms[i]))
             return forms[i];
     return NO_FORM;

@@ -6,7 +6,7 @@
 #include <stddef.h>
 #include <stdint.h>
 
-enum form { NO_FORM, QUESTION, QUESTION_WITHOUT_SUM, CERTIFICATE, KERNEL_SHEET };
+enum form { NO_FORM, QUESTION, CERTIFICATE, KERNEL_SHEET };
 
 /* How an answer is shown. */
 enum view { AS_TEXT, AS_JSON, AS_HEX, AS_WORDS };
@@ -34,8 +34,8 @@ void set_words(struct sheet *sheet, const uint32_t *words, size_t count);
 size_t get_words(const struct sheet *sheet, uint32_t *words);
 
 /* The sheet of a form whose values in their order are the numbers; p is the first. A negative number stands for itself plus p where
- * the value is an element of the field. Of a question six numbers make one without the kernel sum; apart from that, too few and too many make a sheet that
- * the library refuses. Returns false if a number has no place in a word; `stray` is then the first such number. */
+ * the value is an element of the field. Too few and too many numbers make a sheet that the library refuses. Returns false if a number has no place in a
+ * word; `stray` is then the first such number. */
 bool sheet_of_numbers(enum form form, const int64_t *numbers, size_t count, struct sheet *sheet, int64_t *stray);
 
 /* The form whose kinds and length the sheet has. */

@@ -11,7 +11,7 @@ static const struct argp_option option_table[] = {
     OPTION_JSON,
     {"hex", KEY_HEX, NULL, 0, "show the words, eight hexadecimal digits a line", 0},
     {"words", KEY_WORDS, NULL, 0, "show every word with its kind and value", 0},
-    {"form", KEY_FORM, "FORM", 0, "what decimal numbers are: question, certificate or kernel; by default six or seven are a question, more a certificate", 0},
+    {"form", KEY_FORM, "FORM", 0, "what decimal numbers are: question, certificate or kernel; by default seven are a question, and more a certificate", 0},
     OPTION_QUIET,
     OPTION_INPUT,
     {0},
@@ -45,7 +45,7 @@ static error_t parse(int key, char *argument, struct argp_state *state)
             argp_error(state, "--form=%s: the forms are question, certificate and kernel", shown_name(argument));
         return 0;
     case ARGP_KEY_END:
-        /* The first seven values of a certificate are those of its question, with sigma last, so decimal numbers of either are read alike. */
+        /* The first seven values of a certificate are those of its question, so decimal numbers of either are read alike. */
         call->taken = take_sheet(state, &call->options, call->form == NO_FORM ? CERTIFICATE : call->form, 1, MOST_WORDS - 1,
                                  "the values of a sheet in their order", call->sheet);
         return 0;
@@ -71,10 +71,9 @@ enum status command_show(int argc, char **argv)
     const struct argp argp = {option_table, parse, "[FILE]\nNUMBER...",
                               "Shows what is on a sheet: the field, the curves, the degree, the polynomials and, of a certificate, how many abscissas of the "
                               "kernel it says are rational. Judges nothing.\v"
-                              "The sheet is in FILE or, without arguments, in standard input, or is given by its values in their order: a question's are P A B "
-                              "A~ B~ L and, unless it is left out, SIGMA; a certificate's are those of its question with SIGMA, the coefficients of g and "
-                              "those of N from the constant term up, and the count. With -o it is written as bytes, whatever it was written as. Status 1 "
-                              "means that it is neither question nor certificate nor kernel sheet.",
+                              "The sheet is in FILE or, without arguments, in standard input, or is given by its values in their order: a certificate's are "
+                              "those of its question, the coefficients of g and those of N from the constant term up, and the count. With -o it is written as "
+                              "bytes, whatever it was written as. Status 1 means that it is neither question nor certificate nor kernel sheet.",
                               NULL, NULL, NULL};
     enum status status = take_options(&argp, argc, argv, &call, &call.options) && call.taken ? answer(&call) : FAILED;
     end_options(&call.options);

@@ -71,9 +71,7 @@ static void put_text(const struct sheet *sheet, enum form form)
 {
     struct parts parts = parts_of(sheet, form);
     printf("%s: p = %" PRIu32 ", degree %" PRIu32, parts.title, value_of(word_at(sheet, 0)), value_of(word_at(sheet, parts.degree)));
-    if (form == QUESTION_WITHOUT_SUM)
-        printf(", kernel sum not given");
-    else if (form != KERNEL_SHEET)
+    if (form != KERNEL_SHEET)
         printf(", kernel sum %" PRIu32, value_of(word_at(sheet, 6)));
     putchar('\n');
     put_curve("domain", sheet, 1);
@@ -110,9 +108,7 @@ static void put_json(const struct sheet *sheet, enum form form)
         put_values(sheet, 3, 2);
     }
     printf(",\"degree\":%" PRIu32, value_of(word_at(sheet, parts.degree)));
-    if (form == QUESTION_WITHOUT_SUM)
-        printf(",\"sigma\":null");
-    else if (form != KERNEL_SHEET)
+    if (form != KERNEL_SHEET)
         printf(",\"sigma\":%" PRIu32, value_of(word_at(sheet, 6)));
     if (parts.g_count > 0) {
         printf(",\"g\":");

@@ -61,13 +61,12 @@ static enum status run(int argc, char **argv, const struct service *service, con
 
 enum status command_solve(int argc, char **argv)
 {
-    static const struct service solve = {QUESTION, 6, 7, "p A B A~ B~ l with sigma or without it", sagepliers_solve};
-    return run(argc, argv, &solve, "P A B A~ B~ L [SIGMA]\n[FILE]",
+    static const struct service solve = {QUESTION, 7, 7, "the seven p A B A~ B~ l sigma", sagepliers_solve};
+    return run(argc, argv, &solve, "P A B A~ B~ L SIGMA\n[FILE]",
                "Solves a question: finds the normalized isogeny of degree L from y^2 = x^3 + A*x + B to y^2 = x^3 + A~*x + B~ over the field of P elements "
-               "whose kernel has abscissas of sum SIGMA, and shows its certificate. SIGMA may be left out if 8*L - 5 is below P: then at most one sum fits, "
-               "and the certificate has it.\v"
-               "The question is six or seven numbers, or a sheet in FILE or, without arguments, in standard input. A negative number stands for itself "
-               "plus P; a value of P or more, L apart, is taken modulo P. A refused question leaves the FILE of -o as it was.");
+               "whose kernel has abscissas of sum SIGMA, and shows its certificate.\v"
+               "The question is seven numbers, or a sheet in FILE or, without arguments, in standard input. A negative number stands for itself plus P; "
+               "a value of P or more, L apart, is taken modulo P. A refused question leaves the FILE of -o as it was.");
 }
 
 enum status command_kernel(int argc, char **argv)

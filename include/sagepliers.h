@@ -10,19 +10,16 @@
  * of g, 9 a coefficient of N, 10 the count of rational abscissas, which is how many u from 0 to p - 1 have g(u) = 0, 15 the end, with value 0.
  * A sheet is a run of words:
  *    question      kinds 1 to 7, end                                                              8 words
- *                  kinds 1 to 6, end: a question without sigma                                    7 words
  *    certificate   kinds 1 to 7, d + 1 words of kind 8, 2 d + 2 of kind 9, one of kind 10, end    3 d + 12 words, at most SAGEPLIERS_ROOM
  *    kernel sheet  kinds 1, 2, 3, 6, d + 1 words of kind 8, end                                   d + 6 words, at most 133
  * Coefficients go from the constant term up. A sheet in bytes has four bytes to a word, lowest first, whatever the order of bytes of the machine.
  * On a question and a kernel sheet A, B, A~, B~, sigma and the coefficients of g may have any value of 28 bits: it is taken modulo p, and what is
  * left stands in the certificate. On a certificate they are below p. p, l and the count are never reduced.
- * Who has two curves and a degree, but no sigma, leaves its word out. A question is one without sigma if its seventh word has kind 15, whatever the value;
- * solve alone knows this form.
  *
  * Refusals. Each entry puts its questions to its sheets in a fixed order, and what does not pass is refused with the number of the first question
  * that is answered with no:
  *    1  the answer has room for SAGEPLIERS_ROOM words
- *    2  the words before any coefficients, or before a question's end, are there, each of its kind; a sheet in bytes has whole words
+ *    2  the words before any coefficients are there, each of its kind; a sheet in bytes has whole words
  *    3  p is a prime from 11 to 2^28 - 1
  *    4  the degree l is odd, from 3 to 255, with 2 l - 1 < p
  *    5  the curve values, and on a certificate sigma, are below p (certificates and name; other sheets are reduced)
@@ -33,12 +30,10 @@
  *    9  N is that of g: N = (l x - sigma) g^2 - 2 (3 x^2 + A) g g' - 4 f (g g'' - g'^2), where f = x^3 + A x + B (rule R2);
  *       and the count is how many u from 0 to p - 1 have g(u) = 0, each once
  *   10  f (N' g - 2 N g')^2 = N^3 + A~ N g^4 + B~ g^6 (rule R3)
- *   11  there is an answer: a g that meets the rules, with the given sigma or, if none is given, with some sigma (solve); a codomain that is not singular
- *       and meets rule R3 (kernel)
+ *   11  there is an answer: a g that meets the rules (solve), a codomain that is not singular and meets rule R3 (kernel)
  *   12  the point has coordinates below p and is on the domain, or is infinity (push)
  *   13  both certificates have the same p, and the codomain of the first is the domain of the second (compose)
  *   14  the product l of their degrees is at most 255, with 2 l - 1 < p (compose)
- *   17  8 l - 5 < p (solve: asked after 4, and of a question without sigma alone)
  * No input is undefined behaviour as long as the pointers are as said below: every sequence of bytes or words gets its answer.
  *
  * Lifetimes. A pointer with its count names that many elements in memory that is valid for the whole call: to read, and for `answer` also to write.
@@ -88,9 +83,7 @@ uint32_t sagepliers_check(const uint8_t *bytes, size_t count);
  * Returns the number of the image, a point of the codomain, or SAGEPLIERS_REFUSED plus the number of the refusal. */
 uint64_t sagepliers_push(const uint8_t *bytes, size_t count, uint64_t point);
 
-/* Solve: the certificate that answers the question of `words` words. Puts questions 1 to 7, of which 5 never fails, then 11; to a question without sigma
- * 1 to 4, 17, 5 to 7 and 11. Such a question has one answer at most: the certificate names its sigma, below p, and is the one that the question with this
- * sigma gets. 11 then says that no sigma has a g that meets the rules.
+/* Solve: the certificate that answers the question of `words` words. Puts questions 1 to 7, of which 5 never fails, then 11.
  * Returns the count of the words written to the front of `answer`, or SAGEPLIERS_REFUSED plus the number of the refusal. The words of `answer`
  * after the count, and all of them after a refusal, stay as they were. */
 uint64_t sagepliers_solve(const uint32_t *sheet, size_t words, uint32_t *answer, size_t room);

@@ -7,8 +7,6 @@ g='800003da 80000001'
 n='900003b5 900002a6 900003c3 90000001'
 rational=a0000001
 first="$header $g $n $rational f0000000"
-# Request E9: the question that this certificate answers, without its word of kind 7.
-without_sum='100003f1 20000001 30000003 40000109 5000036d 60000003 f0000000'
 # p = 11: (0, 1) to (0, 6), g = x, N = x^3 + 4, and 0 for the rational abscissa
 over_11='1000000b 20000000 30000001 40000000 50000006 60000003 70000000 80000000 80000001 90000004 90000000 90000000 90000001 a0000001 f0000000'
 # Request E1: the step that follows the first, Q 1009, 265, 877, 81, 169, 3, 871, with g = x + 69 by R1, and the marked sheet of degree 9 that both make.
@@ -23,8 +21,6 @@ next_over_11='1000000b 20000000 30000006 40000000 50000003 60000003 70000000 800
 each_refused() {
     "$1" 2 200003f1 20000001 30000003 40000109 5000036d 60000003 7000002e $g $n $rational f0000000 # the first word of another kind
     "$1" 2 100003f1 20000001 30000003 40000109 5000036d 60000003                                   # no seven words
-    "$1" 2 $without_sum                                                                            # a question without sigma is no certificate
-    "$1" 2 $without_sum $g $n $rational f0000000                                                   # nor does a certificate leave sigma out
     "$1" 3 100003e9 20000001 30000003 40000109 5000036d 60000003 7000002e $g $n $rational f0000000 # p = 1001
     "$1" 3 10000007 20000001 30000003 40000001 50000003 60000003 70000002 $g $n $rational f0000000 # p = 7
     "$1" 4 100003f1 20000001 30000003 40000109 5000036d 60000006 7000002e $g $n $rational f0000000 # l = 6

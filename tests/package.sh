@@ -6,8 +6,8 @@
 #
 # Any step that fails, or cannot be run here, ends the script with status 1 and says which. Needs a C and a C++ compiler (CC, CXX) with the address,
 # undefined and thread sanitizers, pkg-config (PKG_CONFIG), make, nm, readelf, /dev/full, and for root setpriv; needs.sh installs them. Expectations
-# come from documents 01 and 02: printed words and rows, the order of the questions, what request E2 reduces, what request E6 counts, what request E1
-# composes and what request E9 leaves out; some counts of roots, and N where the documents print none, are PARI/GP's.
+# come from documents 01 and 02: printed words and rows, the order of the questions, what request E2 reduces, what request E6 counts and what request E1
+# composes; some counts of roots, and N where the documents print none, are PARI/GP's.
 set -eu
 here=$(pwd)
 cd "$(dirname "$0")"
@@ -383,37 +383,6 @@ step "answer: request E2's values from p on"
     says answer 'refused 6' $header f00003f1                                                                        # an end with value p
 }
 
-step "answer: request E9's questions without the kernel sum"
-six=${without_sum% *}
-# shellcheck disable=SC2086
-{
-    says answer "$(printf '%s\n' $first)" $without_sum
-    says answer "$(printf '%s\n' $first)" 100003f1 200003f2 300003f4 400004fa 5000075e 60000003 f0000000 # each p more
-    says answer 'refused 11' 100003f1 20000001 30000003 40000109 5000036e 60000003 f0000000  # B~ = 878: the one codomain of degree 3 is (265, 877)
-    says answer 'refused 2' $six                                                             # six words
-    says answer 'refused 2' 100003f1 30000001 30000003 40000109 5000036d 60000003 f0000000   # the second word of another kind
-    says answer 'refused 2' $six e0000000                                                    # the seventh of another kind
-    says answer 'refused 6' $six 70000000                                                    # sigma = 0 and no end
-    says answer 'refused 3' 1000000f 20000001 30000003 40000109 5000036d 60000003 f0000000   # p = 15, where 17 fails too
-    says answer 'refused 4' 1000000b 20000000 30000001 40000000 50000006 60000007 f0000000   # p = 11 with l = 7, where 17 fails too
-    says answer 'refused 17' 1000000b 20000000 30000001 40000000 50000006 60000003 f0000000  # p = 11 with l = 3
-    says answer 'refused 17' 10000013 20000000 30000001 40000000 5000000b 60000003 f0000000  # p = 19 = 8 * 3 - 5
-    says answer 'refused 17' 1000000b 20000000 30000000 40000000 50000006 60000003 f0000001  # 6 and 7 fail too
-    says answer 'refused 6' 100003f1 20000000 30000000 40000109 5000036d 60000003 f0000001   # an end with value 1; 7 fails too
-    says answer 'refused 6' $without_sum f0000000                                            # an eighth word
-    says answer 'refused 6' $without_sum 7000002e
-    says answer 'refused 6' $without_sum $g $n $rational f0000000
-    says answer 'refused 7' 100003f1 20000000 30000000 40000109 5000036d 60000003 f0000000   # A = B = 0
-    says answer 'refused 7' 100003f1 20000001 30000003 400003f1 500007e2 60000003 f0000000   # A~ = p, B~ = 2 p
-    # From (0, 1) to (0, -27) by g = x, N = x^3 + 4, over 23, the first prime above 8 * 3 - 5.
-    says answer "$(printf '%s\n' 10000017 20000000 30000001 40000000 50000013 60000003 70000000 80000000 80000001 90000004 90000000 90000000 90000001 \
-        a0000001 f0000000)" 10000017 20000000 30000001 40000000 50000013 60000003 f0000000
-    # The other programs know no such form.
-    says kernel 'refused 2' $without_sum
-    says verify 'refused 2' $without_sum
-    says push 'refused 2' 100003f0 00000000 $without_sum
-}
-
 step "kernel: document 01's kernel sheets"
 # shellcheck disable=SC2086
 {
@@ -476,48 +445,34 @@ agree() {
 }
 
 step "the programs agree: the kernel that is not cyclic, and multiplication by 15, over two primes"
-for sigma in 70000000 ''; do
-    # shellcheck disable=SC2086
-    agree 24 8 '80000150 8000000c 80000002 80000000 80000001' a0000001 100003f1 20000001 30000003 40000051 500000a9 60000009 $sigma f0000000
-done
+agree 24 8 '80000150 8000000c 80000002 80000000 80000001' a0000001 100003f1 20000001 30000003 40000051 500000a9 60000009 70000000 f0000000
 # By 15 on y^2 = x^3 + x + 3, as threads.c says: degree 225, codomain (15^4, 3 * 15^6), sigma 0, so the last coefficients of g are 0 and 1. PARI/GP finds one
 # and two roots of elldivpol(ellinit([1, 3]), 15).
-by_15() {
-    printf '%x ' $((0x10000000 + $1)) 0x20000001 0x30000003 $((0x40000000 + 50625 % $1)) $((0x50000000 + 34171875 % $1)) 0x600000e1
-}
 for rational_over in 'a0000001 268435399' 'a0000002 457'; do
+    p=${rational_over#* }
     # shellcheck disable=SC2046
-    agree 348 119 '80000000 80000001' "${rational_over% *}" $(by_15 "${rational_over#* }") 70000000 f0000000
+    agree 348 119 '80000000 80000001' "${rational_over% *}" \
+        $(printf '%x ' $((0x10000000 + p)) 0x20000001 0x30000003 $((0x40000000 + 50625 % p)) $((0x50000000 + 34171875 % p))) 600000e1 70000000 f0000000
 done
-# Without the kernel sum the same over the larger prime; 457 is not above 8 * 225 - 5.
-# shellcheck disable=SC2046
-{
-    agree 348 119 '80000000 80000001' a0000001 $(by_15 268435399) f0000000
-    says answer 'refused 17' $(by_15 457) f0000000
-}
 
 step "the programs: sheets that are cut or go on"
 sheet 1000000b 20000000 30000001 60000003 80000000 80000001 f0000000 >kernel.bin
 cp question.bin answer.bin
-# shellcheck disable=SC2086
-sheet $without_sum >without_sum.bin
 cp first.bin verify.bin
 { sheet 100003f0 00000000 && cat first.bin; } >push.bin
-# header_of SHEET: how many bytes stand before the coefficients, or the end. A sheet that is cut there or later gets 6, one that is cut earlier, or within
-# a word, gets 2. A question without the kernel sum has no such place: cut before its end it is one with the sum, of which the seventh word is missing.
+# header_of PROGRAM: how many bytes stand before the coefficients, or the end. A sheet that is cut there or later gets 6, one that is cut earlier, or within
+# a word, gets 2.
 header_of() {
     case $1 in kernel) echo 16 ;; push) echo 36 ;; *) echo 28 ;; esac
 }
-for given in answer kernel verify push without_sum; do
-    program=$given
-    [ $given != without_sum ] || program=answer
-    before=$(header_of $given)
-    size=$(wc -c <$given.bin)
+for program in answer kernel verify push; do
+    before=$(header_of $program)
+    size=$(wc -c <$program.bin)
     cut=0
     while [ $cut -lt "$size" ]; do
         number=2
         if [ $((cut % 4)) -eq 0 ] && [ $cut -ge "$before" ]; then number=6; fi
-        head -c $cut $given.bin >sheet.bin
+        head -c $cut $program.bin >sheet.bin
         prints $program "refused $number" sheet.bin
         cut=$((cut + 1))
     done
@@ -526,7 +481,7 @@ for given in answer kernel verify push without_sum; do
         8000000 8000001 8000002 8000003; do
         number=2
         if [ $((whole % 4)) -eq 0 ]; then number=6; fi
-        { cat $given.bin && head -c $((whole - size)) /dev/zero; } >sheet.bin
+        { cat $program.bin && head -c $((whole - size)) /dev/zero; } >sheet.bin
         prints $program "refused $number" sheet.bin
     done
 done

@@ -1,8 +1,7 @@
 #!/bin/sh
 # Compares kernel, solve, push, compose, name and question 3 with PARI/GP: some 5,000
 # kernels of every odd degree, free of repetition and with their rational abscissas
-# counted, points and j-values with them, maps found without the kernel sum, composed
-# maps, and primes.
+# counted, points and j-values with them, composed maps, and primes.
 # SAGEPLIERS_LIB_DIR names the directory of libsagepliers.a. Without gp it fails;
 # needs.sh installs it.
 set -eu

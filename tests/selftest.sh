@@ -42,8 +42,6 @@ must_find() {
 # The groups that can find a fault; with no name it is any group.
 groups_of() {
     case $1 in
-    without-sum-order-*) echo 'order of questions' ;;
-    without-sum-*) echo 'without sum' ;;
     *compose*) echo composition ;;
     *chain*) echo chains ;;
     esac

@@ -2,8 +2,8 @@
 """Tests of tools/sheets.py, run as a program as its users run it.
 
 Expectations are document 01's: the words that it prints for the first question, its rows, its layout of words and bytes; request E2's, where values of p or
-more are lawful; request E6's for the count of rational abscissas; request E1's for its two steps; and request E9's for questions without their word of kind 7.
-The sheets in crates/ that the programs are run on are made anew and compared.
+more are lawful; request E6's for the count of rational abscissas; and request E1's for its two steps. The sheets in crates/ that the programs are run on are
+made anew and compared.
 """
 
 import os
@@ -50,11 +50,6 @@ class Making(unittest.TestCase):
     def test_first_question(self):
         self.assertEqual(self.made("question", *QUESTION), in_bytes(HEADER + [END]))
         self.assertEqual(self.made("question", *QUESTION), stored("answer"))
-
-    def test_first_question_without_sigma(self):
-        self.assertEqual(self.made("question", *QUESTION[:6]), in_bytes(HEADER[:6] + [END]))
-        # A negative value is p more, and one of p or more stays.
-        self.assertEqual(self.made("question", "1009", "-1008", "3", "1274", "877", "3"), in_bytes(HEADER[:3] + ["400004fa"] + HEADER[4:6] + [END]))
 
     def test_first_certificate(self):
         self.assertEqual(self.made("certificate", *QUESTION, *G, *N, COUNT), in_bytes(PRINTED))
@@ -144,26 +139,9 @@ class Reading(unittest.TestCase):
         lines = self.shown(stored("answer"))
         self.assertEqual([line.split()[2] for line in lines[1:]], "p A B A~ B~ l sigma end".split())
         self.assertEqual(lines[0], "question, 8 words")
-        # Its seventh word has kind 15, too; the fourth tells.
         lines = self.shown(stored("kernel"))
         self.assertEqual([line.split()[2] for line in lines[1:]], "p A B l g_0 g_1 end".split())
         self.assertEqual(lines[0], "kernel sheet, 7 words")
-
-    def test_show_question_without_sigma(self):
-        lines = self.shown(in_bytes(HEADER[:6] + [END]))
-        self.assertEqual(lines[0], "question without sigma, 7 words")
-        self.assertEqual([line.split()[2] for line in lines[1:]], "p A B A~ B~ l end".split())
-        # It is one by the kind of its seventh word, whatever the value, and whatever stands before and after.
-        lines = self.remarked(HEADER[:6] + ["f0000001"], 7, "the end has value 0")
-        self.assertEqual(lines[0], "question without sigma, 7 words")
-        lines = self.remarked(HEADER[:6] + [END, END], 8, "after the end")
-        self.assertEqual((lines[0], lines[-1]), ("question without sigma, 8 words", "remark: 8 words, where the question without sigma has 7"))
-        lines = self.remarked(HEADER[:5] + ["70000003", END], 6, "kind 6 (l) expected")
-        self.assertEqual(lines[0], "question without sigma, 7 words")
-        # Six words are a question that is cut; with coefficients behind it the sheet looks like a certificate.
-        self.remarked(HEADER[:6], -1, "6 words, where the question has 8")
-        lines = self.remarked(self.changed(6, END), 7, "kind 7 (sigma) expected")
-        self.assertEqual(lines[0], "certificate, 15 words")
 
     def test_show_point_and_certificate(self):
         lines = self.shown(stored("push"))
@@ -218,7 +196,7 @@ class Reading(unittest.TestCase):
     def test_no_remark_where_values_are_reduced(self):
         question = ["1000000b", "2000000b", "3000000c", "4fffffff", "50000011", "60000003", "70000016", "f0000000"]
         kernel = ["1000000b", "2000000b", "3000000c", "60000003", "8000000b", "8000000c", "f0000000"]
-        for words in (question, question[:6] + [END], kernel):
+        for words in (question, kernel):
             lines = self.shown(in_bytes(words))
             self.assertEqual([int(line.split()[5]) for line in lines[1:]], [int(w[1:], 16) for w in words])
         # p, l and the end are never reduced.
@@ -239,11 +217,10 @@ class RoundTrips(unittest.TestCase):
             d = (degree - 1) // 2
             header = [268435399] + [drawn.randrange(268435399) for _ in range(4)] + [degree, drawn.randrange(268435399)]
             rest = [drawn.randrange(268435399) for _ in range(3 * d + 3)]
-            for command, values, wanted in (
-                ("question", header, 8),
-                ("question", header[:6], 7),
-                ("certificate", header + rest + [drawn.randrange(2**28)], 3 * d + 12),
-                ("kernel", [header[0], header[1], header[2], degree] + rest[: d + 1], d + 6),
+            for command, values in (
+                ("question", header),
+                ("certificate", header + rest + [drawn.randrange(2**28)]),
+                ("kernel", [header[0], header[1], header[2], degree] + rest[: d + 1]),
             ):
                 arguments = [str(v) for v in values]
                 status, data, _ = run(command, *arguments)
@@ -251,6 +228,7 @@ class RoundTrips(unittest.TestCase):
                 status, shown, _ = run("show", given=data)
                 self.assertEqual(status, 0)
                 self.assertEqual([line.split()[5] for line in shown.decode().splitlines()[1:]], arguments + ["0"])
+                wanted = {"question": 8, "certificate": 3 * d + 12, "kernel": d + 6}[command]
                 self.assertEqual(len(data), 4 * wanted)
 
     def test_points(self):
@@ -281,10 +259,8 @@ class Errors(unittest.TestCase):
                 self.assertIn(f"sheets.py {command}", out.decode())
 
     def test_counts(self):
-        self.wrong("7 values (p A B A~ B~ l sigma), or 6 without sigma, and 5 were given", "question", *QUESTION[:5])
-        self.wrong("7 values (p A B A~ B~ l sigma), or 6 without sigma, and 8 were given", "question", *QUESTION, "1")
-        self.wrong("and 0 were given", "question")
-        self.wrong("starts with 7 values", "certificate", *QUESTION[:6])
+        self.wrong("7 values", "question", *QUESTION[:6])
+        self.wrong("7 values", "question", *QUESTION, "1")
         self.wrong("takes 2 coefficients of g, and 1 were given", "kernel", "11", "0", "1", "3", "0")
         self.wrong("takes 2 coefficients of g, and 3 were given", "kernel", "11", "0", "1", "3", "0", "0", "1")
         self.wrong("2 coefficients of g, 4 of N and the count, 7 in all, and 5 were given", "certificate", *QUESTION, *G, *N[:3])

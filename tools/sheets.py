@@ -1,7 +1,7 @@
 #!/usr/bin/env python3
 """Sheets as text and back: makes the bytes of questions, kernel sheets, certificates and point numbers, and shows what is in a sheet.
 
-  sheets.py question P A B A~ B~ L [SIGMA]             the bytes of a question, which may be one without SIGMA
+  sheets.py question P A B A~ B~ L SIGMA               the bytes of a question
   sheets.py kernel P A B L G0 .. GD                    the bytes of a kernel sheet; D = (L - 1)/2
   sheets.py certificate P A B A~ B~ L SIGMA G0 .. GD N0 .. NE COUNT    the bytes of a certificate; E = 2 D + 1
   sheets.py point U V | point infinity                 the eight bytes of a point's number
@@ -18,8 +18,8 @@ or a point's number with a certificate after it, which is what the push program 
 
 Exit status: 0, or 1 if show has a remark, or 2 if the arguments or the input are wrong.
 
-The installed program is called sagepliers-sheets. The layout is that of document 01, with request E6's word for the count and request E9's questions without
-SIGMA: a word has 32 bits, its kind in the top four and its value in the low 28; in bytes the lowest comes first.
+The installed program is called sagepliers-sheets. The layout is that of document 01, with request E6's word for the count: a word has 32 bits, its kind in
+the top four and its value in the low 28; in bytes the lowest comes first.
 """
 
 import os
@@ -30,13 +30,7 @@ INFINITY = 1 << 56
 COUNT = 10  # of the u from 0 to p - 1 with g(u) = 0: a plain number, which question 6 does not bound
 END = 15
 NAMES = {1: "p", 2: "A", 3: "B", 4: "A~", 5: "B~", 6: "l", 7: "sigma", 8: "g", 9: "N", COUNT: "count", END: "end"}
-HEADERS = {
-    "question": (1, 2, 3, 4, 5, 6, 7),
-    "question without sigma": (1, 2, 3, 4, 5, 6),
-    "certificate": (1, 2, 3, 4, 5, 6, 7),
-    "kernel sheet": (1, 2, 3, 6),
-}
-QUESTIONS = ("question", "question without sigma")  # the forms that have no coefficients
+HEADERS = {"question": (1, 2, 3, 4, 5, 6, 7), "certificate": (1, 2, 3, 4, 5, 6, 7), "kernel sheet": (1, 2, 3, 6)}
 CURVES = (2, 3, 4, 5, 7)  # kinds whose values are residues modulo p, as those of g and N are
 LONGEST_INPUT = 1 << 20
 PROGRAM = os.path.basename(sys.argv[0])  # sheets.py, or sagepliers-sheets where it is installed
@@ -131,11 +125,10 @@ def coefficients(kind, texts, p):
 
 
 def question(texts):
-    for form in QUESTIONS:
-        if len(texts) == len(HEADERS[form]):
-            return header(form, texts)[0] + [word(END, 0)]
-    names = " ".join(NAMES[k] for k in HEADERS["question"])
-    raise Wrong(f"a question has 7 values ({names}), or 6 without sigma, and {len(texts)} were given")
+    words, _, _ = header("question", texts)
+    if len(texts) > len(words):
+        raise Wrong(f"a question has 7 values, and {len(texts)} were given")
+    return words + [word(END, 0)]
 
 
 def kernel(texts):
@@ -178,14 +171,12 @@ def coordinates(number):
 
 
 def form_of(words):
-    """The form that the kinds look like most. The fourth word tells a kernel sheet, the eighth a question from a certificate, the seventh one without sigma."""
+    """The form that the kinds look like most. The fourth word tells a kernel sheet, the eighth a question from a certificate."""
     kinds = [kind_of(w) for w in words]
     if len(kinds) > 3 and kinds[3] == 6:
         return "kernel sheet"
     if len(kinds) > 7 and kinds[7] in (8, 9):
         return "certificate"
-    if len(kinds) > 6 and kinds[6] == END:
-        return "question without sigma"
     return "question" if len(kinds) <= 9 else "certificate"
 
 
@@ -193,7 +184,7 @@ def layout(form, words):
     """The kinds that the form wants, in order, and their names; and a remark if l does not fix a count."""
     kinds = HEADERS[form]
     wanted = [(k, NAMES[k]) for k in kinds]
-    if form not in QUESTIONS:
+    if form != "question":
         place = kinds.index(6)
         degree = value_of(words[place]) if len(words) > place and kind_of(words[place]) == 6 else None
         if degree is None or degree % 2 == 0 or not 3 <= degree <= 255:

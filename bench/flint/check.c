@@ -1,6 +1,6 @@
 /* R1 to R3 and the count of a certificate with FLINT's nmod_poly, straightforwardly: g and N are made polynomials, R2's N and both sides of R3 are computed
  * by products, and compared; the count is the degree of a greatest common divisor. values holds p, A, B, A~, B~, l, sigma; g has d + 1 coefficients and n
- * has 2d + 2, all below p, and p is a prime. And the denominator of a rational function from its expansion at infinity. */
+ * has 2d + 2, all below p, and p is a prime. */
 #include <stdbool.h>
 #include <stdint.h>
 #include <flint/nmod_poly.h>
@@ -154,20 +154,4 @@ uint32_t flint_count(uint32_t p, const uint32_t *g_words, uint32_t d)
     slong count = count_of(g);
     nmod_poly_clear(g);
     return count;
-}
-
-/* The denominator that Berlekamp and Massey's algorithm finds for so many terms, below p: its degree, and in two words its second coefficient and its first,
- * whose quotient is minus the sum of the poles. No term is converted, and nothing is divided for the sum. */
-uint32_t flint_denominator(uint32_t p, const mp_limb_t *terms, size_t count, mp_limb_t *highest)
-{
-    nmod_berlekamp_massey_t found;
-    nmod_berlekamp_massey_init(found, p);
-    nmod_berlekamp_massey_add_points(found, terms, count);
-    nmod_berlekamp_massey_reduce(found);
-    const nmod_poly_struct *denominator = nmod_berlekamp_massey_V_poly(found);
-    slong degree = nmod_poly_degree(denominator);
-    for (slong i = 0; i < 2; i++)
-        highest[i] = nmod_poly_get_coeff_ui(denominator, degree - 1 + i);
-    nmod_berlekamp_massey_clear(found);
-    return degree;
 }

@@ -16,52 +16,6 @@ load common
     gives 0 "$over_11_text" solve 11 0 1 0 6 3 0
 }
 
-# Request E9. That no other sigma works besides the one of document 01's questions is a theorem, with 8 l - 5 below p.
-@test "solve: six numbers leave the kernel sum out, and the certificate has it" {
-    gives 0 "$first_text" solve 1009 1 3 265 877 3
-    gives 0 "$first_json" solve --json 1009 1 3 265 877 3
-    # shellcheck disable=SC2086
-    gives 0 "$(printf '%s\n' $first)" solve --hex 1009 1 3 265 877 3
-    gives 0 '' solve -q 1009 1 3 265 877 3 -o out.bin
-    cmp out.bin first.bin
-    gives 0 "$degree_9_text" solve 1009 1 3 81 169 9
-    gives 1 "$(refusal 17)" solve 11 0 1 0 6 3 -o out.bin
-    gives 1 "$(refusal 11)" solve 1009 1 3 265 878 3 -o out.bin
-    cmp out.bin first.bin
-    gives 1 '{"result":"refused","number":17,"meaning":"the question is without sigma, and 8 l - 5 is not below p"}' solve --json 11 0 1 0 6 3
-}
-
-@test "solve: the kernel sum that is found is PARI/GP's, and codomains that PARI/GP does not have get 11" {
-    # Every kernel polynomial x - u of degree 3 from (1, 3): none over 1013, one over 1009, two over 1019.
-    echo '{forprime(p = 1009, 1019, E = ellinit([1, 3], p); foreach(lift(polrootsmod(elldivpol(E, 3), p)), u,
-              c = lift(ellisogeny(E, x - u)[1]); print(strjoin([p, 1, 3, c[4], c[5], 3, 2*u % p], " "))))}' | gp -q -f >found
-    [ "$(wc -l <found)" -eq 3 ] || say "$(cat found)"
-    while read -r p a b at bt l sigma; do
-        gives 0 '' solve -q "$p" "$a" "$b" "$at" "$bt" "$l" "$sigma" -o with.bin
-        gives 0 '' solve -q "$p" "$a" "$b" "$at" "$bt" "$l" -o without.bin
-        cmp with.bin without.bin
-        for other in "$((at + 1)) $bt" "$at $((bt + 1))" "$bt $at"; do
-            grep -q "^$p 1 3 $other 3 " found && say "PARI/GP has $other over $p"
-            # shellcheck disable=SC2086
-            gives 1 "$(refusal 11)" solve "$p" "$a" "$b" $other "$l"
-        done
-    done <found
-    gives 1 "$(refusal 11)" solve 1013 1 3 81 161 3
-}
-
-@test "solve: without the kernel sum, values below 0 and from p on stand for what they do with it" {
-    gives 0 "$first_text" solve 1009 -1008 -1006 -744 -132 3
-    gives 0 "$first_text" solve 1009 1010 1012 1274 1886 3 -o out.bin
-    cmp out.bin first.bin
-    # The largest of each class below 2^28.
-    local last=()
-    for value in 1 3 265 877; do last+=($((value + (268435455 - value) / 1009 * 1009))); done
-    gives 0 "$first_text" solve 1009 "${last[@]}" 3
-    fails '-1010 has no place in a word' solve 1009 1 3 265 -1010 3
-    fails '268435456 has no place in a word' solve 1009 1 268435456 265 877 3
-    fails '-3 has no place in a word' solve 1009 1 3 265 877 -3
-}
-
 @test "solve: a negative number stands for itself plus p" {
     gives 0 "$first_text" solve 1009 -1008 3 -744 877 3 -963
     gives 0 "$first_text" solve 1009 1 3 265 -132 3 46
@@ -122,14 +76,6 @@ load common
     gives 0 "$first_text" solve question.txt
     [ "$(sagepliers solve <question.bin)" = "$first_text" ]
     [ "$(sagepliers solve - <question.hex)" = "$first_text" ]
-    gives 0 "$first_text" solve without_sum.bin
-    # shellcheck disable=SC2086
-    printf '%s\n' $without_sum >without_sum.hex
-    gives 0 "$first_text" solve without_sum.hex
-    printf '1009 1 3\r\n265 -132\t3\r\n' >without_sum.txt
-    gives 0 "$first_text" solve without_sum.txt
-    [ "$(sagepliers solve <without_sum.bin)" = "$first_text" ]
-    [ "$(sagepliers solve - <without_sum.txt)" = "$first_text" ]
     printf '1009 1 3 3 -23 1' >kernel.txt
     gives 0 "$first_text" kernel kernel.txt
     gives 0 "$first_json" kernel --json kernel.txt
@@ -355,7 +301,6 @@ infinity -> infinity' push first.bin 1008 1 infinity
     [ "$(sagepliers check - <first.bin)" = 'standard input: passes' ]
     [ "$(sagepliers check --json - <first.bin)" = '{"file":"-","result":"passes"}' ]
     gives 1 "question.bin: $(refusal 6)" check question.bin
-    gives 1 "without_sum.bin: $(refusal 2)" check without_sum.bin
     gives 1 '{"file":"question.bin","result":"refused","number":6,"meaning":"the remaining words are not exactly those of the sheet"}' check --json question.bin
 }
 
@@ -400,47 +345,6 @@ question.bin: $(refusal 6)
     fails 'has no place in a word' solve large.txt
     echo '1009 1 3 265 877 3 -1010' >small.txt
     fails 'has no place in a word' solve small.txt
-}
-
-@test "show: a question without the kernel sum in every view, and back" {
-    shown='question: p = 1009, degree 3, kernel sum not given
-domain: y^2 = x^3 + x + 3
-codomain: y^2 = x^3 + 265*x + 877'
-    gives 0 "$shown" show without_sum.bin
-    gives 0 '{"form":"question","p":1009,"domain":[1,3],"codomain":[265,877],"degree":3,"sigma":null}' show --json without_sum.bin
-    # shellcheck disable=SC2086
-    gives 0 "$(printf '%s\n' $without_sum)" show --hex without_sum.bin
-    gives 0 '  0  100003f1  kind  1  p      1009
-  1  20000001  kind  2  A      1
-  2  30000003  kind  3  B      3
-  3  40000109  kind  4  A~     265
-  4  5000036d  kind  5  B~     877
-  5  60000003  kind  6  l      3
-  6  f0000000  kind 15  end    0' show --words without_sum.bin
-    for form in '' --form=question --form=certificate; do
-        # shellcheck disable=SC2086
-        gives 0 "$shown" show $form 1009 1 3 265 -132 3 -o out.bin
-        cmp out.bin without_sum.bin
-    done
-    sagepliers show --hex without_sum.bin | sagepliers show -o - | cmp - without_sum.bin
-    echo '1009 1 3 265 877 3' | sagepliers show -o - | sagepliers solve -o - | cmp - first.bin
-    # With sigma it is a question of the other form, and --form=kernel has six numbers for another sheet.
-    gives 0 '' show -q 1009 1 3 265 877 3 46 -o out.bin
-    cmp out.bin question.bin
-    gives 0 'kernel sheet: p = 1009, degree 3
-domain: y^2 = x^3 + x + 3
-g = x + 986' show --form=kernel 1009 1 3 3 -23 1
-    # Nothing is judged but the form: five values have none, nor has an end with another value or a word behind it.
-    gives 0 'question: p = 1001, degree 6, kernel sum not given
-domain: y^2 = x^3
-codomain: y^2 = x^3 + 2*x' show 1001 0 0 2 0 6
-    for words in '100003f1 20000001 30000003 40000109 5000036d f0000000' "${without_sum%0}1" "$without_sum f0000000" "$without_sum 7000002e"; do
-        # shellcheck disable=SC2086
-        words $words >other.bin
-        run --separate-stderr sagepliers show other.bin
-        [ "$status" -eq 1 ]
-        [[ $stderr == *'no question, certificate or kernel sheet'* ]]
-    done
 }
 
 @test "show: the three forms in every view" {
@@ -566,12 +470,10 @@ g = 5*x' show --form=kernel 1009 0 1 3 0 5
     fails '-5 is no command' -5
     fails "unrecognized option '--guess'" --guess
     fails "unrecognized option '--guess'" solve --guess
-    fails '5 numbers; wanted are p A B A~ B~ l with sigma or without it, or one file' solve 1009 1 3 265 877
-    fails '8 numbers; wanted are p A B A~ B~ l with sigma or without it, or one file' solve 1009 1 3 265 877 3 46 1
-    fails '2 numbers' solve 1009 1
+    fails '6 numbers' solve 1009 1 3 265 877 3
+    fails '8 numbers' solve 1009 1 3 265 877 3 46 1
     fails 'write ./1009' solve 1009
     fails 'x is no number' solve 1009 1 3 265 877 3 x
-    fails 'x is no number' solve 1009 1 3 265 877 x
     fails '007 is no number' solve 1009 1 3 265 877 3 007
     fails ' is no number' solve 1009 1 3 265 877 3 ''
     fails '+3 is no number' solve 1009 1 +3 265 877 3 46

@@ -54,7 +54,6 @@ meaning() {
     12) echo 'the point is not one of the domain' ;;
     13) echo 'the two certificates have different primes, or the first codomain is not the second domain' ;;
     14) echo 'the product l of the degrees is above 255, or 2 l - 1 is not below p' ;;
-    17) echo 'the question is without sigma, and 8 l - 5 is not below p' ;;
     esac
 }
 
@@ -106,7 +105,6 @@ setup() {
         words $second >second.bin
         words $degree_9 >degree_9.bin
         words $header f0000000 >question.bin
-        words $without_sum >without_sum.bin
         words 1000000b 20000000 30000001 60000003 80000000 80000001 f0000000 >kernel.bin
     }
 }

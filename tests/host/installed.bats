@@ -59,7 +59,7 @@ strict='-std=c11 -Wall -Wextra -Wpedantic -Wconversion -Werror'
             fi
         done
         # shellcheck disable=SC2086
-        [ "$(./solve_$link)" = "$(printf '%s\n' $first $first)" ]
+        [ "$(./solve_$link)" = "$(printf '%s\n' $first)" ]
         # shellcheck disable=SC2086
         [ "$(./kernel_$link)" = "$(printf '%s\n' $over_11)" ]
         # shellcheck disable=SC2086
@@ -90,7 +90,7 @@ meaning of 10: $(meaning 10)" ] || say "$output"
 #include <sagepliers.h>
 #include <cstdio>
 int main() {
-    for (uint32_t i = 0; i <= 18; i++) std::puts(sagepliers_meaning(i));
+    for (uint32_t i = 0; i <= 15; i++) std::puts(sagepliers_meaning(i));
     std::puts(sagepliers_meaning(UINT32_MAX));
     std::puts(SAGEPLIERS_VERSION);
 }
@@ -101,9 +101,8 @@ CPP
     {
         echo 'nothing is refused'
         for i in $(seq 14); do meaning "$i"; done
-        printf 'no refusal has this number\n%.0s' 15 16
-        meaning 17
-        printf 'no refusal has this number\n%.0s' 18 last
+        echo 'no refusal has this number'
+        echo 'no refusal has this number'
         flags --modversion
     } >expected
     diff expected got
@@ -156,8 +155,7 @@ completes() {
         [ -x "$SAGEPLIERS_BIN_DIR/$name" ] || say "no program $name in $SAGEPLIERS_BIN_DIR"
     done
     for numbers in '1009 1 3 265 877 3 46' '1009 1 3 265 877 3 48' '1009 1 3 81 169 9 0' '11 0 1 0 6 3 0' '1001 1 3 265 877 3 46' \
-        '1009 0 0 1 1 3 1' '1009 1 1009 1 1 3 1' '11 11 1 0 6 3 0' \
-        '1009 1 3 265 877 3' '1009 1 3 265 878 3' '1009 1 3 81 169 9' '11 0 1 0 6 3' '1001 1 3 265 877 3' '1009 0 0 1 1 3' '1009 1010 3 1274 877 3'; do
+        '1009 0 0 1 1 3 1' '1009 1 1009 1 1 3 1' '11 11 1 0 6 3 0'; do
         # shellcheck disable=SC2086
         sagepliers show -q -o question.bin $numbers
         "$SAGEPLIERS_BIN_DIR/answer" <question.bin >wanted
@@ -171,7 +169,7 @@ completes() {
         sagepliers kernel --hex sheet.bin | sed 's/^\(refused [0-9]*\): .*/\1/' >got || true
         diff wanted got
     done
-    for sheet in first.bin question.bin without_sum.bin kernel.bin; do
+    for sheet in first.bin question.bin kernel.bin; do
         "$SAGEPLIERS_BIN_DIR/verify" <$sheet >wanted
         { sagepliers check $sheet || true; } | sed -e 's/^[^:]*: //' -e 's/^\(refused [0-9]*\): .*/\1/' >got
         diff wanted got

@@ -44,10 +44,6 @@ pari_sheet() {
     gives 1 "long.bin: $(refusal 2)" check long.bin
     head -c 31 question.bin >short.bin
     gives 1 "$(refusal 2)" solve short.bin
-    head -c 27 without_sum.bin >short.bin
-    gives 1 "$(refusal 2)" solve short.bin
-    { cat without_sum.bin && printf '\0'; } >long.bin
-    gives 1 "$(refusal 2)" solve long.bin
     head -c 27 kernel.bin >short.bin
     gives 1 "$(refusal 2)" kernel short.bin
     : >empty.bin
@@ -77,85 +73,6 @@ pari_sheet() {
     gives 1 "$(refusal 11)" solve 1009 1009 3 265 877 3 46 # A = 0, where 15 s_2 = 5 h_1 = -265 does not hold
     gives 1 "$(refusal 11)" solve 1009 1 3 265 877 3 48
     gives 1 "$(refusal 11)" solve 1009 1 3 265 878 3 46
-}
-
-# Request E9: a question is one without the kernel sum if its seventh word has kind 15.
-@test "solve, without the kernel sum: 2 to 4, 17, 6, 7 and 11, from words and from numbers" {
-    local six=${without_sum% *}
-    # shellcheck disable=SC2086
-    {
-        sheet_refused solve 2 $six                                                        # six words
-        sheet_refused solve 2 100003f1 20000001 30000003 40000109 5000036d f0000000       # five and an end
-        sheet_refused solve 2 100003f1 20000001 30000003 40000109 5000036d 7000002e f0000000 # sigma in the place of l
-        sheet_refused solve 2 200003f1 20000001 30000003 40000109 5000036d 60000003 f0000000
-        sheet_refused solve 2 100003f1 20000001 30000003 60000003 $g f0000000             # a kernel sheet, whose seventh word has kind 15 too
-        for kind in 0 1 2 3 4 5 6 8 9 a b c d e; do
-            sheet_refused solve 2 $six ${kind}0000000
-            sheet_refused solve 2 $six ${kind}000002e f0000000
-        done
-        sheet_refused solve 6 $six f0000001 # an end with value 1
-        sheet_refused solve 6 $six ffffffff
-        sheet_refused solve 6 $without_sum f0000000
-        sheet_refused solve 6 $without_sum 7000002e
-        sheet_refused solve 6 $without_sum $g $n $rational f0000000
-        sheet_refused solve 6 $six 7000002e # with sigma, and without its end
-    }
-    gives 1 "$(refusal 3)" solve 1001 1 3 265 877 3
-    gives 1 "$(refusal 4)" solve 1009 1 3 265 877 6
-    gives 1 "$(refusal 4)" solve 1009 1 3 265 877 257
-    gives 1 "$(refusal 4)" solve 11 0 1 0 6 25 # 3 + 2 p
-    gives 1 "$(refusal 17)" solve 11 0 1 0 6 3
-    gives 1 "$(refusal 17)" solve 11 0 1 0 6 5
-    gives 1 "$(refusal 7)" solve 1009 0 0 265 877 3
-    gives 1 "$(refusal 7)" solve 1009 1009 2018 265 877 3
-    gives 1 "$(refusal 7)" solve 1009 1 3 0 1009 3
-    gives 1 "$(refusal 11)" solve 1009 1 3 265 878 3
-}
-
-@test "solve, without the kernel sum: of two questions that fail the one that is asked first" {
-    local p_11='1000000b 20000000 30000001 40000000 50000006 60000003'
-    # shellcheck disable=SC2086
-    {
-        sheet_refused solve 2 1000000f 20000000 30000001 40000000 60000003 50000006 f0000000 # 2 and 3
-        sheet_refused solve 3 1000000f 20000000 30000001 40000000 50000006 60000003 f0000000 # 3 and 17
-        sheet_refused solve 3 1000000f 20000000 30000001 40000000 50000006 60000008 f0000000 # 3 and 4
-        sheet_refused solve 4 1000000b 20000000 30000001 40000000 50000006 60000007 f0000000 # 4 and 17
-        sheet_refused solve 17 $p_11 f0000001                                                # 17 and 6
-        sheet_refused solve 17 $p_11 f0000000 70000000
-        sheet_refused solve 17 1000000b 20000000 30000000 40000000 50000006 60000003 f0000000 # 17 and 7
-        sheet_refused solve 6 100003f1 20000000 30000000 40000109 5000036d 60000003 f0000001  # 6 and 7
-    }
-    # Of a question with sigma 17 is not asked.
-    gives 0 "$over_11_text" solve 11 0 1 0 6 3 0
-    gives 1 "$(refusal 11)" solve 11 0 1 0 6 3 1
-    # shellcheck disable=SC2086
-    sheet_refused solve 6 $p_11 70000000
-}
-
-@test "solve, without the kernel sum: 17 at its bounds" {
-    # For each l the last prime up to 8 l - 5 and the first above, and to (1, 2) a curve (1, b) with another number of points, to which no isogeny goes.
-    echo 'other(p) = {my(b = 1); while((4 + 27*b^2) % p == 0 || ellcard(ellinit([1, b], p)) == ellcard(ellinit([1, 2], p)), b++); b};
-          {foreach([3, 5, 7, 9, 25, 127, 225, 253, 255], l,
-              p = precprime(8*l - 5); q = nextprime(8*l - 4); print(strjoin([l, p, other(p), q, other(q)], " ")))}' | gp -q -f >bounds
-    [ "$(wc -l <bounds)" -eq 9 ] || say "$(cat bounds)"
-    while read -r l p b q c; do
-        gives 1 "$(refusal 17)" solve "$p" 1 2 1 "$b" "$l"
-        gives 1 "$(refusal 11)" solve "$p" 1 2 1 "$b" "$l" 0
-        gives 1 "$(refusal 11)" solve "$q" 1 2 1 "$c" "$l"
-    done <bounds
-    # Where there is an isogeny: g = x from (0, 1) to (0, -27), and multiplication by m on (1, 3), normalized. 8 l - 5 is 19, 67, 195 and 1795.
-    gives 1 "$(refusal 17)" solve 19 0 1 0 -8 3
-    gives 0 '' solve -q 23 0 1 0 -4 3 -o without.bin
-    gives 0 '' solve -q 23 0 1 0 -4 3 0 -o with.bin
-    cmp with.bin without.bin
-    for given in '3 67 71' '5 193 197' '15 1789 1801'; do
-        read -r m p q <<<"$given"
-        gives 1 "$(refusal 17)" solve "$p" 1 3 $((m ** 4)) $((3 * m ** 6)) $((m * m))
-        gives 0 '' solve -q "$p" 1 3 $((m ** 4)) $((3 * m ** 6)) $((m * m)) 0
-        gives 0 '' solve -q "$q" 1 3 $((m ** 4)) $((3 * m ** 6)) $((m * m)) -o without.bin
-        gives 0 '' solve -q "$q" 1 3 $((m ** 4)) $((3 * m ** 6)) $((m * m)) 0 -o with.bin
-        cmp with.bin without.bin
-    done
 }
 
 @test "kernel: 2 to 4, 6 to 8 and 11" {
@@ -257,5 +174,4 @@ compose_refuses() {
     gives 1 "(1009, 0): $(refusal 12)" push first.bin 1009 0
     gives 1 "(268435455, 268435455): $(refusal 12)" push first.bin 268435455 268435455
     gives 1 "$(refusal 6)" push question.bin 1009 0
-    gives 1 "$(refusal 2)" push without_sum.bin 1009 0
 }

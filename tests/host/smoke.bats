@@ -3,9 +3,6 @@ load common
 
 @test "solve, kernel, compose, push, name, show, check, a tree, threads, wrong words" {
     gives 0 "$first_text" solve 1009 1 3 265 877 3 46 -o out.bin
-    gives 0 "$first_text" solve 1009 1 3 265 877 3
-    gives 1 "$(refusal 17)" solve 11 0 1 0 6 3
-    gives 0 '{"form":"question","p":1009,"domain":[1,3],"codomain":[265,877],"degree":3,"sigma":null}' show --json without_sum.bin
     gives 0 "$first_json" kernel --json 1009 1 3 3 -23 1
     gives 1 "(1008, 1) -> (617, 44)
 (1008, 2): $(refusal 12)" push out.bin -1 1 1008 2

@@ -1,11 +1,10 @@
 \\ Computes with PARI what the library answered, for the calls that the driver writes: isogeny for each kernel, then goes for points through that
-\\ isogeny, without_sum for what solve found without the kernel sum, composed for two kernels after the isogeny that is to be made of them, chained for
-\\ three from either side, beyond for certificates that question 4 alone refuses, parts for the N of any g, name for curves, permitted for primes, and
-\\ finish with how many of each there must have been; a call counts when it has come to its end, so that an error shows there. The last line is the
-\\ verdict.
+\\ isogeny, composed for two kernels after the isogeny that is to be made of them, chained for three from either side, beyond for certificates that
+\\ question 4 alone refuses, parts for the N of any g, name for curves, permitted for primes, and finish with how many of each there must have been; a
+\\ call counts when it has come to its end, so that an error shows there. The last line is the verdict.
 
 differences = 0;
-isogenies = points = infinities = compositions = chains = found = refused = sums = names = numbers = 0;
+isogenies = points = infinities = compositions = chains = refused = sums = names = numbers = 0;
 
 differs(what) = {
   differences++;
@@ -42,7 +41,7 @@ counted(G, p, count) = if (#polrootsmod(G, p) != count, differs(["rational absci
 isogeny(p, a, b, at, bt, l, sigma, g, n, count) = {
   my(one = Mod(1, p), G = Polrev(g) * one, N = Polrev(n) * one, E = ellinit([a, b], p), R = ellisogeny(E, G), W);
   here = [p, a, b, l];
-  [codomain, map] = R[1..2];
+  map = R[2];
   W = deriv(N) * G - 2 * N * deriv(G);
   if (R[1] != [0, 0, 0, at, bt] * one, differs(["codomain", here]));
   if (poldegree(map[1]) != l || map[1] != N, differs(["N", here]));
@@ -53,17 +52,6 @@ isogeny(p, a, b, at, bt, l, sigma, g, n, count) = {
   free((x^3 + a * x + b) * one, G, N, l);
   counted(G, p, count);
   isogenies++;
-};
-
-\\ Request E9: what was found from the curves and the degree alone has to be the last isogeny: its codomain, both coordinates and kernel polynomial, with
-\\ their sigma and count.
-without_sum(p, at, bt, sigma, g, n, count) = {
-  my(one = Mod(1, p), G = Polrev(g) * one, N = Polrev(n) * one);
-  if ([0, 0, 0, at, bt] * one != codomain, differs(["codomain without the sum", here]));
-  if (map != [N, y * (deriv(N) * G - 2 * N * deriv(G)), G], differs(["map without the sum", here]));
-  if (-2 * polcoef(map[3], poldegree(map[3]) - 1) != sigma * one, differs(["the sum that was found", here]));
-  counted(map[3], p, count);
-  found++;
 };
 
 \\ A map that PARI composed has to be this one, numerators and g: the same coordinates, and the same kernel.
@@ -154,8 +142,8 @@ permitted(m, n, list) = {
 };
 
 finish(counts, n) = {
-  if ([isogenies, points, infinities, compositions, chains, found, refused, sums, names] != counts || numbers != n, differs("the script was cut short"));
+  if ([isogenies, points, infinities, compositions, chains, refused, sums, names] != counts || numbers != n, differs("the script was cut short"));
   print("PARI/GP ", strjoin(apply(n -> Str(n), version()[1..3]), "."), ": ", isogenies, " kernels, ", points, " points, ", infinities, " of them to infinity, ",
-    compositions, " compositions, ", chains, " chains either way, ", found, " maps without the sum, ", refused, " certificates beyond question 4, ", sums,
-    " times the parts of N, ", names, " names, ", numbers, " numbers prime or not: ", differences, " differences");
+    compositions, " compositions, ", chains, " chains either way, ", refused, " certificates beyond question 4, ", sums, " times the parts of N, ", names, " names, ",
+    numbers, " numbers prime or not: ", differences, " differences");
 };

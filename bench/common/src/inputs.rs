@@ -1,6 +1,6 @@
 //! What is measured: certificates of isogenies that the independent implementation makes from points of odd order, and sheets beside them that are
-//! refused after a known part of the work; sheets for the count of rational abscissas, of such certificates and of random g; pairs of certificates to be
-//! composed; and questions without their kernel sum.
+//! refused after a known part of the work; sheets for the count of rational abscissas, of such certificates and of random g; and pairs of certificates to be
+//! composed.
 
 use reference::call::point_number;
 use reference::composition;
@@ -8,10 +8,8 @@ use reference::curve::Curve;
 use reference::field::Field;
 use reference::generate;
 use reference::random::Random;
-use reference::rules;
 use reference::services::Point;
 use reference::sheet::{self, bytes_of, with_value, Certificate};
-use reference::without_sum::{self, CurvePair};
 
 pub const PRIMES: [u64; 2] = [268_435_399, 1009];
 pub const DEGREES: [u64; 8] = [3, 15, 31, 63, 101, 127, 201, 255];
@@ -21,8 +19,6 @@ pub struct Input {
     pub certificate: Certificate,
     pub bytes: Vec<u8>,
     pub question: Vec<u32>,
-    /// The question without its kernel sum.
-    pub without_sum: Vec<u32>,
     pub kernel: Vec<u32>,
     pub words: Vec<u32>,
     /// The number of a point of the domain that does not go to infinity.
@@ -99,12 +95,9 @@ fn lawful(p: u64) -> Vec<u64> {
 
 /// A certificate for each degree that the prime allows, the smallest degree first.
 pub fn all(p: u64) -> Vec<Input> {
-    of_degrees(p, &lawful(p))
-}
-
-fn of_degrees(p: u64, wanted: &[u64]) -> Vec<Input> {
     let mut random = Random::new(p);
-    let mut found = generate::from_points(&mut random, p, wanted, 20_000);
+    let wanted = lawful(p);
+    let mut found = generate::from_points(&mut random, p, &wanted, 20_000);
     assert_eq!(found.len(), wanted.len(), "a degree is missing over {p}");
     found.sort_by_key(|certificate| certificate.question.l);
     found
@@ -155,7 +148,6 @@ fn input(random: &mut Random, certificate: Certificate) -> Input {
     Input {
         bytes: bytes_of(&words),
         question: q.words(),
-        without_sum: CurvePair::from_question(&q).words(),
         kernel: certificate.kernel_sheet().words(),
         point,
         values: [q.p, q.a, q.b, q.a_t, q.b_t, q.l, q.sigma].map(|v| v as u32),
@@ -251,20 +243,4 @@ pub fn steps(p: u64) -> Vec<Steps> {
         });
     }
     found
-}
-
-/// For each degree that question 17 allows, and for 9 too, where a question without its kernel sum has an answer.
-pub fn unsummed(p: u64) -> Vec<Input> {
-    let mut wanted = lawful(p);
-    wanted.push(9);
-    wanted.retain(|&l| without_sum::ask_larger_prime(l, p).is_ok());
-    of_degrees(p, &wanted)
-}
-
-/// h_1 to h_2n of the expansion at infinity, n = l - 1: as many terms as a denominator of degree n needs.
-pub fn series(certificate: &Certificate) -> Vec<u64> {
-    let q = &certificate.question;
-    let (domain, codomain) = ((q.a, q.b), (q.a_t, q.b_t));
-    let h = rules::expansion(q.field(), domain, codomain, 2 * q.l as usize - 1);
-    h[1..].to_vec()
 }

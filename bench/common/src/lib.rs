@@ -9,6 +9,3 @@ pub mod table;
 
 /// The words that an answer has room for.
 pub use reference::sheet::LARGEST_CERTIFICATE as ROOM;
-
-/// What is added to the number of a refusal.
-pub use reference::call::REFUSED;

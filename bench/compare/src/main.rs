@@ -1,5 +1,5 @@
 //! Times the services of two libraries in turns and prints the ratios of their times. A third library, the first one once more, shows what is noise. One
-//! from before certificates had a count is given certificates without it. Questions without their kernel sum are timed where all libraries answer them.
+//! from before certificates had a count is given certificates without it.
 
 use std::cell::RefCell;
 use std::hint::black_box;
@@ -8,7 +8,7 @@ use std::process::ExitCode;
 use common::clock::{self, Column};
 use common::inputs::{self, Input};
 use common::table::{spread, Table};
-use common::{REFUSED, ROOM};
+use common::ROOM;
 
 mod before {
     common::entries!("before_");
@@ -89,13 +89,6 @@ const SERVICES: [(&str, Service); 4] = [
     }),
 ];
 
-const WITHOUT_SUM: (&str, Service) = ("solve without σ", |library, input, answer| {
-    clock::column(library.name, move || {
-        let question = black_box(&input.without_sum);
-        (library.solve)(question, &mut answer.borrow_mut()[..])
-    })
-});
-
 /// An input with the count, and as it was before.
 struct Case {
     now: Input,
@@ -115,25 +108,19 @@ impl Case {
             &self.before
         }
     }
-
-    fn finds_sum(&self, library: Library) -> bool {
-        let question = &self.of(library).without_sum;
-        (library.solve)(question, &mut [0; ROOM]) < REFUSED
-    }
 }
 
 type Answers = [Vec<u64>; 4];
 
-/// Of an answer in words all that there is room for counts, since the words behind it are to stay as they were.
-fn written(service: fn(&[u32], &mut [u32]) -> u64, sheet: &[u32]) -> Vec<u64> {
-    let mut answer = [u32::MAX; ROOM];
-    let number = service(sheet, &mut answer);
-    let words = answer.into_iter().map(u64::from);
-    std::iter::once(number).chain(words).collect()
-}
-
-/// What a library answers to the sheets of an input, by service; the one that is timed comes first.
+/// What a library answers to the sheets of an input, by service; the one that is timed comes first. Of an answer in words all that there is room for
+/// counts, since the words behind it are to stay as they were.
 fn answers(library: Library, input: &Input) -> Answers {
+    let written = |service: fn(&[u32], &mut [u32]) -> u64, sheet: &[u32]| {
+        let mut answer = [u32::MAX; ROOM];
+        let number = service(sheet, &mut answer);
+        let words = answer.into_iter().map(u64::from);
+        std::iter::once(number).chain(words).collect()
+    };
     let refused = input.refused.iter().map(|(_, bytes)| bytes);
     let sheets = || std::iter::once(&input.bytes).chain(refused.clone());
     [
@@ -180,12 +167,6 @@ fn compare(case: &Case) -> Result<(), String> {
         if [given[0][0], given[1][0], given[2][0]] != [0, count, count] {
             return Err(format!("p = {p}, l = {l}: {} has no answer", library.name));
         }
-        // A library that knows no question without its sum refuses it for its form, 2; 17 is for a prime that is too small for it.
-        let unsummed = written(library.solve, &input.without_sum);
-        if unsummed != given[1] && ![REFUSED + 2, REFUSED + 17].contains(&unsummed[0]) {
-            let name = library.name;
-            return Err(format!("p = {p}, l = {l}: {name} finds no sum or another"));
-        }
         Ok(if mixed {
             without_count(given, case.counts(library))
         } else {
@@ -209,8 +190,7 @@ fn compare(case: &Case) -> Result<(), String> {
 fn measure(table: &mut Table, case: &Case) {
     let [p, .., l, _] = case.now.values;
     let answer = RefCell::new([0; ROOM]);
-    let all = LIBRARIES.iter().all(|&library| case.finds_sum(library));
-    for (service, column) in SERVICES.into_iter().chain(all.then_some(WITHOUT_SUM)) {
+    for (service, column) in SERVICES {
         let mut columns = LIBRARIES.map(|library| column(library, case.of(library), &answer));
         // The same number of calls for all, so that the clock and the first calls of a turn weigh alike.
         let most = clock::counts(&mut columns, TURN).into_iter().max();

@@ -83,14 +83,6 @@ pub fn solve(l: usize, p: u32) -> usize {
     h + c + check(l, p) - known
 }
 
-/// What a question without its kernel sum takes before: h up to 2l - 2, each pair counted once, and Euclid's steps from that degree down to l - 1, in each of
-/// which the row before has j words: two coefficients of its remainder, and the row that is divided, which has a word more then.
-pub fn kernel_sum(l: usize) -> usize {
-    let h: usize = (3..2 * l - 1).map(|k| (k - 1) / 2).sum();
-    let steps: usize = (1..l).map(|j| 2 * j + 3 * j + 2).sum();
-    h + steps
-}
-
 /// Push evaluates g, N and their derivatives after a check.
 pub fn push(l: usize, p: u32) -> usize {
     check(l, p) + 3 * (l + 1)

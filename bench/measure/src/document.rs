@@ -10,18 +10,7 @@ use crate::abscissas::{self, Abscissas};
 use crate::composing::{self, Composing};
 use crate::counts;
 use crate::primes::Primes;
-use crate::without_sum;
 use crate::{multiply_add, over, Row, ROUNDS, WORDS};
-
-/// What the document is written from.
-pub struct Measured {
-    pub rows: Vec<Row>,
-    pub primes: Primes,
-    pub abscissas: Abscissas,
-    pub composing: Composing,
-    /// Solve of questions without their kernel sum.
-    pub without_sum: Vec<Row>,
-}
 
 const SERVICES: [&str; 4] = ["check", "solve", "kernel", "push"];
 /// Degrees from here on count for the bars.
@@ -43,7 +32,7 @@ fn question_three(t: Value) -> f64 {
 }
 
 /// The count of rational abscissas: a certificate with another count is refused after it, one with another N before.
-pub fn rational_abscissas(t: Value) -> f64 {
+fn rational_abscissas(t: Value) -> f64 {
     t("check 9 for the count") - t("check 9 for N")
 }
 
@@ -57,12 +46,12 @@ impl Row {
         self.samples.each(|t| t(service) - question_three(t))
     }
 
-    pub fn against_same(&self, service: &str) -> Stat {
+    fn against_same(&self, service: &str) -> Stat {
         let same = format!("same {service}");
         self.samples.each(|t| t(service) / t(&same))
     }
 
-    pub fn against_same_apart(&self, service: &str) -> Stat {
+    fn against_same_apart(&self, service: &str) -> Stat {
         let same = format!("same {service}");
         let quotient =
             |t: Value| (t(service) - question_three(t)) / (t(&same) - same_question_three(t));
@@ -143,14 +132,13 @@ const FLINT_BARS: [(u64, f64, f64); 2] = [
     (inputs::PRIMES[1], 0.26, 0.2),
 ];
 
-fn bars(out: &mut String, measured: &Measured) {
-    let Measured {
-        rows,
-        primes,
-        abscissas,
-        composing,
-        without_sum,
-    } = measured;
+fn bars(
+    out: &mut String,
+    rows: &[Row],
+    primes: &Primes,
+    abscissas: &Abscissas,
+    composing: &Composing,
+) {
     let mut table = Table(out);
     table.head(&["bar", "at most", "worst measured", "where", "verdict"]);
     let mut bar = |what: String, most: f64, (value, place): (f64, String)| {
@@ -262,19 +250,6 @@ fn bars(out: &mut String, measured: &Measured) {
         "compose less its two checks, over PARI's ellisogenyapply".into(),
         0.1,
         composing.worst(composing::over_pari),
-    );
-    let counted = |row: &Row| row.p == largest && FROM <= row.l;
-    let ratio = |row: &Row| without_sum::finding_over_flint(row).median;
-    bar(
-        "finding σ over FLINT's nmod_berlekamp_massey, l ≥ 31".into(),
-        0.25,
-        worst(without_sum, counted, ratio),
-    );
-    let ratio = |row: &Row| without_sum::over_solve(row).median;
-    bar(
-        "solve without σ over solve with σ, l ≥ 31".into(),
-        4.0,
-        worst(without_sum, counted, ratio),
     );
     for p in inputs::PRIMES {
         let slope = exponent(rows, p, |row| row.apart("check").median);
@@ -461,8 +436,14 @@ fn counted(out: &mut String, rows: &[Row], p: u64) {
     }
 }
 
-pub fn write(measured: &Measured, machine: &str, remarks: &str) -> String {
-    let rows = &measured.rows;
+pub fn write(
+    rows: &[Row],
+    primes: &Primes,
+    abscissas: &Abscissas,
+    composing: &Composing,
+    machine: &str,
+    remarks: &str,
+) -> String {
     let mut out = String::new();
     let multiply_add = multiply_add(&rows[0].samples);
     write!(
@@ -494,12 +475,12 @@ timed. The inputs are certificates of isogenies that `tests/reference` makes fro
         short(multiply_add.median)
     )
     .expect("a string takes any text");
-    bars(&mut out, measured);
+    bars(&mut out, rows, primes, abscissas, composing);
     out.push_str("\n## Remarks\n\n");
     out.push_str(remarks.trim());
     out.push('\n');
-    measured.primes.section(&mut out);
-    measured.abscissas.section(&mut out);
+    primes.section(&mut out);
+    abscissas.section(&mut out);
     for p in inputs::PRIMES {
         write!(out, "\n## Times over p = {p}\n\n").expect("a string takes any text");
         times(&mut out, rows, p);
@@ -532,8 +513,7 @@ last five columns are parts of the same algorithm in unchecked Rust, each called
         write!(out, "\np = {p}:\n\n").expect("a string takes any text");
         parts(&mut out, rows, p);
     }
-    measured.composing.section(&mut out);
-    without_sum::section(&measured.without_sum, &mut out);
+    composing.section(&mut out);
     out.push_str("\n## Growth\n\nThe exponent of l that fits best (least squares of the logarithms) for l ≥ 31, question 3 apart. Times are taken
 in units of the multiply-add of the same row, since the machine's speed may change between rows.\n\n");
     growth(&mut out, rows);

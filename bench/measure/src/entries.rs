@@ -1,4 +1,4 @@
-//! The C entries of the library, the check, the count and the denominator with FLINT, and FLINT's and PARI's tests of a prime, each in a safe function.
+//! The C entries of the library, the check and the count with FLINT, and FLINT's and PARI's tests of a prime, each in a safe function.
 
 common::entries!("");
 
@@ -16,7 +16,6 @@ extern "C" {
     fn flint_check(values: *const u32, g: *const u32, n: *const u32, count: u32) -> u32;
     fn flint_rules(values: *const u32, g: *const u32, n: *const u32) -> u32;
     fn flint_count(p: u32, g: *const u32, d: u32) -> u32;
-    fn flint_denominator(p: u32, terms: *const u64, count: usize, highest: *mut u64) -> u32;
     fn n_is_prime(n: u64) -> i32;
     fn pari_init_opts(stack: usize, prime: u64, options: u64);
     fn uisprime(n: u64) -> i32;
@@ -61,14 +60,6 @@ pub fn count_with_flint(p: u32, g: &[u32]) -> u32 {
     let d = g.len() as u32 - 1;
     // SAFETY: g has the d + 1 words that the function reads.
     unsafe { flint_count(p, g.as_ptr(), d) }
-}
-
-/// The denominator of an expansion at infinity from these terms: its degree, its second coefficient and its first.
-pub fn denominator_with_flint(p: u32, terms: &[u64]) -> (u32, [u64; 2]) {
-    let mut highest = [0; 2];
-    // SAFETY: there are so many terms, and two words for what is written.
-    let degree = unsafe { flint_denominator(p, terms.as_ptr(), terms.len(), highest.as_mut_ptr()) };
-    (degree, highest)
 }
 
 /// Question 3, by the name of a curve with A = p: that is refused with 5, the next question, as soon as p has passed.

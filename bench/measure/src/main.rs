@@ -9,7 +9,6 @@ mod document;
 mod entries;
 mod pari;
 mod primes;
-mod without_sum;
 
 use std::hint::black_box;
 use std::path::Path;
@@ -236,15 +235,7 @@ fn main() -> ExitCode {
     }
     eprintln!("compose");
     let composing = composing::measure(&mut pari);
-    eprintln!("solve without the kernel sum");
-    let measured = document::Measured {
-        rows,
-        primes,
-        abscissas,
-        composing,
-        without_sum: without_sum::measure(),
-    };
-    let text = document::write(&measured, &machine, &remarks);
+    let text = document::write(&rows, &primes, &abscissas, &composing, &machine, &remarks);
     print!("{text}");
     std::fs::write(document, text).unwrap_or_else(|e| panic!("{document}: {e}"));
     ExitCode::SUCCESS

@@ -213,7 +213,7 @@ fn trimmed(a: &[u64]) -> usize {
 }
 
 #[inline(always)]
-pub fn negative(x: u64, m: Modulus) -> u64 {
+fn negative(x: u64, m: Modulus) -> u64 {
     u64::from(neg(x as u32, m.p))
 }
 
@@ -235,35 +235,23 @@ fn combine(out: &mut [u64], before: &[u64], here: &[u64], [c, y, z]: [u64; 3], m
     }
 }
 
-/// a = c a + (y x + z) x^s b, where s is by how many words a is longer than b; of the product only the words that a has.
-#[inline(always)]
-pub fn add_multiple(a: &mut [u64], b: &[u64], [c, y, z]: [u64; 3], m: Modulus) {
-    let n = b.len();
-    let s = a.len() - n;
-    scale(part_mut(a, ..s), c, m);
-    let first = rows::product(c, at(a, s)) + rows::product(z, at(b, 0));
-    put(a, s, rows::short(first, m));
-    let out = part_mut(a, s + 1..);
-    combine(out, part(b, ..n - 1), part(b, 1..), [c, y, z], m);
-}
-
-/// The factors c, y and z with which add_multiple cancels two words: a1 and a0 of a, by b1 and b0 of b.
-#[inline(always)]
-pub fn cancelling(a1: u64, a0: u64, b1: u64, b0: u64, m: Modulus) -> [u64; 3] {
-    let times = |x: u64, y: u64| rows::product(x, y);
-    [
-        rows::short(times(b1, b1), m),
-        rows::short(times(negative(a1, m), b1), m),
-        rows::short(times(a1, b0) + times(negative(a0, m), b1), m),
-    ]
-}
-
 /// a becomes a multiple of itself less one of b, whose two highest words are 0. It has more words than b, of which the last is not 0.
 fn cancel_two(a: &mut [u64], b: &[u64], m: Modulus) {
     let (k, n) = (a.len() - 1, b.len());
+    let s = k - n;
     let (b1, b0) = (at(b, n - 1), if 1 < n { at(b, n - 2) } else { 0 });
-    let factors = cancelling(at(a, k), at(a, k - 1), b1, b0, m);
-    add_multiple(part_mut(a, ..k), b, factors, m);
+    let (a1, a0) = (at(a, k), at(a, k - 1));
+    let c = rows::short(rows::product(b1, b1), m);
+    let y = rows::short(rows::product(negative(a1, m), b1), m);
+    let z = rows::short(
+        rows::product(a1, b0) + rows::product(negative(a0, m), b1),
+        m,
+    );
+    scale(part_mut(a, ..s), c, m);
+    let first = rows::product(c, at(a, s)) + rows::product(z, at(b, 0));
+    put(a, s, rows::short(first, m));
+    let out = part_mut(a, s + 1..k);
+    combine(out, part(b, ..n - 1), part(b, 1..), [c, y, z], m);
     put(a, k, 0);
 }
 

@@ -5,7 +5,6 @@
 
 pub mod counting;
 pub mod horner;
-pub mod poles;
 mod primes;
 pub mod rows;
 pub mod rules;

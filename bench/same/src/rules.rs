@@ -411,51 +411,8 @@ fn far_sum(s: &[u32], c: &[u32], k: usize, p: u32) -> u32 {
     coefficient(0, &s[2..], &c[..k - 1], k - 2, p)
 }
 
-/// The inverses of 1, 2, .., each from a smaller one; 0 at place 0.
-#[inline(always)]
-pub fn inverses(table: &mut [u32], p: u32) {
-    put(table, 0, 0);
-    put(table, 1, 1);
-    for k in 2..table.len() as u32 {
-        let x = entry(table, k, p);
-        put(table, k as usize, x);
-    }
-}
-
-/// y / k
-#[inline(always)]
-fn over(table: &[u32], y: u32, k: usize, p: u32) -> u32 {
-    times(at(table, k), y, p)
-}
-
-/// h from the two curves, by the recurrence: the table has two words more than twice as many. The multiples of -A and -B are added up.
-#[inline(always)]
-pub fn expansion_of_curves(v: Values, table: &[u32], h: &mut [u32]) {
-    let p = v.p;
-    let (a, b) = (neg(v.a, p), neg(v.b, p));
-    let (twice_a, twice_b) = (add(a, a, p), add(b, b, p));
-    put(h, 0, 0);
-    for k in 1..h.len().min(3) {
-        let x = if k == 1 {
-            over(table, sub(v.a, v.atilde, p), 5, p)
-        } else {
-            over(table, sub(v.b, v.btilde, p), 7, p)
-        };
-        put(h, k, x);
-    }
-    let (mut ka, mut kb) = (add(twice_a, a, p), 0);
-    for k in 3..h.len() {
-        let sum = mul(3 * at(table, k - 2), square_sum(h, k, p))
-            + mul(ka, at(h, k - 2))
-            + mul(kb, at(h, k - 3));
-        put(h, k, over(table, rem(sum, p), 2 * k + 3, p));
-        ka = add(ka, twice_a, p);
-        kb = add(kb, twice_b, p);
-    }
-}
-
-/// g from the codomain: the inverses, h by the recurrence, s from h, c by Newton's identities, and c reversed. Of c's remainders only the last of a turn waits
-/// for the word before. The places that are used: 2d + 2 of the table, d of h, d + 1 of s and c.
+/// g from the codomain: the inverses, h by the recurrence, s from h, c by Newton's identities, and c reversed. The multiples of -A and -B are added up, and
+/// of c's remainders only the last of a turn waits for the word before. The places that are used: 2d + 2 of the table, d of h, d + 1 of s and c.
 pub fn candidate(
     v: Values,
     table: &mut [u32],
@@ -466,16 +423,39 @@ pub fn candidate(
 ) {
     let p = v.p;
     let d = g.len() - 1;
-    inverses(part_mut(table, ..2 * d + 2), p);
-    expansion_of_curves(v, table, part_mut(h, ..d));
-    put(s, 0, (v.degree - 1) % p);
-    put(s, 1, v.sigma);
+    put(table, 0, 0);
+    put(table, 1, 1);
+    for k in 2..2 * d as u32 + 2 {
+        let x = entry(table, k, p);
+        put(table, k as usize, x);
+    }
+    let over = |y: u32, k: usize| times(at(table, k), y, p);
+    put(h, 0, 0);
     let (a, b) = (neg(v.a, p), neg(v.b, p));
     let (twice_a, twice_b) = (add(a, a, p), add(b, b, p));
+    for k in 1..d.min(3) {
+        let x = if k == 1 {
+            over(sub(v.a, v.atilde, p), 5)
+        } else {
+            over(sub(v.b, v.btilde, p), 7)
+        };
+        put(h, k, x);
+    }
+    let (mut ka, mut kb) = (add(twice_a, a, p), 0);
+    for k in 3..d {
+        let sum = mul(3 * at(table, k - 2), square_sum(h, k, p))
+            + mul(ka, at(h, k - 2))
+            + mul(kb, at(h, k - 3));
+        put(h, k, over(rem(sum, p), 2 * k + 3));
+        ka = add(ka, twice_a, p);
+        kb = add(kb, twice_b, p);
+    }
+    put(s, 0, (v.degree - 1) % p);
+    put(s, 1, v.sigma);
     let (mut ka, mut kb) = (a, 0);
     for i in 1..d {
         let sum = u64::from(at(h, i)) + mul(ka, at(s, i - 1)) + mul(kb, at(s, i.saturating_sub(2)));
-        put(s, i + 1, over(table, rem(sum, p), 2 * i + 1, p));
+        put(s, i + 1, over(rem(sum, p), 2 * i + 1));
         ka = add(ka, twice_a, p);
         kb = add(kb, twice_b, p);
     }

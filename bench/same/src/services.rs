@@ -1,16 +1,15 @@
-//! Reading, the questions of a sheet's form and content, and the services check, solve, kernel, push and compose.
+//! Reading, the five questions of a sheet's form and content, and the services check, solve, kernel, push and compose.
 
 use reference::sheet::LARGEST_CERTIFICATE as ROOM;
 
 use crate::counting;
 use crate::horner;
-use crate::poles;
 use crate::primes::question_three;
 use crate::rows::{self, Modulus};
 use crate::rules::{self, add, at, mul, neg, part, put, rem, sub, times};
 use crate::{Values, INFINITY, REFUSED};
 
-// ── questions 2 to 7, and 17
+// ── questions 3 to 7
 
 fn kind(w: u32) -> u32 {
     w >> 28
@@ -67,9 +66,6 @@ fn read(ws: &[u32], kinds: &[u32], g: bool, certificate: bool) -> Result<Values,
     if l.is_multiple_of(2) || !(3..=255).contains(&l) || p < 2 * l {
         return Err(4);
     }
-    if kinds.len() == WITHOUT_SUM.len() && p <= 8 * l - 5 {
-        return Err(17);
-    }
     if !certificate {
         for x in [
             &mut v.a,
@@ -98,8 +94,7 @@ fn read(ws: &[u32], kinds: &[u32], g: bool, certificate: bool) -> Result<Values,
     {
         return Err(6);
     }
-    let codomain = kinds.len() != KERNEL.len();
-    if !nonsingular(v.a, v.b, p) || (codomain && !nonsingular(v.atilde, v.btilde, p)) {
+    if !nonsingular(v.a, v.b, p) || (kinds.len() == 7 && !nonsingular(v.atilde, v.btilde, p)) {
         return Err(7);
     }
     Ok(v)
@@ -132,7 +127,6 @@ pub fn write(v: Values, g: &[u32], n: &[u32], abscissas: u32, out: &mut [u32]) -
 // ── the services
 
 const CERTIFICATE: [u32; 7] = [1, 2, 3, 4, 5, 6, 7];
-const WITHOUT_SUM: [u32; 6] = [1, 2, 3, 4, 5, 6];
 const KERNEL: [u32; 4] = [1, 2, 3, 6];
 
 fn judge(v: Values, g: &[u32], n: &[u32], abscissas: u32) -> u32 {
@@ -192,7 +186,7 @@ pub fn check(bytes: &[u8]) -> u32 {
 }
 
 /// By Euclid.
-pub fn inverse(a: u32, p: u32) -> u32 {
+fn inverse(a: u32, p: u32) -> u32 {
     let (mut x, mut y, mut t, mut u, mut s) = (p, a, 0, 1, 1);
     while 1 < y {
         let q = x / y;
@@ -297,21 +291,11 @@ fn certify(v: Values, g: &[u32], answer: &mut [u32]) -> u64 {
     finish(v, m, g, n, rules::rule_three(v, m, g), answer)
 }
 
-/// The values of a question, with the only kernel sum that can have an answer where the sheet has none.
-fn read_question(ws: &[u32]) -> Result<Values, u32> {
-    if ws.len() < 7 || kind(at(ws, 6)) != 15 {
-        return read(ws, &CERTIFICATE, false, false);
-    }
-    let v = read(ws, &WITHOUT_SUM, false, false)?;
-    let sigma = poles::kernel_sum(v).ok_or(11u32)?;
-    Ok(Values { sigma, ..v })
-}
-
 pub fn solve(ws: &[u32], answer: &mut [u32]) -> u64 {
     if answer.len() < ROOM {
         return REFUSED + 1;
     }
-    let v = match read_question(ws) {
+    let v = match read(ws, &CERTIFICATE, false, false) {
         Ok(v) => v,
         Err(k) => return REFUSED + u64::from(k),
     };

@@ -190,7 +190,7 @@ module _ (v : Values) (ready : Ready v) (g n : List ℕ) (c : ℕ) where
     pub all_back : Curves Certificate v → AllYes (asked Certificate ws)
     all_back curves =
         let back : Ready (valuesOf Certificate ws) = subst Ready (sym values-back) ready in
-        (asked2-back, (back.prime, (back.degree, (tt, (back.below, (asked6-back, (subst (Curves Certificate) (sym values-back) curves, tt)))))))
+        (asked2-back, (back.prime, (back.degree, (back.below, (asked6-back, (subst (Curves Certificate) (sym values-back) curves, tt))))))
 
 -- what the writer left, cut off at its count
 pub stored-front : (v : Values) (g n : List ℕ) (c : ℕ) (before after : List ℕ) (r : ℕ) → length (certificate v g n c) ≡ r → Stored v g n c before after r

@@ -1,13 +1,12 @@
--- The ways to a certificate agree: from a certificate that passes, solve on its question sheet, with σ or without, and kernel on its kernel sheet write that
--- same certificate, word for word; and no other certificate with its values passes.
+-- The three ways to a certificate agree: from a certificate that passes, solve on its question sheet and kernel on its kernel sheet write that same
+-- certificate, word for word; and no other certificate with its values passes.
 -- Assumes nothing.
-use Rattle.std.specs.Prelude.{◌≡◌, eqb, length}
+use Rattle.std.specs.Prelude.{◌≡◌, length}
 use Rattle.std.proofs.Math.Path.{refl, sym, ap, subst}
 use Rattle.std.proofs.Common.{◌∙◌, ap₂, arith, length-append, length-take, length-drop, drop_of_length-le, get_or-take, get_or-drop, take_at}
-use Rattle.std.proofs.Math.Bool.{cond}
 use Rattle.std.proofs.lemmas.Bool.{false≢true}
 use mathlib.Core.List.{List, [], ◌∷◌, ◌++◌, map, append-nil}
-use Prim.Native.Nat.{ℕ, ◌+◌, ◌*◌, ◌-◌, ◌<◌, ◌≤◌}
+use Prim.Native.Nat.{ℕ, ◌+◌, ◌-◌, ◌<◌, ◌≤◌}
 use Rattle.std.proofs.Math.ListN.{get_or, take, drop, get_or-append}
 use Rattle.std.proofs.lemmas.List.{get_or_at}
 use Rattle.series.specs.Series.{Seq}
@@ -19,27 +18,24 @@ use Rattle.isogeny.specs.Rules.{N, R3, Meets}
 use Rattle.questions.specs.Questions.{AllYes}
 use Rattle.questions.specs.Joined.{all-all}
 use Rattle.questions.specs.Numbered.{yes-to}
-use Rattle.sheet.specs.declared.Form.{Form}
-use Rattle.sheet.specs.declared.Form.TheVariants.{Question, Certificate, Kernel, WithoutSum}
+use Rattle.sheet.specs.declared.Form.TheVariants.{Question, Certificate, Kernel}
 use Rattle.sheet.specs.declared.Values.{Values}
 use Rattle.sheet.specs.Word.{kind_of, value_of, word}
-use Rattle.sheet.specs.Form.{kindsOf, valueIn, questionForm}
+use Rattle.sheet.specs.Form.{kindsOf, valueIn}
 use Rattle.sheet.specs.Values.{valuesOf, half, question, coefficientIn, gOf, n_of, abscissasOf}
 use Rattle.sheet.specs.Asked.{Asked2, Asked6, ValuesBelow, Curves, asked}
 use Rattle.sheet.specs.Fields.{same}
-use Rattle.sheet.specs.Reduction.{kernel-modulo, without-sum-modulo, value-below, value-reduced, coefficients-below, five-always}
+use Rattle.sheet.specs.Reduction.{kernel-modulo, value-below, value-reduced, coefficients-below, five-always}
 use Rattle.sheet.specs.Ready.{Ready, ready}
 use Rattle.sheet.specs.Lengths.{last, kernel-words, certificate-words}
-use Rattle.reading.specs.Leaf.{Stands, Sections}
-use Rattle.reading.specs.Header.{asked2-stands}
+use Rattle.reading.specs.Leaf.{Sections}
 use Rattle.reading.specs.Body.{Words6, asked6-words, words-asked6}
 use Rattle.reading.specs.Accepted.{certificate-length, certificate-g, certificate-n}
 use Rattle.certificate.specs.Certificate.{certificate, headerWords}
 use Rattle.promises.specs.declared.Written.{Written}
 use Rattle.promises.specs.declared.Written.TheVariants as written
-use Rattle.promises.specs.Asked.{Room, Solvable, SumAdmitted, Answerable, Passing, last-ask, check-asks}
-use Rattle.promises.specs.With.{with, with-sum}
-use Rattle.promises.specs.Answer.{CertificateIn, SolveAs, SolveRight, KernelRight}
+use Rattle.promises.specs.Asked.{Room, Solvable, Passing, last-ask, check-asks}
+use Rattle.promises.specs.Answer.{CertificateIn, with, SolveRight, KernelRight}
 use Rattle.guarantees.specs.Solve.{solve-unique}
 use Rattle.guarantees.specs.Kernel.{kernel-unique}
 use Rattle.promises.specs.Certificates.{check-asked, certificate-N, certificate-meets}
@@ -47,21 +43,20 @@ use Rattle.guarantees.specs.Abscissas.{certificate-abscissas}
 use Rattle.guarantees.specs.Words.{certificate-back, g-section}
 use Rattle.guarantees.specs.Certified.{one-certificate}
 
--- the question sheet of a certificate: its first seven words, and the end; and without its σ
+-- the question sheet of a certificate: its first seven words, and the end
 abbrev pub questionOf : List ℕ → List ℕ
 questionOf ws = take 7 ws ++ word 15 0 ∷ []
-
-abbrev pub withoutSumOf : List ℕ → List ℕ
-withoutSumOf ws = take 6 ws ++ word 15 0 ∷ []
 
 -- the kernel sheet of a certificate: p, A, B, ℓ, the coefficients of g, and the end
 abbrev pub kernelOf : List ℕ → List ℕ
 kernelOf ws = take 3 ws ++ take 1 (drop 5 ws) ++ take (half (valuesOf Certificate ws) + 1) (drop 7 ws) ++ word 15 0 ∷ []
 
--- the word behind the header of a question is no coefficient
-end-only : (hs : List ℕ) (i : ℕ) → length hs ≤ i → i < length (hs ++ word 15 0 ∷ []) → kind_of (get_or (hs ++ word 15 0 ∷ []) i 0) < 10 → ⊥
-end-only hs i l m few =
+-- its word behind the first seven is no coefficient
+end-only : (hs : List ℕ) (i : ℕ) → length hs ≡ 7 → 7 ≤ i → i < length (hs ++ word 15 0 ∷ []) → kind_of (get_or (hs ++ word 15 0 ∷ []) i 0) < 10 → ⊥
+end-only hs i seven l m few =
     omega (arith, ap kind_of (get_or_at hs (word 15 0) [] 0 i (omega (arith, length-append hs (word 15 0 ∷ [])))), few)
+
+-- ── solve, on a sheet that puts the same values
 
 module _ (ws : List ℕ) (passes : AllYes (check-asks ws)) where
   abbrev v : Values
@@ -98,134 +93,60 @@ module _ (ws : List ℕ) (passes : AllYes (check-asks ws)) where
         ∙ ap (λ c. certificate v (gOf Certificate ws) (n_of Certificate ws) c ++ drop (length ws) before) (certificate-abscissas ws passes);
   }
 
-  -- ── solve, on a sheet in one of a question's forms that puts the same values, but for σ where it has none
-
-  module _ (form : Form) (us : List ℕ) (is : questionForm us ≡ form) (asks : AllYes (asked form us))
-      (puts : valuesOf Certificate ws ≡ with-sum (valuesOf form us) (valuesOf Certificate ws).sigma)
-      (admits : SumAdmitted form (valuesOf form us) (valuesOf Certificate ws).sigma) where
-    solve-as : (before : List ℕ) → Room (length before) → SolveRight us before (ws ++ drop (length ws) before) (written.Count (length ws))
-    solve-as before room =
-        let after : List ℕ = ws ++ drop (length ws) before in
-        let solvable : Solvable v = record { g = poly v.p (gOf Certificate ws); meets = certificate-meets ws passes } in
-        subst (λ form. SolveAs form us before after (written.Count (length ws))) (sym is) (
-          (
-            room,
-            all-all (asked form us) ((11, Answerable form (valuesOf form us)) ∷ []) asks
-                (record { σ = v.sigma; sum = admits; solvable = subst Solvable puts solvable }, tt),
-          ),
-          record { σ = v.sigma; sum = admits; certificate = subst (λ v. CertificateIn v before after (length ws)) puts (held before) },
-        )
-
-  -- a value below p is read as it stands
-  stands : (form : Form) {p x : ℕ} → x < p → x ≡ valueIn form p x
-  stands form l = sym (value-below form l)
-
-  -- ── with σ
+  -- ── solve
 
   question-values : v ≡ valuesOf Question (questionOf ws)
   question-values =
       at_words (λ us. ValuesBelow (valuesOf Certificate us) → valuesOf Certificate us ≡ valuesOf Question (questionOf us))
-      (λ b.
-      same refl (stands Question b.a) (stands Question b.b) (stands Question b.atilde) (stands Question b.btilde) refl (stands Question b.sigma))
-      known.below
-
-  headed : Asked2 Certificate ws
-  headed = yes-to (asked Certificate ws) 2 accepted
-
-  -- the seventh word is that of σ
-  question-form : questionForm (questionOf ws) ≡ Question
-  unfolding Stands
-  question-form =
-      let seventh : get_or (questionOf ws) 6 0 ≡ get_or ws 6 0 = at_words (λ us. get_or (questionOf us) 6 0 ≡ get_or us 6 0) refl in
-      ap (λ k. cond (eqb k 15) WithoutSum Question) (ap kind_of seventh ∙ (asked2-stands Certificate ws headed 7 refl).1)
+      (λ b. same refl (stands b.a) (stands b.b) (stands b.atilde) (stands b.btilde) refl (stands b.sigma)) known.below
+    where
+      stands : {p x : ℕ} → x < p → x ≡ valueIn Question p x
+      stands l = sym (value-below Question l)
 
   question-headed : Asked2 Question (questionOf ws)
   unfolding Asked2
-  question-headed = at_words (λ us. Asked2 Certificate us → Asked2 Question (questionOf us)) (λ h. h) headed
+  question-headed = at_words (λ us. Asked2 Certificate us → Asked2 Question (questionOf us)) (λ h. h) (yes-to (asked Certificate ws) 2 accepted)
 
   question-exact : Asked6 Question (questionOf ws)
   question-exact =
       at_words (λ us. Asked6 Question (questionOf us))
-      (record { kinds = refl; below = λ i l m few. absurd (end-only (headerWords v) i l m few); end = refl })
+      (record { kinds = refl; below = λ i l m few. absurd (end-only (headerWords v) i refl l m few); end = refl })
 
   question-asked : AllYes (asked Question (questionOf ws))
   question-asked =
-      let there : Ready (valuesOf Question (questionOf ws)) = subst Ready question-values known in
-      let both : Curves Question (valuesOf Question (questionOf ws)) =
-      subst (Curves Question) question-values (record { domain = curves.domain; codomain = curves.codomain }) in
-      (question-headed, (there.prime, (there.degree, (tt, (there.below, (question-exact, (both, tt)))))))
+      let there : Ready (valuesOf Question (questionOf ws)) = subst Ready question-values known in (
+        question-headed,
+        (
+          there.prime,
+          (
+            there.degree,
+            (
+              there.below,
+              (
+                question-exact,
+                (subst (Curves Question) question-values (record { domain = curves.domain; codomain = curves.codomain }), tt),
+              ),
+            ),
+          ),
+        ),
+      )
 
   -- That certificate, with the count of its words and what stood behind it in the buffer, is a right answer of solve to its question,
   pub solve-right : (before : List ℕ) → Room (length before) → SolveRight (questionOf ws) before (ws ++ drop (length ws) before) (written.Count (length ws))
-  solve-right =
-      let own : v.sigma ≡ (valuesOf Question (questionOf ws)).sigma = ap (λ (v : Values). v.sigma) question-values in
-      let below = subst (λ v. (valuesOf Certificate ws).sigma < v.p) question-values known.below.sigma in
-      solve-as Question (questionOf ws) question-form question-asked
-      (question-values ∙ ap (with-sum (valuesOf Question (questionOf ws))) (sym own)) (record { below = below; own = λ _. own })
+  solve-right before room =
+      let solvable : Solvable v = record { g = poly v.p (gOf Certificate ws); meets = certificate-meets ws passes } in (
+        (
+          room,
+          all-all (asked Question (questionOf ws)) ((11, Solvable (valuesOf Question (questionOf ws))) ∷ []) question-asked
+              (subst Solvable question-values solvable, tt),
+        ),
+        subst (λ v. CertificateIn v before (ws ++ drop (length ws) before) (length ws)) question-values (held before),
+      )
 
   -- so solve, asked the question of a certificate that passes, answers with it: the count of its words, its words, and then what stood there before.
   pub solve-again : (before after : List ℕ) (r : Written) → Room (length before) → SolveRight (questionOf ws) before after r
       → (r ≡ written.Count (length ws)) × (after ≡ ws ++ drop (length ws) before)
   solve-again before after r room h = solve-unique (questionOf ws) before after _ r (written.Count (length ws)) h (solve-right before room)
-
-  -- ── without σ, where p is large enough for question 17
-
-  without-sum-values : v ≡ with-sum (valuesOf WithoutSum (withoutSumOf ws)) v.sigma
-  without-sum-values =
-      at_words (λ us.
-      let v : Values = valuesOf Certificate us in
-      ValuesBelow v → v ≡ with-sum (valuesOf WithoutSum (withoutSumOf us)) v.sigma)
-      (λ b. same refl (stands WithoutSum b.a) (stands WithoutSum b.b) (stands WithoutSum b.atilde) (stands WithoutSum b.btilde) refl refl)
-      known.below
-
-  without-sum-form : questionForm (withoutSumOf ws) ≡ WithoutSum
-  without-sum-form = at_words (λ us. questionForm (withoutSumOf us) ≡ WithoutSum) refl
-
-  without-sum-headed : Asked2 WithoutSum (withoutSumOf ws)
-  unfolding Asked2
-  without-sum-headed = at_words (λ us. Asked2 Certificate us → Asked2 WithoutSum (withoutSumOf us)) (λ h. ap (λ (ks : List ℕ). take 6 ks) h) headed
-
-  without-sum-exact : Asked6 WithoutSum (withoutSumOf ws)
-  without-sum-exact =
-      at_words (λ us. Asked6 WithoutSum (withoutSumOf us))
-      (record { kinds = refl; below = λ i l m few. absurd (end-only (take 6 (headerWords v)) i l m few); end = refl })
-
-  module _ (large : 8 * (valuesOf Certificate ws).degree - 5 < (valuesOf Certificate ws).p) where
-    abbrev w : Values
-    w = valuesOf WithoutSum (withoutSumOf ws)
-
-    -- the two differ in σ alone
-    alike : (P : Values → Type 0) → P v → P (with-sum w v.sigma)
-    alike P h = subst P without-sum-values h
-
-    without-sum-asked : AllYes (asked WithoutSum (withoutSumOf ws))
-    without-sum-asked =
-        let there : Ready (with-sum w v.sigma) = alike Ready known in
-        let both = alike (Curves Certificate) curves in (
-          without-sum-headed,
-          (
-            there.prime,
-            (
-              there.degree,
-              (
-                alike (λ v. 8 * v.degree - 5 < v.p) large,
-                (
-                  five-always WithoutSum without-sum-modulo (withoutSumOf ws) (prime-pos there.prime.prime),
-                  (without-sum-exact, (record { domain = both.domain; codomain = both.codomain }, tt)),
-                ),
-              ),
-            ),
-          ),
-        )
-
-    -- Solve, asked that question without its σ, answers with the certificate too, σ included.
-    pub solve-again-without-sum : (before after : List ℕ) (r : Written) → Room (length before) → SolveRight (withoutSumOf ws) before after r
-        → (r ≡ written.Count (length ws)) × (after ≡ ws ++ drop (length ws) before)
-    solve-again-without-sum before after r room h =
-        let below = alike (λ v. v.sigma < v.p) known.below.sigma in
-        let admitted : SumAdmitted WithoutSum w v.sigma = record { below = below; own = λ t. absurd (false≢true t) } in
-        solve-unique (withoutSumOf ws) before after _ r (written.Count (length ws)) h
-        (solve-as WithoutSum (withoutSumOf ws) without-sum-form without-sum-asked without-sum-values admitted before room)
 
   -- ── kernel
 
@@ -317,10 +238,19 @@ module _ (ws : List ℕ) (passes : AllYes (check-asks ws)) where
       })
 
   kernel-asked : AllYes (asked Kernel us)
-  kernel-asked =
-      let five = five-always Kernel kernel-modulo us kernel-positive in
-      let domain : Curves Kernel (valuesOf Kernel us) = record { domain = completed-curves.domain; codomain = λ t. absurd (false≢true t) } in
-      (kernel-headed, (completed-ready.prime, (completed-ready.degree, (tt, (five, (kernel-exact, (domain, tt)))))))
+  kernel-asked = (
+    kernel-headed,
+    (
+      completed-ready.prime,
+      (
+        completed-ready.degree,
+        (
+          five-always Kernel kernel-modulo us kernel-positive,
+          (kernel-exact, (record { domain = completed-curves.domain; codomain = λ t. absurd (false≢true t) }, tt)),
+        ),
+      ),
+    ),
+  )
 
   -- the sheet's question with any σ: the number on the certificate, and R1's
   abbrev with-sigma : Elt completed.p → Rules.Question (Zmod completed.p)

@@ -2,22 +2,23 @@
 -- their contract; that one answer is right and no other is on the page of each service.) One page to cite.
 -- Assumes nothing.
 use Rattle.std.specs.Prelude.{◌≡◌, refl, ◌↔◌, ◌≢◌, List, [], ◌∷◌, ℕ, length}
-use Rattle.std.proofs.Common.{ap, subst, inl, inr}
+use Rattle.std.proofs.Common.{ap, subst, inl, inr, arith}
 use Rattle.series.specs.Series.{Seq}
 use Rattle.zmod.specs.Zmod.{Elt, Zmod, mk}
 use Rattle.zmod.specs.Residues.{poly}
 use Rattle.isogeny.specs.Curve.{OnCurve}
 use Rattle.isogeny.specs.Kernel.{Passes}
-use Rattle.isogeny.specs.Rules.{g-at}
+use Rattle.isogeny.specs.Rules.{Meets, g-at}
+use Rattle.isogeny.specs.Theorems.{unique}
 use Rattle.questions.specs.Questions.{Questions, AllYes, not-both}
 use Rattle.questions.specs.Joined.{no-after, all-all, all-front, all_back}
 use Rattle.questions.specs.Numbered.{no-by}
-use Rattle.sheet.specs.declared.Form.{Form}
-use Rattle.sheet.specs.declared.Form.TheVariants.{Certificate, Kernel}
+use Rattle.sheet.specs.declared.Form.TheVariants.{Question, Certificate, Kernel}
 use Rattle.sheet.specs.declared.Values.{Values}
-use Rattle.sheet.specs.Form.{certificateWords, questionForm}
+use Rattle.sheet.specs.Form.{certificateWords}
 use Rattle.sheet.specs.Values.{valuesOf, half, gOf, n_of}
 use Rattle.sheet.specs.Asked.{asked}
+use Rattle.sheet.specs.Ready.{Ready, ready, half-least, degree-half}
 use Rattle.promises.specs.declared.Verdict.{Verdict}
 use Rattle.promises.specs.declared.Verdict.TheVariants as verdict
 use Rattle.promises.specs.declared.Written.{Written}
@@ -25,54 +26,45 @@ use Rattle.promises.specs.declared.Written.TheVariants as written
 use Rattle.promises.specs.declared.Point.TheVariants as point
 use Rattle.promises.specs.declared.Image.{Image}
 use Rattle.promises.specs.declared.Image.TheVariants as image
-use Rattle.promises.specs.With.{with-sum}
-use Rattle.promises.specs.Asked.{Room, Answerable, Leading, Passing, OnDomain, Given, prime, put, g, check-asks, solve-asks, last-ask, kernel-asks, push-asks}
+use Rattle.promises.specs.Asked.{Room, Solvable, Leading, Passing, OnDomain, Given, prime, put, g, check-asks, solve-asks, last-ask, kernel-asks, push-asks}
 use Rattle.promises.specs.Answer.{CheckRight, CertificateIn, SolveRight, KernelRight, PushRight, ToPoint}
 use Rattle.guarantees.specs.Check.{check-unique}
-use Rattle.guarantees.specs.Sums.{Solution, one_solution}
-use Rattle.guarantees.specs.Solve.{solution, solve-unique, refused-11, unsolved-11}
+use Rattle.guarantees.specs.Solve.{solve-unique, refused-11, unsolved-11}
 use Rattle.guarantees.specs.Push.{push-on-codomain}
 use Rattle.guarantees.specs.Kernel.{kernel-unique}
 
 -- ── solve
 
--- For a question sheet that comes as far as question 11, with or without σ, any two pairs of a σ that it admits and a polynomial that meets the rules with
--- it are equal.
-pub sheet-unique : (ws : List ℕ) → AllYes (asked (questionForm ws) ws) → (σ τ : ℕ) (a b : Seq (Zmod (prime (questionForm ws) ws)))
-    → Solution (questionForm ws) ws σ a → Solution (questionForm ws) ws τ b → (σ ≡ τ) × (a ≡ b)
-sheet-unique = one_solution
+-- For a question sheet that comes as far as question 11, any two polynomials that meet the rules are equal.
+pub sheet-unique : (ws : List ℕ) → AllYes (asked Question ws) → (a b : Seq (Zmod (prime Question ws)))
+    → Meets (Zmod (prime Question ws)) (put Question ws) a → Meets (Zmod (prime Question ws)) (put Question ws) b → a ≡ b
+sheet-unique ws all a b h k =
+    let v : Values = valuesOf Question ws in
+    let known : Ready (valuesOf Question ws) = ready Question ws all in
+    unique known.prime.prime (put Question ws) (half-least (valuesOf Question ws) known)
+    (omega (arith, known.degree, degree-half (valuesOf Question ws) known)) a b h k
 
--- If there is such a pair, and the buffer has room, solve answers with the count of a certificate's words, and the buffer holds the certificate with that σ and
--- that polynomial.
-pub solved : (ws before after : List ℕ) (r : Written) → Room (length before) → AllYes (asked (questionForm ws) ws)
-    → (σ : ℕ) (a : Seq (Zmod (prime (questionForm ws) ws))) → Solution (questionForm ws) ws σ a → SolveRight ws before after r
-    → (r ≡ written.Count (certificateWords (half (valuesOf (questionForm ws) ws))))
-    × ((f : CertificateIn (with-sum (valuesOf (questionForm ws) ws) σ) before after (certificateWords (half (valuesOf (questionForm ws) ws))))
-    × (poly (prime (questionForm ws) ws) f.g ≡ a))
-solved ws before after (written.Refused k) room all σ a s h =
-    let form : Form = questionForm ws in
-    absurd (not-both (solve-asks form ws (length before)) k (
-      room,
-      all-all (asked form ws) ((11, Answerable form (valuesOf form ws)) ∷ []) all
-          (record { σ = σ; sum = s.sum; solvable = record { g = a; meets = s.meets } }, tt),
-    ) h.0)
-solved ws before after (written.Count c) room all σ a s (_, it) =
-    let form : Form = questionForm ws in
-    let p : ℕ = prime form ws in
-    let v : Values = valuesOf form ws in
-    let count : c ≡ certificateWords (half (valuesOf (questionForm ws) ws)) = it.certificate.count-is in
-    let same = sheet-unique ws all it.σ σ (poly p it.certificate.g) a (solution form ws all before it) s in (
-      ap written.Count count,
-      subst (λ n. (f : CertificateIn (with-sum v σ) before after n) × (poly p f.g ≡ a)) count
-          (subst (λ τ. (f : CertificateIn (with-sum v τ) before after c) × (poly p f.g ≡ a)) same.0 (it.certificate, same.1)),
+-- If there is one, and the buffer has room, solve answers with the count of a certificate's words, and the buffer holds the certificate with that
+-- polynomial.
+pub solved : (ws before after : List ℕ) (r : Written) → Room (length before) → AllYes (asked Question ws)
+    → (a : Seq (Zmod (prime Question ws))) → Meets (Zmod (prime Question ws)) (put Question ws) a → SolveRight ws before after r
+    → (r ≡ written.Count (certificateWords (half (valuesOf Question ws))))
+    × ((f : CertificateIn (valuesOf Question ws) before after (certificateWords (half (valuesOf Question ws)))) × (poly (prime Question ws) f.g ≡ a))
+solved ws before after (written.Refused k) room all a meets h =
+    absurd (not-both (solve-asks ws (length before)) k
+    (room, all-all (asked Question ws) ((11, Solvable (valuesOf Question ws)) ∷ []) all (record { g = a; meets = meets }, tt)) h.0)
+solved ws before after (written.Count c) room all a meets (_, f) =
+    let e : c ≡ certificateWords (half (valuesOf Question ws)) = f.count-is in (
+      ap written.Count e,
+      subst (λ n. (f : CertificateIn (valuesOf Question ws) before after n) × (poly (prime Question ws) f.g ≡ a)) e
+          (f, sheet-unique ws all (poly (prime Question ws) f.g) a f.meets meets),
     )
 
--- Solve answers 11 exactly when the sheet comes as far as question 11 and no σ that it admits, which without a word for σ is any below p, has a polynomial
--- that meets the rules.
+-- Solve answers 11 exactly when the sheet comes as far as question 11 and no polynomial meets the rules.
 pub solve-11 : (ws before after : List ℕ) (r : Written) → SolveRight ws before after r
     → (r ≡ written.Refused 11)
-    ↔ (Room (length before) × AllYes (asked (questionForm ws) ws)
-    × ((σ : ℕ) (a : Seq (Zmod (prime (questionForm ws) ws))) → Solution (questionForm ws) ws σ a → ⊥))
+    ↔ (Room (length before) × AllYes (asked Question ws)
+    × ((a : Seq (Zmod (prime Question ws))) → Meets (Zmod (prime Question ws)) (put Question ws) a → ⊥))
 solve-11 ws before after r h = (
   λ e. refused-11 ws before after (subst (SolveRight ws before after) e h),
   λ none. (solve-unique ws before after before r (written.Refused 11) h (unsolved-11 ws before none.0 none.1 none.2)).0,

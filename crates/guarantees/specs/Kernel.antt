@@ -1,10 +1,10 @@
 -- What a customer can cite of kernel: one answer is right and no other, with every word of the lent buffer, since the sheet determines codomain, σ and N;
 -- and what it writes passes check.
 -- Assumes nothing.
-use Rattle.std.specs.Prelude.{◌≡◌, List, ℕ, length, take}
-use Rattle.std.proofs.Common.{sym, ◌∙◌, subst}
+use Rattle.std.specs.Prelude.{◌≡◌, List, ◌++◌, ℕ, length, take}
+use Rattle.std.proofs.Common.{sym, ◌∙◌, ap, subst}
 use Rattle.series.specs.Series.{Seq}
-use Rattle.zmod.specs.Zmod.{Zmod, mk, mk-apart}
+use Rattle.zmod.specs.Zmod.{Elt, Zmod, mk, mk-apart}
 use Rattle.zmod.specs.Prime.{prime-pos}
 use Rattle.zmod.specs.Residues.{poly}
 use Rattle.isogeny.specs.Rules.{Meets}
@@ -15,7 +15,7 @@ use Rattle.questions.specs.Questions.{AllYes}
 use Rattle.questions.specs.Joined.{all-front}
 use Rattle.questions.specs.Numbered.{yes-to}
 use Rattle.questions.specs.Answers.{writes-unique}
-use Rattle.sheet.specs.declared.Form.TheVariants.{Kernel}
+use Rattle.sheet.specs.declared.Form.TheVariants.{Certificate, Kernel}
 use Rattle.sheet.specs.declared.Values.{Values}
 use Rattle.sheet.specs.Values.{gOf, valuesOf, question, half}
 use Rattle.sheet.specs.Asked.{Curves, asked}
@@ -24,8 +24,7 @@ use Rattle.promises.specs.declared.Written.{Written}
 use Rattle.promises.specs.declared.Written.TheVariants as written
 use Rattle.promises.specs.Outcome.{writtenOutcome, same-written}
 use Rattle.promises.specs.Asked.{check-asks, last-ask, kernel-asks}
-use Rattle.promises.specs.With.{with, ready_with}
-use Rattle.promises.specs.Answer.{CertificateIn, KernelIn, KernelRight}
+use Rattle.promises.specs.Answer.{CertificateIn, with, KernelIn, KernelRight}
 use Rattle.guarantees.specs.Certified.{certified, one-certificate}
 
 -- the questions before 8
@@ -38,8 +37,12 @@ module _ (v : Values) (known : Ready v) (g before : List ℕ) where
   abbrev G : Seq (Zmod v.p)
   G = poly v.p g
 
-  pub ready-completed : {after : List ℕ} {count : ℕ} (k : KernelIn v g before after count) → Ready (with v k.ã k.b̃ k.σ)
-  ready-completed k = ready_with known k.ã-below k.b̃-below k.σ-below
+  pub ready_with : {after : List ℕ} {count : ℕ} (k : KernelIn v g before after count) → Ready (with v k.ã k.b̃ k.σ)
+  ready_with k = record {
+    prime = known.prime;
+    degree = known.degree;
+    below = record { a = known.below.a; b = known.below.b; atilde = k.ã-below; btilde = k.b̃-below; sigma = k.σ-below };
+  }
 
   module _ {after : List ℕ} {count : ℕ} (k : KernelIn v g before after count) where
     pub kernel-meets : Meets (Zmod v.p) (question (with v k.ã k.b̃ k.σ)) (poly v.p g)
@@ -58,7 +61,7 @@ module _ (v : Values) (known : Ready v) (g before : List ℕ) where
       let a : k'.ã ≡ k.ã = mk-apart pos k'.ã k.ã k'.ã-below k.ã-below ((kernel-codomain k').0 ∙ sym (kernel-codomain k).0) in
       let b : k'.b̃ ≡ k.b̃ = mk-apart pos k'.b̃ k.b̃ k'.b̃-below k.b̃-below ((kernel-codomain k').1 ∙ sym (kernel-codomain k).1) in
       let s : k'.σ ≡ k.σ = mk-apart pos k'.σ k.σ k'.σ-below k.σ-below ((kernel-meets k').r1.sigma ∙ sym (kernel-meets k).r1.sigma) in
-      one-certificate (with v k.ã k.b̃ k.σ) (ready-completed k) before after after' count count' k.certificate
+      one-certificate (with v k.ã k.b̃ k.σ) (ready_with k) before after after' count count' k.certificate
       (subst (λ x. CertificateIn (with v x k.b̃ k.σ) before after' count') a
       (subst (λ x. CertificateIn (with v k'.ã x k.σ) before after' count') b
       (subst (λ x. CertificateIn (with v k'.ã k'.b̃ x) before after' count') s k'.certificate)))
@@ -78,5 +81,5 @@ pub kernel-certified : (ws before after : List ℕ) (c : ℕ) → KernelRight ws
 kernel-certified ws before after c (all, it) =
     let first : AllYes (asked Kernel ws) = kernel-asked ws (length before) all in
     let curves : Curves Kernel (valuesOf Kernel ws) = yes-to (asked Kernel ws) 7 first in
-    certified (with (valuesOf Kernel ws) it.ã it.b̃ it.σ) (ready-completed (valuesOf Kernel ws) (ready Kernel ws first) (gOf Kernel ws) before it)
+    certified (with (valuesOf Kernel ws) it.ã it.b̃ it.σ) (ready_with (valuesOf Kernel ws) (ready Kernel ws first) (gOf Kernel ws) before it)
     (record { domain = curves.domain; codomain = λ _. it.nonsingular }) before after c it.certificate

@@ -1,6 +1,5 @@
 pub mod Certified
 pub mod Check
-pub mod Sums
 pub mod Solve
 pub mod Kernel
 pub mod Push
@@ -12,7 +11,6 @@ pub mod Source
 pub mod ComposePush
 pub mod Abscissas
 pub mod Again
-pub mod WithoutSum
 pub mod Names
 pub mod Reduced
 pub mod LowestTerms

@@ -10,19 +10,17 @@ use Rattle.questions.specs.Joined.{all-front}
 use Rattle.questions.specs.Alike.{Alike, alike_refl, alike-sym, alike-yes, alike-no, alike-joined}
 use Rattle.questions.specs.Answers.{Outcome, result, refused, Writes}
 use Rattle.sheet.specs.declared.Form.{Form}
-use Rattle.sheet.specs.declared.Form.TheVariants.{Kernel}
+use Rattle.sheet.specs.declared.Form.TheVariants.{Question, Kernel}
 use Rattle.sheet.specs.declared.Values.{Values}
-use Rattle.sheet.specs.Form.{questionForm}
 use Rattle.sheet.specs.Values.{valuesOf, gOf}
 use Rattle.sheet.specs.Asked.{asked}
-use Rattle.sheet.specs.Reduction.{Modulo, kernel-modulo, five-always}
-use Rattle.reading.specs.ReducedSheet.{reduced, values_same, g-same, reduced-alike, same-form}
+use Rattle.sheet.specs.Reduction.{Modulo, question-modulo, kernel-modulo, five-always}
+use Rattle.reading.specs.ReducedSheet.{reduced, values_same, g-same, reduced-alike}
 use Rattle.promises.specs.declared.Written.{Written}
 use Rattle.promises.specs.declared.Written.TheVariants as written
 use Rattle.promises.specs.Outcome.{writtenOutcome}
-use Rattle.promises.specs.Asked.{Room, Answerable, solve-asks, last-ask, kernel-asks}
-use Rattle.promises.specs.Answer.{SolveIn, SolveAs, SolveRight, KernelIn, KernelRight}
-use Rattle.guarantees.specs.Sums.{form-modulo}
+use Rattle.promises.specs.Asked.{Room, Solvable, solve-asks, last-ask, kernel-asks}
+use Rattle.promises.specs.Answer.{CertificateIn, SolveRight, KernelIn, KernelRight}
 
 -- ── a service that asks 1, the questions of a form, and then some of the values and of g
 
@@ -87,10 +85,8 @@ module _ (ws before after : List ℕ) where
   -- A question and the same question with its values reduced have one right answer of solve: the number, or the count with every word of the buffer.
   pub solve-reduced : (r : Written) → SolveRight ws before after r ↔ SolveRight (reduced ws) before after r
   solve-reduced r =
-      let form : Form = questionForm ws in
-      subst (λ read. SolveRight ws before after r ↔ SolveAs read (reduced ws) before after r) (sym (same-form ws))
-      (writes-reduced form (form-modulo ws) ws (λ v _. (11, Answerable form v) ∷ []) (λ v _ count after. SolveIn form v before after count) before after
-      (writtenOutcome r))
+      writes-reduced Question question-modulo ws (λ v _. (11, Solvable v) ∷ []) (λ v _ count after. CertificateIn v before after count) before after
+      (writtenOutcome r)
 
   -- The same for a kernel sheet, the coefficients of g included.
   pub kernel-reduced : (r : Written) → KernelRight ws before after r ↔ KernelRight (reduced ws) before after r
@@ -100,8 +96,8 @@ module _ (ws before after : List ℕ) where
   -- Solve refuses no question with 5, and kernel no kernel sheet.
   pub solve-never-5 : SolveRight ws before after (written.Refused 5) → ⊥
   solve-never-5 h =
-      let no = no-by (solve-asks (questionForm ws) ws (length before)) 5 tt h.0 in
-      no.1 (five-always (questionForm ws) (form-modulo ws) ws (prime-pos no.0.1.1.0.prime))
+      let no = no-by (solve-asks ws (length before)) 5 tt h.0 in
+      no.1 (five-always Question question-modulo ws (prime-pos no.0.1.1.0.prime))
 
   pub kernel-never-5 : KernelRight ws before after (written.Refused 5) → ⊥
   kernel-never-5 h =

@@ -1,12 +1,12 @@
 -- Whether a row of the table holds, by computing: `test` is a boolean that the checker computes, and a row that passes it holds.
 -- Assumes nothing.
-use Rattle.std.specs.Prelude.{◌≡◌, refl, Bool, true, false, cond, not, List, [], ◌∷◌, ◌++◌, ℕ, suc, ◌+◌, ◌-◌, ◌*◌, ◌%◌, ◌^◌, ◌<◌, ◌≤◌, T, eqb, leb, ltb, length, get_or, drop}
+use Rattle.std.specs.Prelude.{◌≡◌, refl, Bool, true, false, not, List, [], ◌∷◌, ◌++◌, ℕ, suc, ◌+◌, ◌-◌, ◌*◌, ◌%◌, ◌^◌, ◌<◌, ◌≤◌, T, eqb, leb, ltb, length, get_or, drop}
 use Rattle.std.proofs.Common.{sym, ◌∙◌, ap, ap₂, subst, inl, inr, arith, eq-eqb, lt-ltb, le-leb, eqb→eq, leb→le, ltb→lt}
 use Rattle.std.proofs.lemmas.Bool.{eqb-false}
 use Rattle.ring.specs.Test.{both, both_left, both_right}
 use Rattle.series.specs.Series.{Seq}
 use Rattle.zmod.specs.Zmod.{Elt, Zmod, mk, mk-eq}
-use Rattle.zmod.specs.Prime.{Prime, prime-pos}
+use Rattle.zmod.specs.Prime.{prime-pos}
 use Rattle.zmod.specs.Calculation.{primeTest, prime-yes}
 use Rattle.zmod.specs.Residues.{poly, poly-at}
 use Rattle.roots.specs.Computed.{found, roots-computed}
@@ -15,12 +15,10 @@ use Rattle.isogeny.specs.Rules as Rules
 use Rattle.isogeny.specs.Rules.{N, R1, R3, Meets}
 use Rattle.isogeny.specs.Theorems.{unique}
 use Rattle.composition.specs.Composite.{composite-g}
-use Rattle.sheet.specs.declared.Form.{Form}
-use Rattle.sheet.specs.declared.Form.TheVariants.{Certificate, Kernel}
+use Rattle.sheet.specs.declared.Form.TheVariants.{Question, Certificate, Kernel}
 use Rattle.sheet.specs.declared.Values.{Values}
-use Rattle.sheet.specs.Form.{header, holds, certificateWords, questionForm}
+use Rattle.sheet.specs.Form.{certificateWords}
 use Rattle.sheet.specs.Values.{gOf, n_of, abscissasOf, valuesOf, question, half}
-use Rattle.sheet.specs.Table.{every as every-below, at as at-below}
 use Rattle.sheet.specs.Ready.{Ready, half-least, degree-half}
 use Rattle.sheet.specs.Asked.{asked}
 use Rattle.certificate.specs.Certificate.{certificate}
@@ -32,12 +30,11 @@ use Rattle.promises.specs.declared.Point.TheVariants as point
 use Rattle.promises.specs.declared.Image.{Image}
 use Rattle.promises.specs.declared.Image.TheVariants as image
 use Rattle.promises.specs.Abscissas.{rational-abscissas}
-use Rattle.promises.specs.Asked.{prime, put, g, n, Room, check-asks, push-asks, name-asks, last-ask, Passing, Leading, Given}
-use Rattle.promises.specs.Asked.{SumAdmitted, Answerable, ComposableValues, ProductAllowed, join-asks}
+use Rattle.promises.specs.Asked.{prime, put, g, n, Room, check-asks, push-asks, name-asks, Solvable, last-ask, Passing, Leading, Given}
+use Rattle.promises.specs.Asked.{ComposableValues, ProductAllowed, join-asks}
 use Rattle.promises.specs.Composed.{composed-ready, composed-meets}
 use Rattle.promises.specs.Certificates.{certificate-ready, certificate-meets}
-use Rattle.promises.specs.With.{with, with-sum}
-use Rattle.promises.specs.Answer.{SolveRight, KernelRight, ComposeRight, PushRight, CertificateIn, composed}
+use Rattle.promises.specs.Answer.{SolveRight, KernelRight, ComposeRight, PushRight, CertificateIn, with, composed}
 use Rattle.marked.specs.Tests.{one, one_of, every, Every, every-yes, same-list, same-list-yes, below, below-yes}
 use Rattle.marked.specs.Rules.{
   numerator,
@@ -75,7 +72,7 @@ use Rattle.marked.specs.Sheets.{
   no-by-computing,
 }
 use Rattle.marked.specs.NoCodomain.{candidate, no-codomain}
-use Rattle.marked.specs.Row.{Row, Printed, Claim, Listed, kernel-words, printed-words, count, filled}
+use Rattle.marked.specs.Row.{Row, Printed, Claim, Listed, question-words, kernel-words, printed-words, count, filled}
 use Rattle.marked.specs.Row.Row.{solves, unsolved, pushes, kernel, no-kernel, composes, no-composite, refused, refused-though, unnamed, parts}
 
 -- ── the count of rational abscissas, by trying each u
@@ -110,81 +107,61 @@ module _ (read : Values) (g n : List ℕ) (v : Values) (g₀ : List ℕ) (c : �
 
 -- ── solve
 
-module _ (ws : List ℕ) where
-  abbrev form : Form
-  form = questionForm ws
+module _ (asked-values : Values) where
+  abbrev ws : List ℕ
+  ws = question-words asked-values
 
   abbrev read : Values
-  read = valuesOf form ws
+  read = valuesOf Question ws
 
-  abbrev eleven : Questions
-  eleven = (11, Answerable form read) ∷ []
+  abbrev solve-test : Values → List ℕ → List ℕ → ℕ → Bool
+  solve-test v g n c = both (asked-test Question ws) (every (fill-tests read g n v g c))
 
-  -- a σ that the sheet admits
-  abbrev sum-test : ℕ → Bool
-  sum-test σ = both (ltb σ read.p) (cond (holds 7 (header form)) (eqb σ read.sigma) true)
-
-  sum-by-computing : (σ : ℕ) → T (sum-test σ) → SumAdmitted form read σ
-  sum-by-computing σ t = record {
-    below = ltb→lt σ read.p (both_left (ltb σ read.p) _ t);
-    own = λ e. eqb→eq σ read.sigma (subst (λ b. T (cond b (eqb σ read.sigma) true)) e (both_right (ltb σ read.p) _ t));
-  }
-
-  -- the row's σ is that of its values
-  abbrev solve-tests : Values → List ℕ → List ℕ → ℕ → List Bool
-  solve-tests v g n c = asked-test form ws ∷ sum-test v.sigma ∷ every (fill-tests (with-sum read v.sigma) g n v g c) ∷ []
-
-  solve-by-computing : (v : Values) (g n : List ℕ) (c : ℕ) → Every (solve-tests v g n c) → (before : List ℕ) → Room (length before)
+  solve-by-computing : (v : Values) (g n : List ℕ) (c : ℕ) → T (solve-test v g n c) → (before : List ℕ) → Room (length before)
       → SolveRight ws before (filled v g n c before) (written.Count (count v))
   solve-by-computing v g n c t before room =
-      let pos : 0 < read.p = prime-pos (prime-by-computing form ws (t 0)) in
-      let w : Values = with-sum read v.sigma in
-      let fill : CertificateIn (with-sum read v.sigma) before (filled v g n c before) (count v) =
-      fill-by-computing w g n v g c pos (every-yes (fill-tests w g n v g c) (t 2)) before in
-      let sum = sum-by-computing v.sigma (t 1) in (
+      let a : Bool = asked-test Question ws in
+      let ta : T (asked-test Question ws) = both_left a _ t in
+      let pos : 0 < read.p = prime-pos (prime-by-computing Question ws ta) in
+      let fill : CertificateIn read before (filled v g n c before) (count v) = fill-by-computing read g n v g c pos
+      (every-yes (fill-tests read g n v g c) (both_right a _ t)) before in (
         (
           room,
-          all-all (asked form ws) eleven (asked-by-computing form ws (t 0))
-              (record { σ = v.sigma; sum = sum; solvable = record { g = poly read.p fill.g; meets = fill.meets } }, tt),
+          all-all (asked Question ws) ((11, Solvable read) ∷ []) (asked-by-computing Question ws ta)
+              (record { g = poly read.p fill.g; meets = fill.meets }, tt),
         ),
-        record { σ = v.sigma; sum = sum; certificate = fill },
+        fill,
       )
 
-  -- 11: the sheet's own σ has no g, or, where it has none, no σ below p
-  abbrev none-of-test : Bool → Bool
-  none-of-test true = none-test read
-  none-of-test false = every-below (λ σ. none-test (with-sum read σ)) read.p
+  abbrev none-meets-test : ℕ → Bool
+  none-meets-test k = both (asked-test Question ws) (both (none-test read) (eqb k 11))
 
-  none_of : (t : Bool) → holds 7 (header form) ≡ t → Prime read.p → 2 < read.p → T (none-of-test t) → Answerable form read → ⊥
-  none_of true e P odd t s =
-      none-by-computing read P odd t s.solvable.g
-      (subst (λ σ. Meets (Zmod read.p) (question (with-sum read σ)) s.solvable.g) (s.sum.own e) s.solvable.meets)
-  none_of false e P odd t s =
-      none-by-computing (with-sum read s.σ) P odd (at-below (λ σ. none-test (with-sum read σ)) read.p t s.σ s.sum.below) s.solvable.g
-      s.solvable.meets
-
-  abbrev none-tests : ℕ → List Bool
-  none-tests k = asked-test form ws ∷ none-of-test (holds 7 (header form)) ∷ eqb k 11 ∷ []
-
-  none-meets : (k : ℕ) → Every (none-tests k) → (before : List ℕ) → Room (length before) → SolveRight ws before before (written.Refused k)
+  none-meets : (k : ℕ) → T (none-meets-test k) → (before : List ℕ) → Room (length before)
+      → SolveRight ws before before (written.Refused k)
   none-meets k t before room =
-      let small : 11 ≤ read.p = least-by-computing form ws (t 0) in (
+      let a : Bool = asked-test Question ws in
+      let ta : T (asked-test Question ws) = both_left a _ t in
+      let rest : T (both (none-test read) (eqb k 11)) = both_right a _ t in
+      let small : 11 ≤ read.p = least-by-computing Question ws ta in (
         inr (
           room,
-          no-after (asked form ws) eleven k (asked-by-computing form ws (t 0))
-              (inl (eqb→eq k 11 (t 2), none_of (holds 7 (header form)) refl (prime-by-computing form ws (t 0)) (omega arith) (t 1))),
+          no-after (asked Question ws) ((11, Solvable read) ∷ []) k (asked-by-computing Question ws ta)
+              (inl (
+                eqb→eq k 11 (both_right (none-test read) (eqb k 11) rest),
+                λ s. none-by-computing read (prime-by-computing Question ws ta) (omega arith) (both_left (none-test read) (eqb k 11) rest) s.g s.meets,
+              )),
         ),
         refl,
       )
 
   abbrev unsolved-test : ℕ → Bool
-  unsolved-test k = one (no_test form ws k) (every (none-tests k))
+  unsolved-test k = one (no_test Question ws k) (none-meets-test k)
 
   unsolved-by-computing : (k : ℕ) → T (unsolved-test k) → (before : List ℕ) → Room (length before) → SolveRight ws before before (written.Refused k)
   unsolved-by-computing k t before room =
-      one_of (no_test form ws k) (every (none-tests k))
-      (λ t. (inr (room, no-before (asked form ws) eleven k (no-by-computing form ws k t)), refl))
-      (λ t. none-meets k (every-yes (none-tests k) t) before room) t
+      one_of (no_test Question ws k) (none-meets-test k)
+      (λ t. (inr (room, no-before (asked Question ws) ((11, Solvable read) ∷ []) k (no-by-computing Question ws k t)), refl))
+      (λ t. none-meets k t before room) t
 
 -- ── check and push
 
@@ -573,8 +550,8 @@ unnamed-by-computing p a b k t =
     )
 
 abbrev pub test : Row → Bool
-test (solves ws v g n c) = every (solve-tests ws v g n c)
-test (unsolved ws k) = unsolved-test ws k
+test (solves q v g n c) = solve-test q v g n c
+test (unsolved v k) = unsolved-test v k
 test (pushes v g n c from to) = every (push-tests (certificate v g n c) from to)
 test (kernel q h v g n c) = every (codomain-tests q h v g n c)
 test (no-kernel v g k) = every (no-kernel-tests v g k)
@@ -587,8 +564,8 @@ test (parts v g l m n) = every (part-tests v g l m n)
 
 pub row-holds : (r : Row) → T (test r) → Claim r
 unfolding Claim
-row-holds (solves ws v g n c) t = solve-by-computing ws v g n c (every-yes (solve-tests ws v g n c) t)
-row-holds (unsolved ws k) t = unsolved-by-computing ws k t
+row-holds (solves q v g n c) t = solve-by-computing q v g n c t
+row-holds (unsolved v k) t = unsolved-by-computing v k t
 row-holds (pushes v g n c from to) t = push-by-computing (certificate v g n c) from to (every-yes (push-tests (certificate v g n c) from to) t)
 row-holds (kernel q h v g n c) t = kernel-by-computing q h v g n c (every-yes (codomain-tests q h v g n c) t)
 row-holds (no-kernel v g k) t = no-kernel-by-computing v g k (every-yes (no-kernel-tests v g k) t)

@@ -1,7 +1,7 @@
 -- A table of document 01's marked sheets, and of document 02's cases: a row is a sheet, by the numbers that the document lists, with what it says of it;
 -- `Claim` states the row in terms of what the services have to answer, or of R2's terms.
 -- Assumes nothing.
-use Rattle.std.specs.Prelude.{List, [], ◌∷◌, ◌++◌, map, ◌≡◌, ℕ, ◌+◌, ◌*◌, length, take, drop}
+use Rattle.std.specs.Prelude.{List, [], ◌∷◌, ◌++◌, map, ◌≡◌, ℕ, ◌+◌, ◌*◌, length, drop}
 use Rattle.zmod.specs.Zmod.{Zmod}
 use Rattle.series.specs.Series.{Seq}
 use Rattle.zmod.specs.Residues.{poly}
@@ -34,10 +34,10 @@ pub record Printed : Type 0 where
   pub abscissas : ℕ
 
 pub data Row : Type 0 where
-  -- solve answers the question of these words with the certificate of the values, g, N and the count of rational abscissas
-  solves : List ℕ → Values → List ℕ → List ℕ → ℕ → Row
-  -- solve refuses the question of these words with a number
-  unsolved : List ℕ → ℕ → Row
+  -- solve answers the question of the first values with the certificate of the second, g, N and the count of rational abscissas
+  solves : Values → Values → List ℕ → List ℕ → ℕ → Row
+  -- solve refuses the question with a number
+  unsolved : Values → ℕ → Row
   -- through the certificate of g, N and the count, a point goes to a point
   pushes : Values → List ℕ → List ℕ → ℕ → Point → Image → Row
   -- kernel answers the sheet of the first p, A, B, ℓ and g with the certificate of the second values, g, N and the count
@@ -59,13 +59,9 @@ pub data Row : Type 0 where
 
 -- ── the words
 
--- a question, with its σ and without
 abbrev pub question-words : Values → List ℕ
 question-words v =
     word 1 v.p ∷ word 2 v.a ∷ word 3 v.b ∷ word 4 v.atilde ∷ word 5 v.btilde ∷ word 6 v.degree ∷ word 7 v.sigma ∷ word 15 0 ∷ []
-
-abbrev pub without-sum-words : Values → List ℕ
-without-sum-words v = take 6 (question-words v) ++ word 15 0 ∷ []
 
 abbrev pub kernel-words : Values → List ℕ → List ℕ
 kernel-words v g = word 1 v.p ∷ word 2 v.a ∷ word 3 v.b ∷ word 6 v.degree ∷ map (word 8) g ++ word 15 0 ∷ []
@@ -87,9 +83,9 @@ abbrev pub Listed : (v : Values) → Seq (Zmod v.p) → List ℕ → Type 0
 Listed v a xs = (length xs ≡ 2 * half v + 2) × Whole v.p a xs
 
 unfoldable pub Claim : Row → Type 0
-Claim (solves ws v g n c) =
-    (before : List ℕ) → Room (length before) → SolveRight ws before (filled v g n c before) (written.Count (count v))
-Claim (unsolved ws k) = (before : List ℕ) → Room (length before) → SolveRight ws before before (written.Refused k)
+Claim (solves q v g n c) =
+    (before : List ℕ) → Room (length before) → SolveRight (question-words q) before (filled v g n c before) (written.Count (count v))
+Claim (unsolved v k) = (before : List ℕ) → Room (length before) → SolveRight (question-words v) before before (written.Refused k)
 Claim (pushes v g n c from to) = PushRight (certificate v g n c) from to
 Claim (kernel q h v g n c) =
     (before : List ℕ) → Room (length before) → KernelRight (kernel-words q h) before (filled v g n c before) (written.Count (count v))

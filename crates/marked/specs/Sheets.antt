@@ -1,5 +1,5 @@
--- Questions 2 to 7 and 17 put to a sheet of any form, by computing: all are answered with yes, or the first no is 17, or 5 or 6 because of a value, or 7
--- because of the domain.
+-- Questions 2 to 7 put to a sheet of any form, by computing: all are answered with yes, or the first no is 5 or 6 because of
+-- a value, or 7 because of the domain.
 -- Assumes nothing.
 use Rattle.std.specs.Prelude.{◌≡◌, refl, Bool, true, false, cond, not, List, [], ◌∷◌, map, ℕ, zero, suc, ◌+◌, ◌*◌, ◌-◌, ◌%◌, ◌^◌, ◌<◌, ◌≤◌, T, eqb, leb, ltb, length, get_or, take, drop}
 use Rattle.std.proofs.Common.{sym, ◌∙◌, ap, subst, arith, ltb-true, lt-ltb, eqb→eq, leb→le, ltb→lt, length-drop, get_or-drop}
@@ -9,7 +9,6 @@ use Rattle.ring.specs.Test.{both, both_left, both_right}
 use Rattle.zmod.specs.Prime.{Prime, prime-pos}
 use Rattle.zmod.specs.Calculation.{primeTest, prime-yes}
 use Rattle.sheet.specs.declared.Form.{Form}
-use Rattle.sheet.specs.declared.Form.TheVariants.{Question, Certificate, Kernel, WithoutSum}
 use Rattle.sheet.specs.Word.{kind_of, value_of}
 use Rattle.sheet.specs.declared.Values.{Values}
 use Rattle.sheet.specs.Form.{header, body, holds}
@@ -17,7 +16,7 @@ use Rattle.sheet.specs.Values.{valuesOf, half, coefficientIn}
 use Rattle.sheet.specs.Reduction.{value-zero}
 use Rattle.questions.specs.Questions.{AllYes, FirstNo}
 use Rattle.questions.specs.Numbered.{first-no}
-use Rattle.sheet.specs.Asked.{asked, Asked2, PrimeAllowed, DegreeAllowed, Asked17, ValuesBelow, Asked6, Curves}
+use Rattle.sheet.specs.Asked.{asked, Asked2, PrimeAllowed, DegreeAllowed, ValuesBelow, Asked6, Curves}
 use Rattle.marked.specs.Tests.{one, one_of, every, Every, every-yes, same-list, same-list-yes, below, below-yes, below-no}
 use Rattle.marked.specs.Rules.{nonsingular-test, nonsingular-by-computing, singular-test, singular-by-computing}
 
@@ -33,25 +32,6 @@ curves-yes form v pos t = record {
       both_right (nonsingular-test v.p v.a v.b) _ t in
       nonsingular-by-computing pos _ _ (subst (λ b. T (cond b (nonsingular-test v.p v.atilde v.btilde) true)) e u);
 }
-
--- 17
-abbrev large : Form → Values → Bool
-large Question v = true
-large Certificate v = true
-large Kernel v = true
-large WithoutSum v = ltb (8 * v.degree - 5) v.p
-
-large-yes : (form : Form) (v : Values) → T (large form v) → Asked17 form v
-large-yes Question v t = tt
-large-yes Certificate v t = tt
-large-yes Kernel v t = tt
-large-yes WithoutSum v t = ltb→lt (8 * v.degree - 5) v.p t
-
-large-no : (form : Form) (v : Values) → T (not (large form v)) → Asked17 form v → ⊥
-large-no Question v t h = t
-large-no Certificate v t h = t
-large-no Kernel v t h = t
-large-no WithoutSum v t h = subst (λ b. T (not b)) (lt-ltb (8 * v.degree - 5) v.p h) t
 
 module _ (form : Form) (ws : List ℕ) where
   abbrev v : Values
@@ -86,12 +66,11 @@ module _ (form : Form) (ws : List ℕ) where
       ∷ primeTest p ∷ leb 11 p ∷ ltb p (2 ^ 28)
       ∷ eqb (ℓ % 2) 1 ∷ leb 3 ℓ ∷ leb ℓ 255 ∷ ltb (2 * ℓ - 1) p ∷ []
 
-  -- 17, 5 and 6
+  -- 5 and 6
   abbrev second-tests : List Bool
   second-tests =
       below p values
-      ∷ same-list (map kind_of rest) (body form (half v)) ∷ below p read ∷ eqb (value_of (get_or ws (length ws - 1) 0)) 0
-      ∷ large form v ∷ []
+      ∷ same-list (map kind_of rest) (body form (half v)) ∷ below p read ∷ eqb (value_of (get_or ws (length ws - 1) 0)) 0 ∷ []
 
   -- and 7
   abbrev tests : List Bool
@@ -159,25 +138,16 @@ module _ (form : Form) (ws : List ℕ) where
       let first : T (every first-tests) = first-yes t in
       let pos : 0 < p = positive (first-yes t) in
       let s : Every second-tests = every-yes second-tests (every-yes tests t 1) in
-      let curves = curves-yes form v pos (every-yes tests t 2) in
-      (two first, (three first, (four first, (large-yes form v (s 4), (five-yes pos (s 0), (six-yes pos s, (curves, tt)))))))
-
-  -- ── refused with 17
-
-  abbrev seventeenth-tests : List Bool
-  seventeenth-tests = every first-tests ∷ not (large form v) ∷ []
-
-  seventeenth-by-computing : Every seventeenth-tests → FirstNo (asked form ws) 17
-  seventeenth-by-computing t = first-no (asked form ws) 17 tt (two (t 0), (three (t 0), (four (t 0), tt))) (large-no form v (t 1))
+      (two first, (three first, (four first, (five-yes pos (s 0), (six-yes pos s, (curves-yes form v pos (every-yes tests t 2), tt))))))
 
   -- ── refused with 5, or with 6 for a coefficient: some value is not below p
 
   abbrev fifth-tests : List Bool
-  fifth-tests = every first-tests ∷ large form v ∷ not (below p values) ∷ []
+  fifth-tests = every first-tests ∷ not (below p values) ∷ []
 
   fifth-by-computing : Every fifth-tests → FirstNo (asked form ws) 5
   fifth-by-computing t =
-      first-no (asked form ws) 5 tt (two (t 0), (three (t 0), (four (t 0), (large-yes form v (t 1), tt)))) (λ b. below-no p values (t 2) (λ i l. at b i))
+      first-no (asked form ws) 5 tt (two (t 0), (three (t 0), (four (t 0), tt))) (λ b. below-no p values (t 1) (λ i l. at b i))
     where
       at : ValuesBelow v → (i : ℕ) → get_or values i 0 < p
       at b zero = b.a
@@ -188,13 +158,13 @@ module _ (form : Form) (ws : List ℕ) where
       at b (suc (suc (suc (suc (suc i))))) = positive (t 0)
 
   abbrev sixth-tests : List Bool
-  sixth-tests = every first-tests ∷ large form v ∷ below p values ∷ not (below p read) ∷ []
+  sixth-tests = every first-tests ∷ below p values ∷ not (below p read) ∷ []
 
   sixth-by-computing : Every sixth-tests → FirstNo (asked form ws) 6
   sixth-by-computing t =
       let pos : 0 < p = positive (t 0) in
-      first-no (asked form ws) 6 tt (two (t 0), (three (t 0), (four (t 0), (large-yes form v (t 1), (five-yes pos (t 2), tt))))) (λ a.
-      below-no p read (t 3) (λ i l. subst (λ x. x < p) (sym (read_at i))
+      first-no (asked form ws) 6 tt (two (t 0), (three (t 0), (four (t 0), (five-yes pos (t 1), tt)))) (λ a.
+      below-no p read (t 2) (λ i l. subst (λ x. x < p) (sym (read_at i))
       (at a (h + i) (omega arith) (omega (arith, l, length-map rest read_word, length-drop h ws)) (ltb (kind_of (get_or ws (h + i) 0)) 10) refl)))
     where
       at : Asked6 form ws → (i : ℕ) → h ≤ i → i < length ws → (b : Bool) → ltb (kind_of (get_or ws i 0)) 10 ≡ b
@@ -211,7 +181,7 @@ module _ (form : Form) (ws : List ℕ) where
   seventh-by-computing t =
       let pos : 0 < p = positive (t 0) in
       let s : Every second-tests = every-yes second-tests (t 1) in
-      first-no (asked form ws) 7 tt (two (t 0), (three (t 0), (four (t 0), (large-yes form v (s 4), (five-yes pos (s 0), (six-yes pos s, tt))))))
+      first-no (asked form ws) 7 tt (two (t 0), (three (t 0), (four (t 0), (five-yes pos (s 0), (six-yes pos s, tt)))))
       (λ curves. singular-by-computing pos v.a v.b (t 2) curves.domain)
 
   -- ── refused with k, for one of these reasons
@@ -226,14 +196,10 @@ module _ (form : Form) (ws : List ℕ) where
       (says (every-yes tests (both_right (eqb k number) (every tests) t)))
 
   abbrev pub no_test : ℕ → Bool
-  no_test k =
-      one (with_number k 17 seventeenth-tests)
-      (one (with_number k 5 fifth-tests) (one (with_number k 6 sixth-tests) (with_number k 7 seventh-tests)))
+  no_test k = one (with_number k 5 fifth-tests) (one (with_number k 6 sixth-tests) (with_number k 7 seventh-tests))
 
   pub no-by-computing : (k : ℕ) → T (no_test k) → FirstNo (asked form ws) k
   no-by-computing k =
-      let last : Bool = one (with_number k 6 sixth-tests) (with_number k 7 seventh-tests) in
-      one_of (with_number k 17 seventeenth-tests) (one (with_number k 5 fifth-tests) last) (refused-with k 17 seventeenth-tests seventeenth-by-computing)
-      (one_of (with_number k 5 fifth-tests) last (refused-with k 5 fifth-tests fifth-by-computing)
+      one_of (with_number k 5 fifth-tests) (one (with_number k 6 sixth-tests) (with_number k 7 seventh-tests)) (refused-with k 5 fifth-tests fifth-by-computing)
       (one_of (with_number k 6 sixth-tests) (with_number k 7 seventh-tests) (refused-with k 6 sixth-tests sixth-by-computing)
-      (refused-with k 7 seventh-tests seventh-by-computing)))
+      (refused-with k 7 seventh-tests seventh-by-computing))

@@ -1,5 +1,5 @@
--- Document 01's marked sheets (◆ there) and document 02's cases of E1, E2, E5, E6 and E9 as one table, with neighbours that neither document has, and the
--- one theorem that covers it: every row holds, from the rules, by computing.
+-- Document 01's marked sheets (◆ there) and document 02's cases of E1, E2, E5 and E6 as one table, with neighbours that neither document has, and the one
+-- theorem that covers it: every row holds, from the rules, by computing.
 -- Assumes nothing.
 use Rattle.std.specs.Prelude.{Bool, true, List, [], ◌∷◌, ℕ, T}
 use Rattle.ring.specs.Test.{both, both_left, both_right}
@@ -7,7 +7,7 @@ use Rattle.sheet.specs.declared.Values.{Values}
 use Rattle.promises.specs.declared.Point.TheVariants as point
 use Rattle.promises.specs.declared.Image.TheVariants as image
 use Rattle.marked.specs.Rules.{numerator}
-use Rattle.marked.specs.Row.{Row, Q, Printed, Claim, question-words, without-sum-words}
+use Rattle.marked.specs.Row.{Row, Q, Printed, Claim}
 use Rattle.marked.specs.Row.Row.{solves, unsolved, pushes, kernel, no-kernel, composes, no-composite, refused, refused-though, unnamed, parts}
 use Rattle.marked.specs.Holds.{test, row-holds}
 
@@ -62,10 +62,6 @@ x² = 0 ∷ 0 ∷ 1 ∷ []
 abbrev x³+4 : List ℕ
 x³+4 = 4 ∷ 0 ∷ 0 ∷ 1 ∷ []
 
--- the same map over 19
-abbrev nineteen : Values
-nineteen = Q 19 0 1 0 11 3 0
-
 -- E1's certificates: the first marked one, the step behind it with g = x + 69 and R2's N = x³ + 138x² + 560x + 394, and the one of degree 9
 abbrev first_step : Printed
 first_step = record { values = first; g = first-g; n = first-n; abscissas = 1 }
@@ -88,14 +84,14 @@ on-29 = record { values = Q 29 0 6 0 12 3 0; g = x; n = 24 ∷ 0 ∷ 0 ∷ 1 ∷
 
 unfoldable pub rows : List Row
 rows =
-    solves (question-words first) first first-g first-n 1
+    solves first first first-g first-n 1
     -- another σ, then another B̃: 11 each
-    ∷ unsolved (question-words (Q 1009 1 3 265 877 3 48)) 11
-    ∷ unsolved (question-words (Q 1009 1 3 265 878 3 46)) 11
-    ∷ solves (question-words ninth) ninth ninth-g (numerator ninth ninth-g) 1
+    ∷ unsolved (Q 1009 1 3 265 877 3 48) 11
+    ∷ unsolved (Q 1009 1 3 265 878 3 46) 11
+    ∷ solves ninth ninth ninth-g (numerator ninth ninth-g) 1
     -- a point through the first certificate
     ∷ pushes first first-g first-n 1 (point.Affine 1008 1) (image.Affine 617 44)
-    ∷ solves (question-words eleven) eleven x x³+4 1
+    ∷ solves eleven eleven x x³+4 1
     -- two points through the last certificate, the second where g is 0
     ∷ pushes eleven x x³+4 1 (point.Affine 2 3) (image.Affine 3 0)
     ∷ pushes eleven x x³+4 1 (point.Affine 0 1) image.Infinity
@@ -108,9 +104,9 @@ rows =
     -- g = x with R2's N, to a wrong codomain
     ∷ refused (Q 11 0 1 0 7 3 0) x x³+4 1 10
     -- document 02, E2: A = p is read as A = 0; all values are taken modulo p, A = 2^28 − 1 among them; 7 is asked of what they become
-    ∷ solves (question-words (Q 11 11 1 0 6 3 0)) eleven x x³+4 1
-    ∷ solves (question-words (Q 29 268435455 30 29 31 3 58)) (Q 29 0 1 0 2 3 0) x x³+4 1
-    ∷ unsolved (question-words (Q 11 11 22 0 6 3 0)) 7
+    ∷ solves (Q 11 11 1 0 6 3 0) eleven x x³+4 1
+    ∷ solves (Q 29 268435455 30 29 31 3 58) (Q 29 0 1 0 2 3 0) x x³+4 1
+    ∷ unsolved (Q 11 11 22 0 6 3 0) 7
     -- every value of a kernel sheet, a leading coefficient p + 1 among them
     ∷ kernel (Q 11 11 12 0 0 3 0) (268435453 ∷ 12 ∷ []) eleven x x³+4 1
     -- a certificate needs values below p, in the header and after it, and so does name
@@ -118,7 +114,7 @@ rows =
     ∷ refused eleven (11 ∷ 1 ∷ []) x³+4 1 6
     ∷ unnamed 11 11 1 5
     -- E6: a kernel with no rational abscissa
-    ∷ solves (question-words none) none none-g (numerator none none-g) 0
+    ∷ solves none none none-g (numerator none none-g) 0
     -- a count that is wrong by one, by p, d in its place, or the largest value of a word; 9 also where R3 fails beside it
     ∷ refused first first-g first-n 0 9
     ∷ refused first first-g first-n 2 9
@@ -136,17 +132,6 @@ rows =
     ∷ no-composite on-11 on-11 13
     ∷ no-composite on-11 on-29 13
     ∷ no-composite on-11 behind-11 14
-    -- E9: the first and the one of degree 9 without their σ, and one whose values are taken modulo p; with another B̃ no σ has a g
-    ∷ solves (without-sum-words first) first first-g first-n 1
-    ∷ solves (without-sum-words ninth) ninth ninth-g (numerator ninth ninth-g) 1
-    ∷ solves (without-sum-words (Q 29 268435455 30 29 31 3 0)) (Q 29 0 1 0 2 3 0) x x³+4 1
-    ∷ unsolved (without-sum-words (Q 1009 1 3 265 878 3 0)) 11
-    -- nor has one from a curve to itself: all h are 0, and no denominator has degree 2
-    ∷ unsolved (without-sum-words (Q 1009 1 3 1 3 3 0)) 11
-    -- p is too small for ℓ = 3: 11, and 19, which is 8ℓ − 5; with its σ the question over 19 has an answer too
-    ∷ unsolved (without-sum-words eleven) 17
-    ∷ unsolved (without-sum-words nineteen) 17
-    ∷ solves (question-words nineteen) nineteen x x³+4 1
     -- E5: the parts of the first one's N
     ∷ parts first first-g part₁ part₂ part₃
     ∷ []

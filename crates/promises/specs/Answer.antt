@@ -8,10 +8,9 @@ use Rattle.isogeny.specs.Rules as Rules
 use Rattle.isogeny.specs.Rules.{N, Meets, g-at}
 use Rattle.composition.specs.Composite.{composite-g}
 use Rattle.questions.specs.Answers.{Answers, Writes}
-use Rattle.sheet.specs.declared.Form.{Form}
-use Rattle.sheet.specs.declared.Form.TheVariants.{Certificate, Kernel}
+use Rattle.sheet.specs.declared.Form.TheVariants.{Question, Certificate, Kernel}
 use Rattle.sheet.specs.declared.Values.{Values}
-use Rattle.sheet.specs.Form.{certificateWords, questionForm}
+use Rattle.sheet.specs.Form.{certificateWords}
 use Rattle.sheet.specs.Values.{valuesOf, half, question, gOf, n_of}
 use Rattle.sheet.specs.Ready.{HoldsG, HoldsN}
 use Rattle.certificate.specs.Certificate.{certificate}
@@ -23,8 +22,7 @@ use Rattle.promises.specs.declared.Point.TheVariants.{Affine, Infinity}
 use Rattle.promises.specs.declared.Image.{Image}
 use Rattle.promises.specs.declared.Named.{Named}
 use Rattle.promises.specs.Outcome.{verdictOutcome, writtenOutcome, imageOutcome, namedOutcome}
-use Rattle.promises.specs.With.{with, with-sum}
-use Rattle.promises.specs.Asked.{SumAdmitted, check-asks, solve-asks, kernel-asks, compose-asks, push-asks, name-asks}
+use Rattle.promises.specs.Asked.{check-asks, solve-asks, kernel-asks, compose-asks, push-asks, name-asks}
 
 -- ── check: nothing is told of a certificate but that it passes
 
@@ -44,23 +42,25 @@ pub record CertificateIn (v : Values) (before after : List ℕ) (count : ℕ) : 
   pub count-is : count ≡ certificateWords (half v)
   pub words : after ≡ certificate v g n (rational-abscissas v g) ++ drop count before
 
--- ── solve: the certificate for the question's values, with a σ that the sheet admits
+-- ── solve: the certificate for the question's values
 
-pub record SolveIn (form : Form) (v : Values) (before after : List ℕ) (count : ℕ) : Type 0 where
-  pub σ : ℕ
-  pub sum : SumAdmitted form v σ
-  pub certificate : CertificateIn (with-sum v σ) before after count
-
--- of a sheet that is read in a form
-abbrev pub SolveAs : Form → List ℕ → List ℕ → List ℕ → Written → Type 0
-SolveAs form ws before after r =
-    Writes (solve-asks form ws (length before)) (λ count after. SolveIn form (valuesOf form ws) before after count) before after (writtenOutcome r)
-
--- which is told by its seventh word
 abbrev pub SolveRight : List ℕ → List ℕ → List ℕ → Written → Type 0
-SolveRight ws = SolveAs (questionForm ws) ws
+SolveRight ws before after r =
+    Writes (solve-asks ws (length before)) (λ count after. CertificateIn (valuesOf Question ws) before after count) before after (writtenOutcome r)
 
 -- ── kernel: the certificate of the sheet's g, with a codomain and the σ of R1
+
+-- the values with a codomain and a σ
+abbrev pub with : Values → ℕ → ℕ → ℕ → Values
+with v ã b̃ σ = record {
+  p = v.p;
+  a = v.a;
+  b = v.b;
+  atilde = ã;
+  btilde = b̃;
+  degree = v.degree;
+  sigma = σ;
+}
 
 pub record KernelIn (v : Values) (g before after : List ℕ) (count : ℕ) : Type 0 where
   pub ã : ℕ

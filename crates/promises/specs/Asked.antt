@@ -1,7 +1,7 @@
--- The questions that each service puts, in the order of documents 01 and 02: 2 to 7 and 17 are those of the sheet's form, and 1 and 8 to 14 are here, each
--- asked of values and coefficients; a sheet is asked by what it says.
+-- The questions that each service puts, in the order of documents 01 and 02: 2 to 7 are those of the sheet's form, and 1 and 8 to 14 are here, each asked of
+-- values and coefficients; a sheet is asked by what it says.
 -- Assumes nothing.
-use Rattle.std.specs.Prelude.{◌≡◌, true, List, [], ◌∷◌, ◌++◌, ℕ, ◌*◌, ◌-◌, ◌<◌, ◌≤◌}
+use Rattle.std.specs.Prelude.{◌≡◌, List, [], ◌∷◌, ◌++◌, ℕ, ◌*◌, ◌-◌, ◌<◌, ◌≤◌}
 use Rattle.zmod.specs.Zmod.{Elt, Zmod, mk}
 use Rattle.zmod.specs.Residues.{poly}
 use Rattle.series.specs.Series.{Seq}
@@ -11,12 +11,11 @@ use Rattle.isogeny.specs.Rules as Rules
 use Rattle.isogeny.specs.Rules.{N, R1, R3, Meets}
 use Rattle.questions.specs.Questions.{Questions}
 use Rattle.sheet.specs.declared.Form.{Form}
-use Rattle.sheet.specs.declared.Form.TheVariants.{Certificate, Kernel}
+use Rattle.sheet.specs.declared.Form.TheVariants.{Question, Certificate, Kernel}
 use Rattle.sheet.specs.declared.Values.{Values}
-use Rattle.sheet.specs.Form.{header, holds, mostWords}
+use Rattle.sheet.specs.Form.{mostWords}
 use Rattle.sheet.specs.Values.{valuesOf, half, question, gOf, n_of, abscissasOf}
 use Rattle.sheet.specs.Asked.{PrimeAllowed, asked}
-use Rattle.promises.specs.With.{with-sum}
 use Rattle.promises.specs.Abscissas.{rational-abscissas}
 use Rattle.promises.specs.declared.Point.{Point}
 use Rattle.promises.specs.declared.Point.TheVariants.{Affine, Infinity}
@@ -41,25 +40,14 @@ certificate-rules ws = rules-ask (valuesOf Certificate ws) (gOf Certificate ws) 
 abbrev pub check-asks : List ℕ → Questions
 check-asks ws = asked Certificate ws ++ certificate-rules ws
 
--- some g meets the rules for the values v
+-- 11 of a question: some g meets the rules
 pub record Solvable (v : Values) : Type 0 where
   pub g : Seq (Zmod v.p)
   pub meets : Meets (Zmod v.p) (question v) g
 
--- the kernel sums that a question admits: those below p, and if it has one, that alone
-pub record SumAdmitted (form : Form) (v : Values) (σ : ℕ) : Type 0 where
-  pub below : σ < v.p
-  pub own : holds 7 (header form) ≡ true → σ ≡ v.sigma
-
--- 11 of a question: with some σ that it admits, some g meets the rules
-pub record Answerable (form : Form) (v : Values) : Type 0 where
-  pub σ : ℕ
-  pub sum : SumAdmitted form v σ
-  pub solvable : Solvable (with-sum v σ)
-
--- solve, of a sheet that is read in a form: 1, 2 to 7 and 17 of that form, 11
-abbrev pub solve-asks : Form → List ℕ → ℕ → Questions
-solve-asks form ws room = (1, Room room) ∷ asked form ws ++ (11, Answerable form (valuesOf form ws)) ∷ []
+-- solve: 1, 2 to 7 of a question, 11
+abbrev pub solve-asks : List ℕ → ℕ → Questions
+solve-asks ws room = (1, Room room) ∷ asked Question ws ++ (11, Solvable (valuesOf Question ws)) ∷ []
 
 -- 8 of a kernel sheet: the leading coefficient is 1
 abbrev pub Leading : Values → List ℕ → Type 0

@@ -1,7 +1,6 @@
 pub mod Outcome
 pub mod Abscissas
 pub mod Countable
-pub mod With
 pub mod Asked
 pub mod Answer
 pub mod Numerators

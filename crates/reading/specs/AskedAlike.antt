@@ -1,4 +1,4 @@
--- Two sheets of one form that say the same once question 2 is answered with yes: questions 2 to 7 and 17 are answered alike.
+-- Two sheets of one form that say the same once question 2 is answered with yes: questions 2 to 7 are answered alike.
 -- Assumes nothing.
 use Rattle.std.specs.Prelude.{◌≡◌, ℕ, ◌↔◌, List, refl}
 use Rattle.std.proofs.Common.{sym, subst}
@@ -6,7 +6,7 @@ use Rattle.questions.specs.Alike.{Alike}
 use Rattle.sheet.specs.declared.Form.{Form}
 use Rattle.sheet.specs.declared.Values.{Values}
 use Rattle.sheet.specs.Values.{valuesOf}
-use Rattle.sheet.specs.Asked.{Asked2, Asked6, Asked17, PrimeAllowed, DegreeAllowed, ValuesBelow, Curves, asked}
+use Rattle.sheet.specs.Asked.{Asked2, Asked6, PrimeAllowed, DegreeAllowed, ValuesBelow, Curves, asked}
 
 abbrev pub Degree : Values → Type 0
 Degree v = DegreeAllowed v.degree v.p
@@ -38,14 +38,9 @@ module _ (form : Form) (us ws : List ℕ) (two : Asked2 form us ↔ Asked2 form 
         λ a4.
             let alike6 = six (two.0 h) (to Degree h a4) in (
               refl,
-              to (Asked17 form) h,
-              from (Asked17 form) h,
-              λ _. (
-                refl,
-                to ValuesBelow h,
-                from ValuesBelow h,
-                λ _. (refl, alike6.0, alike6.1, λ _. (refl, to (Curves form) h, from (Curves form) h, λ _. tt)),
-              ),
+              to ValuesBelow h,
+              from ValuesBelow h,
+              λ _. (refl, alike6.0, alike6.1, λ _. (refl, to (Curves form) h, from (Curves form) h, λ _. tt)),
             ),
       ),
     ),

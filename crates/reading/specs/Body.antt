@@ -8,7 +8,7 @@ use native.Mathlib.Omega.{arith}
 use Rattle.std.proofs.lemmas.List.{length-map}
 use Rattle.std.proofs.Math.ListN.{get_or-map}
 use Rattle.sheet.specs.declared.Form.{Form}
-use Rattle.sheet.specs.declared.Form.TheVariants.{Question, Certificate, Kernel, WithoutSum}
+use Rattle.sheet.specs.declared.Form.TheVariants.{Question, Certificate, Kernel}
 use Rattle.sheet.specs.Word.{kind_of, value_of}
 use Rattle.sheet.specs.Form.{header, laid, body, kindsOf}
 use Rattle.sheet.specs.Lengths.{last, certificate-words, kernel-words}
@@ -37,7 +37,6 @@ module _ (form : Form) (d : ℕ) where
       go Question = omega arith
       go Certificate = omega (arith, certificate-words d, length-append (header Certificate) (body Certificate d))
       go Kernel = omega (arith, kernel-words d, length-append (header Kernel) (body Kernel d))
-      go WithoutSum = omega arith
 
   -- a word of the body
   kind-after : (i : ℕ) → length (header form) ≤ i → slice_index (kindsOf form d) i ≡ slice_index (body form d) (i - length (header form))
@@ -56,7 +55,6 @@ module _ (form : Form) (d : ℕ) where
       end Question = laid-last []
       end Certificate = laid-last ((8, d + 1) ∷ (9, 2 * d + 2) ∷ (10, 1) ∷ [])
       end Kernel = laid-last ((8, d + 1) ∷ [])
-      end WithoutSum = laid-last []
 
   -- ── the kinds of the words after the header
 

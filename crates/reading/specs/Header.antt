@@ -6,7 +6,7 @@ use Rattle.std.proofs.Math.Path.{ap}
 use Rattle.std.proofs.lemmas.Bool.{false≢true}
 use Rattle.std.proofs.Math.Dec.{eqb→eq}
 use Rattle.sheet.specs.declared.Form.{Form}
-use Rattle.sheet.specs.declared.Form.TheVariants.{Question, Certificate, Kernel, WithoutSum}
+use Rattle.sheet.specs.declared.Form.TheVariants.{Question, Certificate, Kernel}
 use Rattle.sheet.specs.Word.{kind_of}
 use Rattle.sheet.specs.Form.{header, position, holds}
 use Rattle.sheet.specs.Place.{place_of}
@@ -39,7 +39,6 @@ pub short-header : (form : Form) → length (header form) ≤ 7
 short-header Question = omega arith
 short-header Certificate = omega arith
 short-header Kernel = omega arith
-short-header WithoutSum = omega arith
 
 -- ── question 2, kind by kind
 
@@ -103,7 +102,6 @@ all_own : (form : Form) → T (every (own (header form)) (length (header form)))
 all_own Question = tt
 all_own Certificate = tt
 all_own Kernel = tt
-all_own WithoutSum = tt
 
 T_true : (b : Bool) → T b → b ≡ true
 T_true true t = refl

@@ -1,17 +1,16 @@
--- A question or a kernel sheet, and the same sheet with its values reduced: the form is the same, questions 2 to 7 and 17 are answered alike, and what is
--- read is the same.
+-- A question or a kernel sheet, and the same sheet with its values reduced: questions 2 to 7 are answered alike, and what is read is the same.
 -- Assumes nothing.
-use Rattle.std.specs.Prelude.{◌≡◌, ℕ, zero, suc, ◌+◌, ◌*◌, ◌%◌, ◌^◌, ◌<◌, ◌≤◌, Bool, true, false, cond, ◌↔◌, List, [], ◌∷◌, map, length, take, drop, ◌==◌, slice_index, slice_index_or}
+use Rattle.std.specs.Prelude.{◌≡◌, ℕ, zero, suc, ◌+◌, ◌*◌, ◌%◌, ◌^◌, ◌<◌, ◌≤◌, Bool, true, false, cond, ◌↔◌, List, [], ◌∷◌, map, length, take, drop, slice_index, slice_index_or}
 use Rattle.std.proofs.Math.Path.{refl, sym, ap, subst}
 use Rattle.std.proofs.Common.{◌∙◌, ap₂, arith}
 use Rattle.std.proofs.Math.Nat.{mod-le, mod-mod}
 use Rattle.std.proofs.Math.ListN.{length-map, get_or-map}
 use Rattle.questions.specs.Alike.{Alike}
 use Rattle.sheet.specs.declared.Form.{Form}
-use Rattle.sheet.specs.declared.Form.TheVariants.{Question, Certificate, Kernel, WithoutSum}
+use Rattle.sheet.specs.declared.Form.TheVariants.{Question, Certificate, Kernel}
 use Rattle.sheet.specs.declared.Values.{Values}
 use Rattle.sheet.specs.Word.{kind_of, value_of, word}
-use Rattle.sheet.specs.Form.{header, entry, valueIn, position, holds, questionForm}
+use Rattle.sheet.specs.Form.{header, entry, valueIn, position, holds}
 use Rattle.sheet.specs.Values.{value_at, valuesOf, half, coefficientIn, gOf}
 use Rattle.sheet.specs.Asked.{Asked2, Asked6, asked}
 use Rattle.sheet.specs.Reduction.{Modulo, value-zero}
@@ -108,7 +107,6 @@ module _ (form : Form) (modulo : Modulo form) (ws : List ℕ) where
       go Question = refl
       go Certificate = refl
       go Kernel = refl
-      go WithoutSum = refl
 
   -- a value of the header, modulo p
   entry_read : (k : ℕ) → valueIn form p (entry form k us) ≡ valueIn form p (entry form k ws)
@@ -219,13 +217,7 @@ module _ (form : Form) (modulo : Modulo form) (ws : List ℕ) where
       λ a. words-asked6 form us (subst (λ (v : Values). Words6 form v.p (half v) us) (sym values_same) (words_same.1 (asked6-words form ws a))),
     )
 
-  -- Questions 2 to 7 and 17 are answered for the reduced sheet as for the sheet.
+  -- Questions 2 to 7 are answered for the reduced sheet as for the sheet.
   pub reduced-alike : Alike (asked form us) (asked form ws)
   unfolding Asked2
   reduced-alike = asked-alike form us ws (λ h. sym two ∙ h, λ h. two ∙ h) values_same (λ headed _. six headed)
-
--- A question is put in the same form.
-pub same-form : (ws : List ℕ) → questionForm (reduced ws) ≡ questionForm ws
-same-form ws =
-    let p = value_of (slice_index ws 0) in
-    ap (λ k. cond (k == 15) WithoutSum Question) (ap kind_of (word-at p ws 6) ∙ kind-kept p (slice_index ws 6))

@@ -1,4 +1,4 @@
-// The reader: questions 2 to 7 put to a sheet, and 17 to a question without σ.
+// The reader: questions 2 to 7 put to a sheet.
 ghost use Rattle.std.specs.Prelude.{◌≡◌, ◌^◌, ◌<◌, ◌≤◌, true, ◌↔◌, length};
 ghost use Rattle.zmod.specs.Zmod.{Zmod, mk};
 ghost use Rattle.zmod.specs.Residues.{Residue};
@@ -6,7 +6,7 @@ ghost use Rattle.isogeny.specs.Curve.{discriminant, Nonsingular};
 ghost use Rattle.sheet.specs.Form.{header};
 ghost use Rattle.sheet.specs.Values.{valuesOf};
 ghost use Rattle.sheet.specs.Lengths.{last};
-ghost use Rattle.sheet.specs.Asked.{PrimeAllowed, DegreeAllowed, ValuesBelow, Curves, Asked2, Asked6, Asked17};
+ghost use Rattle.sheet.specs.Asked.{PrimeAllowed, DegreeAllowed, ValuesBelow, Curves, Asked2, Asked6};
 ghost use Rattle.reading.specs.Reading.{Right};
 ghost use Rattle.reading.specs.Leaf.{Stands, Fits, Section, Sections, Bounds};
 
@@ -75,19 +75,6 @@ pub fn degree_allowed(l: u32, p: u32) -> bool
     2 * l - 1 < p
 }
 
-// Question 17.
-fn large_enough(form: Form, v: Values) -> bool
-    requires { DegreeAllowed v.degree v.p }
-    ensures { (result ≡ true) ↔ Asked17 form v }
-{
-    match form {
-        Form::Question => true,
-        Form::Certificate => true,
-        Form::Kernel => true,
-        Form::WithoutSum => 8 * v.degree - 5 < v.p,
-    }
-}
-
 // Question 5.
 pub fn values_below(v: Values) -> bool
     ensures { (result ≡ true) ↔ ValuesBelow v }
@@ -116,7 +103,6 @@ fn coefficient_bound(form: Form, p: u32) -> u32
         Form::Question => 268435456,
         Form::Certificate => p,
         Form::Kernel => 268435456,
-        Form::WithoutSum => 268435456,
     }
 }
 
@@ -206,7 +192,7 @@ fn curves(form: Form, v: Values) -> bool
     nonsingular(v.atilde, v.btilde, v.p)
 }
 
-// Questions 2 to 7, in document 01's order, with 17 after 4.
+// Questions 2 to 7, in document 01's order.
 pub fn read(form: Form, ws: &[u32]) -> Reading
     ensures { Right form ws.now result }
 {
@@ -222,9 +208,6 @@ pub fn read(form: Form, ws: &[u32]) -> Reading
         return Reading::Refused(4);
     }
     let v = sheet::values_of(form, p, degree, ws);
-    if !large_enough(form, v) {
-        return Reading::Refused(17);
-    }
     if !values_below(v) {
         return Reading::Refused(5);
     }

@@ -1,19 +1,16 @@
 -- A sheet of more words than any sheet has: its first words, one more than the largest certificate has, get the answer that all of them get,
--- since questions 2 to 5 and 17 read the header alone, with the kind of the seventh word, and question 6 is a no.
+-- since questions 2 to 5 read the header alone and
+-- question 6 is a no.
 -- Assumes nothing.
-use mathlib.Core.Path.{◌≡◌, ap, subst}
-use mathlib.Core.Bool.{cond}
+use mathlib.Core.Path.{◌≡◌, subst}
 use mathlib.Core.Logic.{◌⊎◌, inl, inr}
 use mathlib.Core.List.{List, [], ◌∷◌, ◌++◌}
 use Prim.Native.Nat.{ℕ, ◌+◌}
 use native.Mathlib.Omega.{arith}
-use lib.Dec.{eqb}
 use lib.ListN.{take}
-use lib.Seq.{get_or-take}
 use Rattle.sheet.specs.declared.Form.{Form}
-use Rattle.sheet.specs.declared.Form.TheVariants.{Question, Certificate, Kernel, WithoutSum}
-use Rattle.sheet.specs.Word.{kind_of}
-use Rattle.sheet.specs.Form.{mostWords, questionForm}
+use Rattle.sheet.specs.declared.Form.TheVariants.{Question, Certificate, Kernel}
+use Rattle.sheet.specs.Form.{mostWords}
 use Rattle.sheet.specs.Values.{valuesOf, gOf}
 use Rattle.sheet.specs.Asked.{asked}
 use Rattle.reading.specs.LongSheet.{front-yes, front-no, front-all}
@@ -26,8 +23,8 @@ use Rattle.promises.specs.declared.Written.TheVariants as written
 use Rattle.promises.specs.declared.Point.{Point}
 use Rattle.promises.specs.declared.Image.{Image}
 use Rattle.promises.specs.declared.Image.TheVariants as image
-use Rattle.promises.specs.Asked.{Answerable, last-ask, Given, certificate-rules, check-asks}
-use Rattle.promises.specs.Answer.{CheckRight, SolveAs, SolveRight, KernelRight, PushRight}
+use Rattle.promises.specs.Asked.{Solvable, last-ask, Given, certificate-rules, check-asks}
+use Rattle.promises.specs.Answer.{CheckRight, SolveRight, KernelRight, PushRight}
 
 -- the count of words that are kept: one more than the largest certificate has
 abbrev pub kept : ℕ
@@ -40,8 +37,8 @@ certified us = certificate-rules us
 abbrev pushed : Point → List ℕ → Questions
 pushed at us = certified us ++ (12, Given (valuesOf Certificate us) at) ∷ []
 
-abbrev solved : Form → List ℕ → Questions
-solved form us = (11, Answerable form (valuesOf form us)) ∷ []
+abbrev solved : List ℕ → Questions
+solved us = (11, Solvable (valuesOf Question us)) ∷ []
 
 abbrev completed : List ℕ → Questions
 completed us = last-ask (valuesOf Kernel us) (gOf Kernel us)
@@ -78,19 +75,12 @@ push-long ws at (image.Affine u v) h =
 push-long ws at image.Infinity h = long-all Certificate (pushed at) (λ us. PushRight us at image.Infinity) ws h.0 h
 push-long ws at (image.Refused n) h = long-no Certificate (pushed at) ws n h
 
--- the seventh word is kept, so the form of a question is the same
-same-form : (ws : List ℕ) → questionForm (take kept ws) ≡ questionForm ws
-same-form ws = ap (λ w. cond (eqb (kind_of w) 15) WithoutSum Question) (get_or-take kept ws 6 0 (omega arith))
-
-long_as : (form : Form) (ws before after : List ℕ) (r : Written) → SolveAs form (take kept ws) before after r → SolveAs form ws before after r
-long_as form ws before after (written.Count c) h =
-    long-all form (solved form) (λ us. SolveAs form us before after (written.Count c)) ws h.0.1 h
-long_as form ws before after (written.Refused n) (inl h, same) = (inl h, same)
-long_as form ws before after (written.Refused n) (inr h, same) = (inr (h.0, long-no form (solved form) ws n h.1), same)
-
 pub solve-long : (ws before after : List ℕ) (r : Written) → SolveRight (take kept ws) before after r → SolveRight ws before after r
-solve-long ws before after r h =
-    long_as (questionForm ws) ws before after r (subst (λ form. SolveAs form (take kept ws) before after r) (same-form ws) h)
+solve-long ws before after (written.Count c) h =
+    long-all Question solved (λ us. SolveRight us before after (written.Count c)) ws h.0.1 h
+solve-long ws before after (written.Refused n) (inl h, same) = (inl h, same)
+solve-long ws before after (written.Refused n) (inr h, same) =
+    (inr (h.0, long-no Question solved ws n h.1), same)
 
 pub kernel-long : (ws before after : List ℕ) (r : Written) → KernelRight (take kept ws) before after r → KernelRight ws before after r
 kernel-long ws before after (written.Count c) h =

@@ -4,10 +4,8 @@
 use Rattle.std.specs.Prelude.{◌≡◌, List, [], ◌∷◌, ◌++◌, ℕ, ◌+◌, ◌*◌, ◌%◌, ◌^◌, ◌<◌, ◌≤◌, length, drop}
 use Rattle.questions.specs.Questions.{Questions}
 use Rattle.questions.specs.Answers.{Answers, Writes}
-use Rattle.sheet.specs.declared.Form.{Form}
-use Rattle.sheet.specs.declared.Form.TheVariants.{Certificate, Kernel}
+use Rattle.sheet.specs.declared.Form.TheVariants.{Question, Certificate, Kernel}
 use Rattle.sheet.specs.Word.{word_at, words_of}
-use Rattle.sheet.specs.Form.{questionForm}
 use Rattle.sheet.specs.Values.{valuesOf, gOf, n_of}
 use Rattle.sheet.specs.Asked.{asked}
 use Rattle.promises.specs.declared.Verdict.{Verdict}
@@ -16,9 +14,9 @@ use Rattle.promises.specs.declared.Image.{Image}
 use Rattle.promises.specs.declared.Image.TheVariants as image
 use Rattle.promises.specs.declared.Named.{Named}
 use Rattle.promises.specs.Outcome.{verdictOutcome, writtenOutcome, imageOutcome, verdictNumber, writtenNumber, imageNumber, nameNumber}
-use Rattle.promises.specs.Asked.{Room, check-asks, Answerable, last-ask, Given}
+use Rattle.promises.specs.Asked.{Room, check-asks, Solvable, last-ask, Given}
 use Rattle.encoding.specs.Encoding.{point_of}
-use Rattle.promises.specs.Answer.{Goes, SolveIn, KernelIn, SolveRight, KernelRight, ComposeRight, NameRight}
+use Rattle.promises.specs.Answer.{Goes, CertificateIn, KernelIn, SolveRight, KernelRight, ComposeRight, NameRight}
 
 -- question 2 of bytes: they are whole words
 abbrev pub WholeWords : List ℕ → Type 0
@@ -82,17 +80,14 @@ pub record NameNumber (p a b r : ℕ) : Type 0 where
 
 -- ── solve and kernel on bytes: question 2 also asks for whole words
 
-abbrev pub solve-bytes-ask : Form → List ℕ → ℕ → Questions
-solve-bytes-ask form bytes room =
-    (1, Room room) ∷ (2, WholeWords bytes) ∷ asked form (words_of bytes) ++ (11, Answerable form (valuesOf form (words_of bytes))) ∷ []
-
-abbrev pub SolveAnswerAs : Form → List ℕ → List ℕ → List ℕ → Written → Type 0
-SolveAnswerAs form bytes before after r =
-    Writes (solve-bytes-ask form bytes (length before)) (λ count after. SolveIn form (valuesOf form (words_of bytes)) before after count) before after
-    (writtenOutcome r)
+abbrev pub solve-bytes-ask : List ℕ → ℕ → Questions
+solve-bytes-ask bytes room =
+    (1, Room room) ∷ (2, WholeWords bytes) ∷ asked Question (words_of bytes) ++ (11, Solvable (valuesOf Question (words_of bytes))) ∷ []
 
 abbrev pub SolveAnswer : List ℕ → List ℕ → List ℕ → Written → Type 0
-SolveAnswer bytes = SolveAnswerAs (questionForm (words_of bytes)) bytes
+SolveAnswer bytes before after r =
+    Writes (solve-bytes-ask bytes (length before)) (λ count after. CertificateIn (valuesOf Question (words_of bytes)) before after count) before after
+    (writtenOutcome r)
 
 abbrev pub kernel-bytes-ask : List ℕ → ℕ → Questions
 kernel-bytes-ask bytes room =

@@ -5,7 +5,7 @@ use Rattle.std.specs.Prelude.{◌≡◌, refl, cond, List, [], ◌∷◌, ℕ, �
 use Rattle.std.proofs.Common.{sym, ◌∙◌, ap, subst, inl, inr, arith, lt-ltb, le-ltb, ne_eqb}
 use Rattle.sheet.specs.declared.Form.TheVariants.{Certificate}
 use Rattle.sheet.specs.Word.{words_of}
-use Rattle.sheet.specs.Form.{mostWords, questionForm}
+use Rattle.sheet.specs.Form.{mostWords}
 use Rattle.sheet.specs.Values.{valuesOf, gOf, n_of}
 use Rattle.questions.specs.Numbered.{yes-to}
 use Rattle.questions.specs.Questions.{Questions, FirstNo}
@@ -64,7 +64,19 @@ verdictOf r = cond (eqb r 0) verdict.Passes (verdict.Refused r)
 
 module _ (bytes : List ℕ) where
   numbered : Positive (bytes-ask bytes)
-  numbered = search (arith)
+  numbered = (
+    omega arith,
+    (
+      omega arith,
+      (
+        omega arith,
+        (
+          omega arith,
+          (omega arith, (omega arith, (omega arith, (omega arith, (omega arith, (omega arith, tt)))))),
+        ),
+      ),
+    ),
+  )
 
   verdict-back : (v : Verdict) → CheckAnswer bytes v → verdictOf (verdictNumber v) ≡ v
   verdict-back verdict.Passes h = refl
@@ -86,7 +98,7 @@ written-refused n =
 
 module _ (ws before after : List ℕ) where
   pub solve-count : (c : ℕ) → SolveRight ws before after (written.Count c) → c ≤ mostWords
-  solve-count c h = omega (arith, (yes-to (solve-asks (questionForm ws) ws (length before)) 4 h.0).most, h.1.certificate.count-is)
+  solve-count c h = omega (arith, (yes-to (solve-asks ws (length before)) 4 h.0).most, h.1.count-is)
 
   solve-back : (w : Written) → SolveRight ws before after w → written_of (writtenNumber w) ≡ w
   solve-back (written.Count c) h = written_count c (solve-count c h)

@@ -1,14 +1,13 @@
 -- For each call of a C entry, and of the entries on bytes, one answer is right at most, with one content of the lent buffer.
 -- Assumes nothing.
-use Rattle.std.specs.Prelude.{◌≡◌, refl, List, [], ◌∷◌, ℕ, ◌+◌, ◌*◌, ◌^◌, ◌<◌, ◌≤◌, length, drop}
+use Rattle.std.specs.Prelude.{◌≡◌, refl, List, [], ◌∷◌, ◌++◌, ℕ, ◌+◌, ◌*◌, ◌^◌, ◌<◌, ◌≤◌, length, drop}
 use Rattle.std.proofs.Common.{sym, ◌∙◌, ap, arith}
 use Rattle.std.proofs.Math.Decide.{dec_lt}
+use Rattle.questions.specs.Questions.{AllYes}
 use Rattle.questions.specs.Joined.{all-front}
 use Rattle.questions.specs.Answers.{answers-unique, writes-unique}
-use Rattle.sheet.specs.declared.Form.{Form}
-use Rattle.sheet.specs.declared.Form.TheVariants.{Certificate, Kernel}
+use Rattle.sheet.specs.declared.Form.TheVariants.{Question, Certificate, Kernel}
 use Rattle.sheet.specs.Word.{word_at, words_of}
-use Rattle.sheet.specs.Form.{questionForm}
 use Rattle.sheet.specs.Values.{valuesOf, gOf, n_of}
 use Rattle.sheet.specs.Asked.{asked}
 use Rattle.sheet.specs.Ready.{ready}
@@ -27,9 +26,10 @@ use Rattle.promises.specs.Outcome.{
   same-written,
   same-image,
 }
-use Rattle.promises.specs.Asked.{Given, Answerable, last-ask}
-use Rattle.promises.specs.Answer.{Goes, SolveIn, KernelIn}
-use Rattle.guarantees.specs.Solve.{one-solved, solve-unique}
+use Rattle.promises.specs.Asked.{Given, Solvable, last-ask}
+use Rattle.promises.specs.Answer.{Goes, CertificateIn, KernelIn}
+use Rattle.guarantees.specs.Certified.{one-certificate}
+use Rattle.guarantees.specs.Solve.{solve-unique}
 use Rattle.guarantees.specs.Kernel.{one-kernel, kernel-unique}
 use Rattle.guarantees.specs.Compose.{compose-unique}
 use Rattle.guarantees.specs.Push.{goes-once}
@@ -107,11 +107,11 @@ module _ (bytes before after after' : List ℕ) where
 
   pub solve-answer-unique : (r s : Written) → SolveAnswer bytes before after r → SolveAnswer bytes before after' s → (r ≡ s) × (after ≡ after')
   solve-answer-unique r s h k =
-      let form : Form = questionForm us in
       let same =
-      writes-unique (solve-bytes-ask form bytes (length before)) (λ count after. SolveIn form (valuesOf form us) before after count) before
-      (λ all c c' xs ys a b. one-solved us (all-front (asked form us) ((11, Answerable form (valuesOf form us)) ∷ []) all.1.1) before a b)
-      (writtenOutcome r) (writtenOutcome s) after after' h k in
+      writes-unique (solve-bytes-ask bytes (length before)) (λ count after. CertificateIn (valuesOf Question us) before after count) before
+      (λ all c c' xs ys a b.
+      one-certificate (valuesOf Question us) (ready Question us (all-front (asked Question us) ((11, Solvable (valuesOf Question us)) ∷ []) all.1.1)) before
+      xs ys c c' a b) (writtenOutcome r) (writtenOutcome s) after after' h k in
       (same-written r s same.0, same.1)
 
   pub kernel-answer-unique : (r s : Written) → KernelAnswer bytes before after r → KernelAnswer bytes before after' s → (r ≡ s) × (after ≡ after')

@@ -6,7 +6,7 @@ use Prim.Native.Nat.{ℕ, ◌-◌}
 use lib.Dec.{T, eqb, eqb→eq}
 use lib.ListN.{get_or}
 use Rattle.sheet.specs.declared.Form.{Form}
-use Rattle.sheet.specs.declared.Form.TheVariants.{Question, Certificate, Kernel, WithoutSum}
+use Rattle.sheet.specs.declared.Form.TheVariants.{Question, Certificate, Kernel}
 use Rattle.sheet.specs.Place.{place_of, PlacesOf}
 use Rattle.sheet.specs.Table.{at, every}
 
@@ -24,11 +24,6 @@ abbrev pub kernel : List (List ℕ)
 kernel =
     (255 ∷ 0 ∷ 1 ∷ 2 ∷ 255 ∷ 255 ∷ 3 ∷ 255 ∷ 4 ∷ 255 ∷ 255 ∷ 255 ∷ 255 ∷ 255 ∷ 255 ∷ 5 ∷ []) ∷
     (0 ∷ 0 ∷ 0 ∷ 0 ∷ 0 ∷ 0 ∷ 0 ∷ 0 ∷ 0 ∷ 0 ∷ 0 ∷ 0 ∷ 0 ∷ 0 ∷ 0 ∷ 1 ∷ []) ∷ []
-
-abbrev pub without-sum : List (List ℕ)
-without-sum =
-    (255 ∷ 0 ∷ 1 ∷ 2 ∷ 3 ∷ 4 ∷ 5 ∷ 255 ∷ 255 ∷ 255 ∷ 255 ∷ 255 ∷ 255 ∷ 255 ∷ 255 ∷ 6 ∷ []) ∷
-    (0 ∷ 0 ∷ 0 ∷ 0 ∷ 0 ∷ 0 ∷ 0 ∷ 0 ∷ 0 ∷ 0 ∷ 0 ∷ 0 ∷ 0 ∷ 0 ∷ 0 ∷ 0 ∷ []) ∷ []
 
 module _ (form : Form) (table : List (List ℕ)) where
   abbrev starts : ℕ → Bool
@@ -49,6 +44,3 @@ certificate-places = tested Certificate certificate tt tt
 
 pub kernel-places : PlacesOf Kernel kernel
 kernel-places = tested Kernel kernel tt tt
-
-pub without-sum-places : PlacesOf WithoutSum without-sum
-without-sum-places = tested WithoutSum without-sum tt tt

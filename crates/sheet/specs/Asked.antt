@@ -1,5 +1,5 @@
--- Document 01's questions 2 to 7, and 17 of document 02. Those about values are asked of the values as they are read, 2 and 6 of the words. Values that are
--- taken modulo p are below it, so on all forms but the certificate 5 says nothing, and 6 nothing of the size of g's coefficients (`Reduction`).
+-- Document 01's questions 2 to 7. Those about values are asked of the values as they are read, 2 and 6 of the words. Values that are taken modulo p are
+-- below it, so on a question or a kernel sheet 5 says nothing, and 6 nothing of the size of g's coefficients (`Reduction`).
 -- Assumes nothing.
 use Rattle.std.specs.Prelude.{◌≡◌, true, List, [], ◌∷◌, map, ℕ, ◌*◌, ◌-◌, ◌%◌, ◌^◌, ◌<◌, ◌≤◌, length, get_or, take, drop}
 use Rattle.zmod.specs.Zmod.{Zmod, mk}
@@ -7,7 +7,6 @@ use Rattle.zmod.specs.Prime.{Prime}
 use Rattle.isogeny.specs.Curve.{Nonsingular}
 use Rattle.questions.specs.Questions.{Questions}
 use Rattle.sheet.specs.declared.Form.{Form}
-use Rattle.sheet.specs.declared.Form.TheVariants.{Question, Certificate, Kernel, WithoutSum}
 use Rattle.sheet.specs.declared.Values.{Values}
 use Rattle.sheet.specs.Word.{kind_of, value_of}
 use Rattle.sheet.specs.Form.{header, body, holds}
@@ -29,13 +28,6 @@ pub record DegreeAllowed (ℓ p : ℕ) : Type 0 where
   pub least : 3 ≤ ℓ
   pub most : ℓ ≤ 255
   pub small : 2 * ℓ - 1 < p
-
--- 17: of a question without σ, p is large enough for the degree; of the other forms nothing is asked
-abbrev pub Asked17 : Form → Values → Type 0
-Asked17 Question v = Unit {0}
-Asked17 Certificate v = Unit {0}
-Asked17 Kernel v = Unit {0}
-Asked17 WithoutSum v = 8 * v.degree - 5 < v.p
 
 -- 5: the values of the curves, and σ, are below p; a value that the form has not is 0
 pub record ValuesBelow (v : Values) : Type 0 where
@@ -63,7 +55,6 @@ asked form ws =
     (2, Asked2 form ws)
     ∷ (3, PrimeAllowed (valuesOf form ws).p)
     ∷ (4, DegreeAllowed (valuesOf form ws).degree (valuesOf form ws).p)
-    ∷ (17, Asked17 form (valuesOf form ws))
     ∷ (5, ValuesBelow (valuesOf form ws))
     ∷ (6, Asked6 form ws)
     ∷ (7, Curves form (valuesOf form ws))

@@ -5,7 +5,7 @@ use Rattle.std.specs.Prelude.{◌≡◌, refl, Bool, true, false, cond, List, []
 use Rattle.std.proofs.Common.{sym, ◌∙◌, ap, arith, not-suc-le-zero, le_of_suc-le-suc, eqb-true, ltb-true, ltb-false, lt-ltb, le-ltb}
 use Rattle.std.proofs.lemmas.Bool.{false≢true, eqb-false}
 use Rattle.sheet.specs.declared.Form.{Form}
-use Rattle.sheet.specs.declared.Form.TheVariants.{Question, Certificate, Kernel, WithoutSum}
+use Rattle.sheet.specs.declared.Form.TheVariants.{Question, Certificate, Kernel}
 use Rattle.sheet.specs.Form.{header, kindsOf, body, position, holds}
 use Rattle.sheet.specs.Place.{place_of}
 
@@ -137,7 +137,6 @@ pub body-rises : (form : Form) (d : ℕ) → Rising 8 (body form d)
 body-rises Question d = (omega arith, tt)
 body-rises Certificate d = run 8 8 (d + 1) _ (omega arith) (run 8 9 (2 * d + 2) (10 ∷ 15 ∷ []) (omega arith) (omega arith, (omega arith, tt)))
 body-rises Kernel d = run 8 8 (d + 1) (15 ∷ []) (omega arith) (omega arith, tt)
-body-rises WithoutSum d = (omega arith, tt)
 
 -- a list whose kinds are below 8 before one whose kinds are from 8 on
 abbrev Small : ℕ → List ℕ → Type 0
@@ -156,7 +155,6 @@ small-header : (form : Form) → Small 0 (header form)
 small-header Question = search (arith)
 small-header Certificate = search (arith)
 small-header Kernel = search (arith)
-small-header WithoutSum = search (arith)
 
 module _ (form : Form) (d : ℕ) where
   pub kinds-rise : Rising 0 (kindsOf form d)

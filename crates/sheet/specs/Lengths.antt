@@ -4,7 +4,7 @@ use Rattle.std.specs.Prelude.{◌≡◌, ℕ, ◌+◌, ◌-◌, ◌≤◌, lengt
 use Rattle.std.proofs.Common.{arith, length-append}
 use Rattle.std.proofs.lemmas.List.{length-replicate}
 use Rattle.sheet.specs.declared.Form.{Form}
-use Rattle.sheet.specs.declared.Form.TheVariants.{Question, Certificate, Kernel, WithoutSum}
+use Rattle.sheet.specs.declared.Form.TheVariants.{Question, Certificate, Kernel}
 use Rattle.sheet.specs.Form.{kindsOf, certificateWords, mostWords}
 
 abbrev pub last : Form → ℕ → ℕ
@@ -21,4 +21,3 @@ pub words-most : (form : Form) (d : ℕ) → d ≤ 127 → length (kindsOf form 
 words-most Question d l = omega arith
 words-most Certificate d l = omega (arith, certificate-words d)
 words-most Kernel d l = omega (arith, kernel-words d)
-words-most WithoutSum d l = omega arith

@@ -3,7 +3,7 @@
 use Rattle.std.specs.Prelude.{◌≡◌, refl, Bool, true, false, cond, List, [], ◌∷◌, ℕ, suc, ◌+◌, ◌*◌, ◌-◌, ◌<◌, length}
 use Rattle.std.proofs.Common.{sym, ◌∙◌, ap, ap₂, arith}
 use Rattle.sheet.specs.declared.Form.{Form}
-use Rattle.sheet.specs.declared.Form.TheVariants.{Question, Certificate, Kernel, WithoutSum}
+use Rattle.sheet.specs.declared.Form.TheVariants.{Question, Certificate, Kernel}
 use Rattle.sheet.specs.Form.{header, kindsOf, certificateWords, position, holds}
 use Rattle.sheet.specs.Place.{place_of}
 use Rattle.sheet.specs.Kinds.{below, absent as absent-kind, place-from}
@@ -18,7 +18,6 @@ sections Certificate =
     section 1 0 0 ∷ section 2 0 0 ∷ section 3 0 0 ∷ section 4 0 0 ∷ section 5 0 0 ∷ section 6 0 0 ∷ section 7 0 0 ∷ section 8 0 1 ∷ section 9 1 2
     ∷ section 10 0 0 ∷ section 15 0 0 ∷ []
 sections Kernel = section 1 0 0 ∷ section 2 0 0 ∷ section 3 0 0 ∷ section 6 0 0 ∷ section 8 0 1 ∷ section 15 0 0 ∷ []
-sections WithoutSum = section 1 0 0 ∷ section 2 0 0 ∷ section 3 0 0 ∷ section 4 0 0 ∷ section 5 0 0 ∷ section 6 0 0 ∷ section 15 0 0 ∷ []
 
 -- how many words follow the first one of a section
 no_more : (d : ℕ) → 0 + 0 * d ≡ 0
@@ -34,7 +33,6 @@ in-sections : (form : Form) (d : ℕ) → kindsOf form d ≡ expand d (sections 
 in-sections Question d = simp no_more
 in-sections Certificate d = simp (no_more, g-more, n-more)
 in-sections Kernel d = simp (no_more, g-more)
-in-sections WithoutSum d = simp no_more
 
 -- no form has a kind from 11 to 14, so the word of kind 10, or where it would stand, is the last before the end
 abbrev Lacks : Form → ℕ → Type 0
@@ -44,7 +42,6 @@ lacking : (form : Form) → Lacks form 11 × Lacks form 12 × Lacks form 13 × L
 lacking Question = (refl, refl, refl, refl)
 lacking Certificate = (refl, refl, refl, refl)
 lacking Kernel = (refl, refl, refl, refl)
-lacking WithoutSum = (refl, refl, refl, refl)
 
 module _ (form : Form) (d : ℕ) where
   skipped : (k : ℕ) → Lacks form k → below (suc k) (kindsOf form d) ≡ below k (kindsOf form d)
@@ -69,7 +66,6 @@ early : (form : Form) (k : ℕ) → base k (sections form) < 255
 early Question k = omega (arith, base-most k (sections Question))
 early Certificate k = omega (arith, base-most k (sections Certificate))
 early Kernel k = omega (arith, base-most k (sections Kernel))
-early WithoutSum k = omega (arith, base-most k (sections WithoutSum))
 
 -- by whether the form has the kind
 module _ (t : Bool) (b s d none : ℕ) (small : b < 255) where
@@ -107,14 +103,12 @@ module _ (d none : ℕ) where
   end-place Question = place_is Question 15 d none ∙ omega arith
   end-place Certificate = place_is Certificate 15 d none ∙ omega (arith, certificate-words d)
   end-place Kernel = place_is Kernel 15 d none ∙ omega (arith, kernel-words d)
-  end-place WithoutSum = place_is WithoutSum 15 d none ∙ omega arith
 
   -- where the form has no coefficients of g, they would stand at the end
   pub g-place : (form : Form) → none ≡ last form d → place_of form 8 d none ≡ length (header form)
   g-place Question e = place_is Question 8 d none ∙ omega arith
   g-place Certificate e = place_is Certificate 8 d none ∙ omega arith
   g-place Kernel e = place_is Kernel 8 d none ∙ omega arith
-  g-place WithoutSum e = place_is WithoutSum 8 d none ∙ omega arith
 
   pub n-place : place_of Certificate 9 d none ≡ d + 8
   n-place = place_is Certificate 9 d none ∙ omega arith
@@ -126,7 +120,6 @@ pub end-small : (d : ℕ) (form : Form) → last form d < certificateWords d
 end-small d Question = omega arith
 end-small d Certificate = omega (arith, certificate-words d)
 end-small d Kernel = omega (arith, kernel-words d)
-end-small d WithoutSum = omega arith
 
 -- the kinds from 10 on begin after all coefficients
 module _ (d : ℕ) where

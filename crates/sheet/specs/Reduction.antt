@@ -1,4 +1,4 @@
--- What follows from how a form reads a value (`valueIn`): on every form but the certificate each value is read as one below p.
+-- What follows from how a form reads a value (`valueIn`): on a question or a kernel sheet every value is read as one below p.
 -- Assumes nothing.
 use Rattle.std.specs.Prelude.{◌≡◌, refl, ◌↔◌, List, [], ◌∷◌, map, ℕ, suc, ◌+◌, ◌-◌, ◌%◌, ◌<◌, ◌≤◌, length, get_or, take, drop}
 use Rattle.std.proofs.Common.{sym, ◌∙◌, ap, ap₂, subst, mod-lt, mod-eq_of_lt, arith, length-drop, length-take-le}
@@ -7,7 +7,7 @@ use Rattle.std.proofs.lemmas.List.{length-map}
 use Rattle.std.proofs.Math.ListN.{get_or-map}
 use Rattle.zmod.specs.Residues.{Reduced}
 use Rattle.sheet.specs.declared.Form.{Form}
-use Rattle.sheet.specs.declared.Form.TheVariants.{Question, Certificate, Kernel, WithoutSum}
+use Rattle.sheet.specs.declared.Form.TheVariants.{Question, Certificate, Kernel}
 use Rattle.sheet.specs.Word.{kind_of, value_of}
 use Rattle.sheet.specs.Form.{header, body, entry, valueIn}
 use Rattle.sheet.specs.Values.{valuesOf, half, coefficientIn}
@@ -24,9 +24,6 @@ question-modulo p x = refl
 pub kernel-modulo : Modulo Kernel
 kernel-modulo p x = refl
 
-pub without-sum-modulo : Modulo WithoutSum
-without-sum-modulo p x = refl
-
 -- ── one value
 
 -- below p it is read as it stands
@@ -34,7 +31,6 @@ pub value-below : (form : Form) {p x : ℕ} → x < p → valueIn form p x ≡ x
 value-below Question l = mod-eq_of_lt l
 value-below Certificate l = refl
 value-below Kernel l = mod-eq_of_lt l
-value-below WithoutSum l = mod-eq_of_lt l
 
 -- on those forms whatever is read is below p
 pub value-reduced : (form : Form) → Modulo form → {p : ℕ} → 0 < p → (x : ℕ) → valueIn form p x < p
@@ -44,7 +40,6 @@ pub value-zero : (form : Form) (p : ℕ) → valueIn form p 0 ≡ 0
 value-zero Question p = zero-mod p
 value-zero Certificate p = refl
 value-zero Kernel p = zero-mod p
-value-zero WithoutSum p = zero-mod p
 
 -- ── coefficients
 

@@ -1,8 +1,8 @@
-// Sheets: words, kinds and values; the four forms, the table of places, and what a sheet says by them.
-ghost use Rattle.std.specs.Prelude.{◌≡◌, ◌+◌, ◌-◌, ◌*◌, ◌^◌, ◌<◌, ◌≤◌, cond, map, length, get_or, take, drop};
-ghost use Rattle.sheet.specs.declared.Form.TheVariants.{Question, Certificate, WithoutSum};
+// Sheets: words, kinds and values; the three forms, the table of places, and what a sheet says by them.
+ghost use Rattle.std.specs.Prelude.{◌≡◌, ◌+◌, ◌-◌, ◌*◌, ◌^◌, ◌<◌, ◌≤◌, map, length, get_or, take, drop};
+ghost use Rattle.sheet.specs.declared.Form.TheVariants.{Certificate};
 ghost use Rattle.sheet.specs.Word.{kind_of, value_of, word_at, words_of};
-ghost use Rattle.sheet.specs.Form.{header, entry, valueIn, certificateWords, questionForm};
+ghost use Rattle.sheet.specs.Form.{header, entry, valueIn, certificateWords};
 ghost use Rattle.sheet.specs.Place.{place_of, PlacesOf};
 ghost use Rattle.sheet.specs.Values.{valuesOf, half, coefficientIn};
 
@@ -15,7 +15,6 @@ pub enum Form {
     Question,
     Certificate,
     Kernel,
-    WithoutSum,
 }
 
 // The values in a sheet's header; 0 where its form has no such word.
@@ -33,9 +32,9 @@ pub struct Values {
 // Nowhere, in the table of places.
 const NO: u8 = 255;
 
-// In each of the forms question, certificate, kernel sheet, question without σ: the place of each kind's first word at d = 0, and how far each step of d
-// moves it. The forms come first, so that the part of one form, once it is known, dissolves into constants wherever a place is asked for.
-const PLACES: [[[u8; 16]; 2]; 4] = [
+// In each of the forms question, certificate, kernel sheet: the place of each kind's first word at d = 0, and how far each step of d moves it. The forms come
+// first, so that the part of one form, once it is known, dissolves into constants wherever a place is asked for.
+const PLACES: [[[u8; 16]; 2]; 3] = [
     [
         [NO, 0, 1, 2, 3, 4, 5, 6, NO, NO, NO, NO, NO, NO, NO, 7],
         [0, 0, 0, 0, 0, 0, 0, 0, 0, 0, 0, 0, 0, 0, 0, 0],
@@ -47,10 +46,6 @@ const PLACES: [[[u8; 16]; 2]; 4] = [
     [
         [NO, 0, 1, 2, NO, NO, 3, NO, 4, NO, NO, NO, NO, NO, NO, 5],
         [0, 0, 0, 0, 0, 0, 0, 0, 0, 0, 0, 0, 0, 0, 0, 1],
-    ],
-    [
-        [NO, 0, 1, 2, 3, 4, 5, NO, NO, NO, NO, NO, NO, NO, NO, 6],
-        [0, 0, 0, 0, 0, 0, 0, 0, 0, 0, 0, 0, 0, 0, 0, 0],
     ],
 ];
 
@@ -68,7 +63,6 @@ fn places_of(form: Form) -> [[u8; 16]; 2]
         Form::Question => PLACES[0],
         Form::Certificate => PLACES[1],
         Form::Kernel => PLACES[2],
-        Form::WithoutSum => PLACES[3],
     }
 }
 
@@ -109,7 +103,6 @@ fn value_in(form: Form, p: u32, x: u32) -> u32
         Form::Question => x % p,
         Form::Certificate => x,
         Form::Kernel => x % p,
-        Form::WithoutSum => x % p,
     }
 }
 
@@ -217,14 +210,4 @@ pub fn load(bytes: &[u8], out: &mut [u32])
     for i in 0..out.len() {
         out[i] = word_at(bytes, i);
     }
-}
-
-// Whether a question is one without σ, by the kind of its seventh word.
-pub fn without_sum(ws: &[u32]) -> bool
-    ensures { questionForm ws.now ≡ cond result WithoutSum Question }
-{
-    if ws.len() < 7 {
-        return false;
-    }
-    kind(ws[6]) == 15
 }

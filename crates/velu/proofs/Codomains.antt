@@ -24,7 +24,7 @@ use Rattle.sheet.specs.Ready.{Ready, HoldsG, half-least}
 use Rattle.promises.specs.declared.Written.{Written}
 use Rattle.promises.specs.declared.Written.TheVariants.{Count, Refused}
 use Rattle.promises.specs.Asked.{Leading, Passing}
-use Rattle.promises.specs.With.{with}
+use Rattle.promises.specs.Answer.{with}
 use Rattle.certifying.specs.Certified.{Certified}
 use Rattle.velu.specs.Completed.{Completed, Finished}
 

@@ -12,8 +12,7 @@ use Rattle.sheet.specs.Values.{question, half}
 use Rattle.promises.specs.declared.Written.{Written}
 use Rattle.promises.specs.Outcome.{writtenOutcome}
 use Rattle.promises.specs.Asked.{last-ask}
-use Rattle.promises.specs.With.{with}
-use Rattle.promises.specs.Answer.{KernelIn}
+use Rattle.promises.specs.Answer.{with, KernelIn}
 
 -- the only ones that can pass: σ by R1, and Ã and B̃ from the power sums of g
 pub record Completed (v : Values) (g : List ℕ) (w : Values) : Type 0 where

@@ -4,25 +4,22 @@
 //! in which another came up would say something wrong.
 
 use reference::call::{Call, Reply, REFUSED};
-use reference::without_sum::is_without_sum;
 
 /// Each entry with the questions that can stop it. Since request E2 question 5 stops
-/// neither solve nor kernel; 17 is request E9's, of questions without the kernel sum alone,
-/// which are counted by themselves.
-const ENTRIES: [(&str, &[usize]); 7] = [
+/// neither solve nor kernel.
+const ENTRIES: [(&str, &[usize]); 6] = [
     ("check", &[2, 3, 4, 5, 6, 7, 8, 9, 10]),
     ("push", &[2, 3, 4, 5, 6, 7, 8, 9, 10, 12]),
     ("solve", &[1, 2, 3, 4, 6, 7, 11]),
     ("kernel", &[1, 2, 3, 4, 6, 7, 8, 11]),
     ("name", &[3, 5, 7]),
     ("compose", &[1, 2, 3, 4, 5, 6, 7, 8, 9, 10, 13, 14]),
-    ("solve without the sum", &[1, 2, 3, 4, 6, 7, 11, 17]),
 ];
 
 /// Counts by entry and number; number 0 stands for accepting.
 #[derive(Clone, Default)]
 pub struct Coverage {
-    counts: [[u64; 18]; ENTRIES.len()],
+    counts: [[u64; 15]; ENTRIES.len()],
     /// Chains that all ways make, that they refuse with one number, and with several.
     chains: [u64; 3],
 }
@@ -33,7 +30,6 @@ impl Coverage {
         let (entry, number) = match call {
             Call::Check { .. } => (0, expected.number),
             Call::Push { .. } => (1, refused),
-            Call::Solve { sheet, .. } if is_without_sum(sheet) => (6, refused),
             Call::Solve { .. } => (2, refused),
             Call::Kernel { .. } => (3, refused),
             Call::Name { .. } => (4, refused),

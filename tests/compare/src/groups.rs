@@ -17,7 +17,6 @@ pub mod rational;
 pub mod reduction;
 pub mod repetition;
 pub mod search;
-pub mod without_sum;
 
 use crate::judge::Judge;
 use crate::Options;
@@ -47,7 +46,6 @@ pub fn all(options: &Options) -> Vec<Group> {
     groups.extend(by_sieve(options.quick));
     groups.extend(by_search(options.quick));
     groups.extend(by_generation(options.quick));
-    groups.extend(by_curves(options.quick, options.count));
     groups.extend(by_composition(options.quick, options.count));
     groups.extend(by_chance(options.count));
     groups.extend(by_chains(options.quick, options.count));
@@ -133,38 +131,6 @@ fn by_generation(quick: bool) -> Vec<Group> {
         ("names", limits::names),
     ];
     groups.extend(others.map(|(name, run)| group(name, move |judge| run(judge, quick))));
-    groups
-}
-
-/// Request E9. A fiftieth as many cases as the random ones are its own and as random.
-fn by_curves(quick: bool, count: u64) -> Vec<Group> {
-    let named: [(&str, WithQuick); 7] = [
-        ("form", |judge, _| without_sum::form(judge)),
-        ("rooms", |judge, _| without_sum::rooms(judge)),
-        ("edge of 17", without_sum::edge),
-        ("17 everywhere", |judge, _| {
-            without_sum::refused_fields(judge)
-        }),
-        ("damage", without_sum::damage),
-        ("remainders", without_sum::remainders),
-        ("no map", without_sum::no_map),
-    ];
-    let mut groups: Vec<Group> = Vec::new();
-    groups.extend(named.map(|(name, run)| {
-        group(format!("without sum, {name}"), move |judge| {
-            run(judge, quick)
-        })
-    }));
-    groups.extend(without_sum::fields(quick).into_iter().map(|(p, l)| {
-        group(format!("without sum p={p} l={l}"), move |judge| {
-            without_sum::every(judge, p, l, quick);
-        })
-    }));
-    groups.extend((0..2).map(|seed| {
-        group(format!("without sum, hostile {}", seed + 1), move |judge| {
-            without_sum::hostile(judge, seed, count / 100);
-        })
-    }));
     groups
 }
 

@@ -8,7 +8,6 @@ mod primes;
 mod rational;
 mod reduction;
 mod repetition;
-mod without_sum;
 
 use std::sync::OnceLock;
 
@@ -452,205 +451,6 @@ pub const FAULTS: &[(&str, Fault)] = &[
         "chain-own-words-unasked",
         Fault::Output(chains::own_words_unasked),
     ),
-    (
-        "without-sum-17-with-equal",
-        Fault::Output(without_sum::with_equal),
-    ),
-    (
-        "without-sum-17-unasked",
-        Fault::Output(without_sum::unasked),
-    ),
-    (
-        "without-sum-17-with-4l",
-        Fault::Output(without_sum::with_4l),
-    ),
-    (
-        "without-sum-17-in-8-bits",
-        Fault::Output(without_sum::in_8_bits),
-    ),
-    (
-        "without-sum-17-with-8l",
-        Fault::Output(without_sum::with_8l),
-    ),
-    (
-        "without-sum-17-with-3-less",
-        Fault::Output(without_sum::with_3_less),
-    ),
-    (
-        "without-sum-17-before-4",
-        Fault::Output(without_sum::before_4),
-    ),
-    (
-        "without-sum-17-after-6",
-        Fault::Output(without_sum::after_6),
-    ),
-    (
-        "without-sum-17-after-7",
-        Fault::Output(without_sum::after_7),
-    ),
-    ("without-sum-17-of-all", Fault::Output(without_sum::of_all)),
-    (
-        "without-sum-17-of-kernels",
-        Fault::Output(without_sum::of_kernels),
-    ),
-    (
-        "without-sum-by-length",
-        Fault::Output(without_sum::by_length),
-    ),
-    (
-        "without-sum-by-fewer-words",
-        Fault::Output(without_sum::by_fewer_words),
-    ),
-    (
-        "without-sum-by-whole-word",
-        Fault::Output(without_sum::by_whole_word),
-    ),
-    (
-        "without-sum-by-no-sum",
-        Fault::Output(without_sum::by_no_sum),
-    ),
-    (
-        "without-sum-by-last-word",
-        Fault::Output(without_sum::by_last_word),
-    ),
-    ("without-sum-unknown", Fault::Output(without_sum::unknown)),
-    (
-        "without-sum-six-words",
-        Fault::Input(without_sum::six_words),
-    ),
-    (
-        "without-sum-words-after-end",
-        Fault::Input(without_sum::words_after_end),
-    ),
-    (
-        "without-sum-end-value",
-        Fault::Input(without_sum::end_value),
-    ),
-    (
-        "without-sum-end-missing",
-        Fault::Input(without_sum::end_missing),
-    ),
-    (
-        "without-sum-exchanged",
-        Fault::Input(without_sum::exchanged),
-    ),
-    (
-        "without-sum-room-of-answer",
-        Fault::Output(without_sum::room_of_answer),
-    ),
-    (
-        "without-sum-room-last",
-        Fault::Output(without_sum::room_last),
-    ),
-    (
-        "without-sum-kernel-takes",
-        Fault::Input(without_sum::kernel_takes),
-    ),
-    (
-        "without-sum-check-takes",
-        Fault::Output(without_sum::check_takes),
-    ),
-    (
-        "without-sum-check-no-sigma",
-        Fault::Input(without_sum::check_without_sigma),
-    ),
-    (
-        "without-sum-compose-no-sigma",
-        Fault::Input(without_sum::compose_without_sigma),
-    ),
-    ("without-sum-turned", Fault::Output(without_sum::turned)),
-    ("without-sum-halved", Fault::Output(without_sum::halved)),
-    ("without-sum-doubled", Fault::Output(without_sum::doubled)),
-    (
-        "without-sum-turned-written",
-        Fault::Output(without_sum::turned_in_writing),
-    ),
-    (
-        "without-sum-halved-written",
-        Fault::Output(without_sum::halved_in_writing),
-    ),
-    (
-        "without-sum-unreduced-written",
-        Fault::Output(without_sum::unreduced_in_writing),
-    ),
-    (
-        "without-sum-unwritten",
-        Fault::Output(without_sum::unwritten),
-    ),
-    ("without-sum-never", Fault::Output(without_sum::never)),
-    ("without-sum-not-zero", Fault::Output(without_sum::not_zero)),
-    (
-        "without-sum-below-half",
-        Fault::Output(without_sum::below_half),
-    ),
-    (
-        "without-sum-not-to-255",
-        Fault::Output(without_sum::not_to_255),
-    ),
-    ("without-sum-no-jumps", Fault::Output(without_sum::no_jumps)),
-    (
-        "without-sum-first-term-zero",
-        Fault::Output(without_sum::first_term_zero),
-    ),
-    (
-        "without-sum-term-missing",
-        Fault::Output(without_sum::term_missing),
-    ),
-    ("without-sum-no-r3", Fault::Output(without_sum::without_r3)),
-    (
-        "without-sum-r3-in-part",
-        Fault::Output(without_sum::r3_in_part),
-    ),
-    (
-        "without-sum-to-itself",
-        Fault::Output(without_sum::to_itself),
-    ),
-    ("without-sum-by-name", Fault::Output(without_sum::by_name)),
-    (
-        "without-sum-of-lower-degree",
-        Fault::Output(without_sum::of_lower_degree),
-    ),
-    ("without-sum-of-dual", Fault::Output(without_sum::of_dual)),
-    (
-        "without-sum-codomain-singular",
-        Fault::Output(without_sum::codomain_singular),
-    ),
-    (
-        "without-sum-order-6-7",
-        Fault::Output(without_sum::order_6_7),
-    ),
-    (
-        "without-sum-values-refused",
-        Fault::Output(without_sum::values_refused),
-    ),
-    (
-        "without-sum-values-written",
-        Fault::Output(without_sum::values_written),
-    ),
-    (
-        "without-sum-codomain-refused",
-        Fault::Output(without_sum::codomain_refused),
-    ),
-    (
-        "without-sum-writes-refused",
-        Fault::Memory(without_sum::writes_refused),
-    ),
-    (
-        "without-sum-writes-head-first",
-        Fault::Memory(without_sum::writes_head_first),
-    ),
-    (
-        "without-sum-writes-after-count",
-        Fault::Memory(without_sum::writes_after_count),
-    ),
-    (
-        "without-sum-reads-eighth",
-        Fault::Memory(without_sum::reads_eighth),
-    ),
-    (
-        "without-sum-sheet-filled",
-        Fault::Memory(without_sum::sheet_filled),
-    ),
 ];
 
 /// The fault that the environment names, if it names one.
@@ -994,18 +794,13 @@ fn r3_at_two_points(call: &Call, reply: Reply) -> Reply {
     })
 }
 
-/// The question with its kernel sum that solve has no answer to.
-fn unanswered(call: &Call, reply: &Reply) -> Option<Question> {
-    match call {
-        Call::Solve { sheet, .. } if refusal(call, reply) == 11 => Question::read(sheet).ok(),
-        _ => None,
-    }
-}
-
 fn solve_without_r3(call: &Call, reply: Reply) -> Reply {
-    match unanswered(call, &reply) {
-        Some(question) => Reply::written(services::recurrence_candidate(&question).words()),
-        None => reply,
+    match call {
+        Call::Solve { sheet, .. } if refusal(call, &reply) == 11 => {
+            let question = Question::read(sheet).expect("11 comes after 2 to 7");
+            Reply::written(services::recurrence_candidate(&question).words())
+        }
+        _ => reply,
     }
 }
 

@@ -6,7 +6,7 @@
 //! also put for any g, in the parts of the reference, and with l = p + 2 certificates
 //! that question 4 alone refuses. With each g goes the count of its rational abscissas.
 //! Maps that meet are composed, and PARI composes its own maps with these kernels; three of
-//! them from either side. Of some maps solve is told nothing but the curves and the degree.
+//! them from either side.
 //! Usage: pari SCRIPT
 
 #[path = "../../compare/src/entries.rs"]
@@ -31,7 +31,6 @@ use reference::rules;
 use reference::services::{self, Point};
 use reference::sheet::{self, value, Certificate, KernelSheet, Question};
 use reference::unreduced::sometimes_raised;
-use reference::without_sum::{ask_larger_prime, CurvePair};
 
 /// Affine points that go through each isogeny from a rational kernel.
 const POINTS: usize = 3;
@@ -119,10 +118,6 @@ struct Script {
     composed: std::collections::BTreeSet<(u64, u64)>,
     /// Chains of three maps, composed from either side.
     chains: usize,
-    /// Maps whose prime is large enough for a question without the kernel sum, and those of
-    /// which it was put.
-    could: usize,
-    without_sum: usize,
     /// Certificates that question 4 alone refuses.
     beyond: usize,
     /// Polynomials g of which the parts of N are written.
@@ -350,36 +345,6 @@ impl Script {
         self.solved += 1;
     }
 
-    /// For each third map solve must find the sum, too. PARI compares what it writes with the
-    /// isogeny that it computed last, from the kernel.
-    fn solve_without_sum(&mut self, random: &mut Random, certificate: &Certificate) {
-        let pair = CurvePair::from_question(&certificate.question);
-        if ask_larger_prime(pair.l, pair.p).is_err() {
-            return;
-        }
-        self.could += 1;
-        if self.could % 3 != 0 {
-            return;
-        }
-        let asked = sometimes_raised(random, &pair.words());
-        let what = "solve without the sum";
-        let Some(words) = self.answer(what, |answer| entries::solve(&asked, answer)) else {
-            return;
-        };
-        let Some(found) = self.certificate(what, &words) else {
-            return;
-        };
-        if CurvePair::from_question(&found.question) != pair {
-            self.difference(format!("solve answers another question than {asked:08x?}"));
-        }
-        let (q, g, n) = (&found.question, list(&found.g), list(&found.n));
-        self.line(format!(
-            "without_sum({},{},{},{},{g},{n},{});",
-            q.p, q.a_t, q.b_t, q.sigma, found.rational
-        ));
-        self.without_sum += 1;
-    }
-
     /// The dual has a kernel that only solve knows.
     fn dual(&mut self, random: &mut Random, certificate: &Certificate) {
         let question = generate::dual_question(certificate);
@@ -394,8 +359,6 @@ impl Script {
             dual.question = Question::of(std::array::from_fn(|i| value(asked[i])));
             self.isogeny(&dual);
             self.solved += 1;
-            dual.question = question;
-            self.solve_without_sum(random, &dual);
         }
     }
 
@@ -430,7 +393,6 @@ impl Script {
             .map(|&w| value(w))
             .collect();
         self.isogeny(&as_asked);
-        self.solve_without_sum(random, &certificate);
         for _ in 0..POINTS {
             let on_domain = curve.random_point(random);
             self.push(&words, on_domain);
@@ -626,7 +588,6 @@ fn main() -> ExitCode {
         infinities,
         compositions,
         chains,
-        without_sum,
         beyond,
         sums,
         names,
@@ -639,7 +600,6 @@ fn main() -> ExitCode {
         infinities,
         compositions,
         chains,
-        without_sum,
         beyond,
         sums,
         names,
@@ -652,8 +612,8 @@ fn main() -> ExitCode {
     let [none, some, all] = script.shares;
     println!(
         "{isogenies} kernels of {degrees} degrees over {primes} primes, {none} with no, {some} with \
-        some and {all} with all abscissas rational, {} questions solved, {without_sum} without the sum, \
-        {compositions} pairs of maps composed, {chains} chains of three from either side",
+        some and {all} with all abscissas rational, {} questions solved, {compositions} pairs of maps composed, \
+        {chains} chains of three from either side",
         script.solved
     );
     // So many pairs of odd degrees have a product of at most 255.

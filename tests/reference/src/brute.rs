@@ -38,17 +38,6 @@ pub fn all_pairs(p: u64) -> impl Iterator<Item = (u64, u64)> {
     (0..p).flat_map(move |a| (0..p).map(move |b| (a, b)))
 }
 
-/// The domains that come first among those that twists join: with t the map from (A, B) to
-/// (A~, B~) with sigma becomes one from (t^2 A, t^3 B) to (t^2 A~, t^3 B~) with t sigma, so
-/// that with all codomains they stand for all pairs of curves.
-pub fn first_domains(p: u64) -> Vec<(u64, u64)> {
-    let k = Field::new(p);
-    let twisted = |(a, b), t| (k.mul(a, k.pow(t, 2)), k.mul(b, k.pow(t, 3)));
-    let is_first = |&(a, b): &(u64, u64)| (1..p).all(|t| (a, b) <= twisted((a, b), t));
-    let curves = all_pairs(p).filter(|&(a, b)| is_curve(p, a, b));
-    curves.filter(is_first).collect()
-}
-
 /// Every g and codomain that meet R1 to R3 for this domain and degree, with
 /// the sigma that R1 gives; codomains that fail question 7 are among them.
 pub fn all_isogenies(p: u64, a: u64, b: u64, l: u64) -> Vec<Certificate> {

@@ -4,7 +4,6 @@
 
 use crate::services::{self, Checked, Named, Point, Pushed, Written};
 use crate::sheet::{self, Certificate, Refusal};
-use crate::without_sum::{ask_larger_prime, CurvePair};
 
 /// The number that stands for infinity; larger ones are no points.
 pub const INFINITY: u64 = 1 << 56;
@@ -76,18 +75,12 @@ pub fn point_number(point: Point) -> u64 {
 /// A call of solve or kernel with these words.
 pub type Put = fn(&[u32]) -> Call;
 
-/// The sheets that a certificate answers, each with its service: the question without the
-/// kernel sum is the last, if the prime is large enough for it.
-pub fn answered(certificate: &Certificate) -> Vec<(Put, Vec<u32>)> {
-    let pair = CurvePair::from_question(&certificate.question);
-    let mut sheets: Vec<(Put, Vec<u32>)> = vec![
+/// The sheets that a certificate answers, each with its service.
+pub fn answered(certificate: &Certificate) -> [(Put, Vec<u32>); 2] {
+    [
         (Call::solve, certificate.question.words()),
         (Call::kernel, certificate.kernel_sheet().words()),
-    ];
-    if ask_larger_prime(pair.l, pair.p).is_ok() {
-        sheets.push((Call::solve, pair.words()));
-    }
-    sheets
+    ]
 }
 
 /// None for a number above 2^56.

@@ -37,11 +37,6 @@ impl Field {
         a * b % self.p
     }
 
-    /// ab + c, which fits a u64 as well.
-    pub fn mul_add(self, a: u64, b: u64, c: u64) -> u64 {
-        (a * b + c) % self.p
-    }
-
     pub fn pow(self, a: u64, exponent: u64) -> u64 {
         let mut result = 1;
         let mut square = a;

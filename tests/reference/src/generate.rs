@@ -13,7 +13,6 @@ use crate::rational::roots_by_squares;
 use crate::rules;
 use crate::services;
 use crate::sheet::{self, Certificate, Question};
-use crate::without_sum::CurvePair;
 
 pub fn random_curve(random: &mut Random, p: u64) -> Curve {
     loop {
@@ -319,35 +318,6 @@ pub fn dual_question(certificate: &Certificate) -> Question {
 /// The dual, on the curve that its certificate's codomain is.
 pub fn dual(certificate: &Certificate) -> Certificate {
     services::solution(&dual_question(certificate)).expect("every isogeny has a dual")
-}
-
-/// The curves of a step of degree 2, normalized: with f(r) = 0 and v = 3r^2 + A the map is
-/// x + v/(x - r), so h_1 = v and h_2 = rv.
-pub fn step_of_degree_2(random: &mut Random, p: u64) -> CurvePair {
-    let k = Field::new(p);
-    loop {
-        let (r, a) = (random.below(p), random.below(p));
-        let b = k.neg(k.mul(r, k.add(k.mul(r, r), a)));
-        let v = k.add(k.mul(3, k.mul(r, r)), a);
-        let a_t = k.sub(a, k.mul(5, v));
-        let b_t = k.sub(b, k.mul(7, k.mul(r, v)));
-        if is_curve(p, a, b) && is_curve(p, a_t, b_t) {
-            return CurvePair::of([p, a, b, a_t, b_t, 2]);
-        }
-    }
-}
-
-/// The curves of a certificate with the codomain twisted by t, which is no square, if the
-/// domain has not p + 1 points: then the two have different numbers of points.
-pub fn codomain_twisted(random: &mut Random, certificate: &Certificate) -> Option<CurvePair> {
-    let mut pair = CurvePair::from_question(&certificate.question);
-    let (p, k) = (pair.p, pair.field());
-    let domain = Curve::new(p, pair.a, pair.b);
-    let point = domain.random_point(random);
-    let t = (2..p).find(|&t| !k.is_square(t)).expect("half are none");
-    pair.a_t = k.mul(pair.a_t, k.pow(t, 2));
-    pair.b_t = k.mul(pair.b_t, k.pow(t, 3));
-    (domain.multiple(point, p + 1) != services::Point::Infinity).then_some(pair)
 }
 
 /// A question between two random curves; most have no answer.

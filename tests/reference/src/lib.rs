@@ -1,6 +1,6 @@
 //! An independent implementation of document 01 and of the requests of document 02
 //! that have landed: normalized isogenies of odd degree between elliptic curves
-//! over a prime field.
+//! over a prime field. Request E9 stands beside them (`without_sum`) until it lands.
 //!
 //! It is written from these documents alone and serves as the expectation in
 //! comparisons with the C library. It prefers the shortest route from their

@@ -3,7 +3,6 @@
 //! prints a g but no N, N is taken from R2. The parts of N are document 02's, and so
 //! are what became of A = p, the room of 393 words and the first sheet's count of
 //! rational abscissas, and request E1's case; the other counts are those that PARI/GP gives.
-//! Questions without the kernel sum follow from these and from request E9's order.
 
 use crate::call::{point_number, Call, Reply};
 use crate::field::Field;
@@ -11,7 +10,6 @@ use crate::poly::Poly;
 use crate::rules;
 use crate::services::Point;
 use crate::sheet::{word, Certificate, KernelSheet, Question, B, END, P, RATIONAL};
-use crate::without_sum::CurvePair;
 
 pub struct Row {
     pub name: &'static str,
@@ -78,7 +76,6 @@ pub fn rows() -> Vec<Row> {
     rows.extend(unreduced());
     rows.extend(rational());
     rows.extend(composed());
-    rows.extend(without_sum());
     rows
 }
 
@@ -328,68 +325,5 @@ fn composed() -> Vec<Row> {
         refused("degree 9 over 11", &smallest, &meets, 14),
         refused("the second has leading 2", &first, &leading, 8),
         refused("the first has leading 2", &leading, &smallest[1..], 8),
-    ]
-}
-
-/// Request E9: the questions over 1009 without their word of kind 7, which are answered as
-/// with it, and the form. With B~ = 878 no sum has an answer: A~ = -9A - 30 r^2 for g = x - r
-/// leaves r = 23 and r = -23, of which the first leads to 877, and the second is no root of
-/// 3x^4 + 6x^2 + 36x - 1, as 23 is one. The map from (0, 1) to (0, -27) with g = x is
-/// document 01's over 11; 23 is the least prime with 8l - 5 < p for l = 3.
-fn without_sum() -> Vec<Row> {
-    let pair = |c: &Certificate| CurvePair::from_question(&c.question).words();
-    let solved = |name, answer: &Certificate| {
-        row(
-            name,
-            Call::solve(&pair(answer)),
-            Reply::written(answer.words()),
-        )
-    };
-    let refused = |name, call: Call, number| {
-        let reply = call.refusal(number);
-        row(name, call, reply)
-    };
-    let of = |values| Call::solve(&CurvePair::of(values).words());
-    let words = pair(&first());
-    let with = |more: &[u32]| Call::solve(&[&words[..6], more].concat());
-    let over_23 = certificate([23, 0, 1, 0, 19, 3, 0], &[0, 1], &[4, 0, 0, 1]);
-    let end = word(END, 0);
-    let tight = Call::Solve {
-        sheet: words.clone(),
-        room: 392,
-    };
-    let from_p_on = of([1009, 1010, 3 + 1009, 265, 877 + 2018, 3]);
-    vec![
-        solved("first question without its sum", &first()),
-        solved("kernel not cyclic, without its sum", &not_cyclic()),
-        solved("the second map without its sum", &second()),
-        solved("over 23 without its sum", &over_23),
-        row(
-            "values from p on, without the sum",
-            from_p_on,
-            Reply::written(first().words()),
-        ),
-        refused(
-            "b_t = 878 without its sum",
-            of([1009, 1, 3, 265, 878, 3]),
-            11,
-        ),
-        refused("over 11 without its sum", of([11, 0, 1, 0, 6, 3]), 17),
-        refused("8l - 5 = p", of([19, 0, 1, 0, 11, 3]), 17),
-        refused("17 before a = b = 0", of([11, 0, 0, 0, 6, 5]), 17),
-        refused("4 before 17", of([11, 0, 1, 0, 6, 7]), 4),
-        refused(
-            "a = b = 0 without its sum",
-            of([1009, 0, 0, 265, 877, 3]),
-            7,
-        ),
-        refused("six words", with(&[]), 2),
-        refused("the end has a value", with(&[word(END, 1)]), 6),
-        refused("a word after the end", with(&[end, end]), 6),
-        refused("another kind in the place", with(&[word(8, 46), end]), 2),
-        refused("a room of 392 without the sum", tight, 1),
-        refused("a certificate without its sum", Call::check(&words), 2),
-        refused("a kernel sheet of this form", Call::kernel(&words), 2),
-        refused("composed without a sum", Call::compose(&words, &words), 2),
     ]
 }

@@ -105,39 +105,42 @@ fn written(result: Result<Certificate, Refusal>) -> Written {
     }
 }
 
-/// A question with its kernel sum, or without it, as request E9 has it.
 pub fn solve(words: &[u32], room: usize) -> Written {
     written(sheet::ask_room(room).and_then(|()| {
-        let found = if without_sum::is_without_sum(words) {
-            without_sum::solution(&CurvePair::read(words)?)
-        } else {
-            solution(&Question::read(words)?)
-        };
-        found.ok_or(11)
+        let question = Question::read(words)?;
+        solution(&question).ok_or(11)
+    }))
+}
+
+/// Solve as request E9 has it, for question sheets with or without the word of kind 7. With
+/// it the answer is that of solve, which knows no other form until the request has landed.
+pub fn solve_with_or_without_sum(words: &[u32], room: usize) -> Written {
+    if !without_sum::is_without_sum(words) {
+        return solve(words, room);
+    }
+    written(sheet::ask_room(room).and_then(|()| {
+        let pair = CurvePair::read(words)?;
+        without_sum::solution(&pair).ok_or(11)
     }))
 }
 
 /// The g that the recurrence and Newton's identities give, if it meets R1 and
 /// R3 with the N of R2. The question has passed 3, 4 and 7, its values are below p.
 pub fn solution(q: &Question) -> Option<Certificate> {
-    let (g, n) = recurrence(q);
-    let meets = rules::r1(&g, q.d(), q.sigma) && R3::new(q.a, q.b, &g, &n).holds(q.a_t, q.b_t);
-    meets.then(|| certificate(q.clone(), &g, &n))
+    let candidate = recurrence_candidate(q);
+    let (g, _) = candidate.polynomials();
+    let meets = rules::r1(&g, q.d(), q.sigma) && R3::of(&candidate).holds(q.a_t, q.b_t);
+    meets.then_some(candidate)
 }
 
 /// The only g that can answer a question, with the N of R2; R3 not asked.
 pub fn recurrence_candidate(q: &Question) -> Certificate {
-    let (g, n) = recurrence(q);
-    certificate(q.clone(), &g, &n)
-}
-
-fn recurrence(q: &Question) -> (Poly, Poly) {
     let field = q.field();
     let h = rules::expansion(field, (q.a, q.b), (q.a_t, q.b_t), q.d());
     let s = rules::power_sums_from_h(field, q.a, q.b, q.l, q.sigma, &h);
     let g = rules::from_power_sums(field, q.d(), &s);
     let n = rules::r2(q.a, q.b, q.l, q.sigma, &g);
-    (g, n)
+    certificate(q.clone(), &g, &n)
 }
 
 pub fn kernel(words: &[u32], room: usize) -> Written {

@@ -2,22 +2,17 @@
 //! them: document 01's order of questions as cases. Each spoiler makes one
 //! question fail and leaves those before it alone. Question 5, and question 6 for
 //! the size of a coefficient, can fail on certificates only, as request E2 has it.
-//! Question 17 is asked after 4, of questions without the kernel sum (request E9).
 
 use crate::call::{Call, INFINITY};
-use crate::primes::{next_prime, previous_prime};
 use crate::sheet::{self, kind, value, word, Certificate, Refusal};
 use crate::sheet::{A, A_T, B, B_T, END, G, L, N, P, RATIONAL, SIGMA};
 use crate::unreduced;
-use crate::without_sum::{self, CurvePair};
 
 #[derive(Clone, Copy, Debug, PartialEq, Eq)]
 pub enum Service {
     Check,
     Push,
     Solve,
-    /// Solve, for a question without the kernel sum.
-    SolveWithoutSum,
     Kernel,
 }
 
@@ -39,11 +34,10 @@ pub struct Spoiler {
 }
 
 impl Service {
-    pub const ALL: [Service; 5] = [
+    pub const ALL: [Service; 4] = [
         Service::Check,
         Service::Push,
         Service::Solve,
-        Service::SolveWithoutSum,
         Service::Kernel,
     ];
 
@@ -58,7 +52,6 @@ impl Draft {
         let words = match service {
             Service::Check | Service::Push => certificate.words(),
             Service::Solve => certificate.question.words(),
-            Service::SolveWithoutSum => CurvePair::from_question(&certificate.question).words(),
             Service::Kernel => certificate.kernel_sheet().words(),
         };
         Draft {
@@ -104,15 +97,11 @@ impl Draft {
     }
 
     fn head(&self) -> usize {
-        match self.service {
-            Service::Kernel => sheet::KERNEL_HEAD.len(),
-            Service::SolveWithoutSum => without_sum::HEAD.len(),
-            _ => sheet::QUESTION_HEAD.len(),
+        if self.service == Service::Kernel {
+            sheet::KERNEL_HEAD.len()
+        } else {
+            sheet::QUESTION_HEAD.len()
         }
-    }
-
-    fn l(&self) -> u64 {
-        value(self.words[self.position(L)])
     }
 
     pub fn call(&self) -> Call {
@@ -125,7 +114,7 @@ impl Draft {
                 bytes,
                 point: self.point,
             },
-            Service::Solve | Service::SolveWithoutSum => Call::Solve { sheet, room },
+            Service::Solve => Call::Solve { sheet, room },
             Service::Kernel => Call::Kernel { sheet, room },
         }
     }
@@ -136,15 +125,7 @@ fn list(number: Refusal, spoils: &[fn(&mut Draft)]) -> Vec<Spoiler> {
     spoilers.map(|&spoil| Spoiler { number, spoil }).collect()
 }
 
-/// The place of a question in their order: 17 comes after 4.
-fn place(number: Refusal) -> u32 {
-    match number {
-        17 => 2 * 4 + 1,
-        _ => 2 * number,
-    }
-}
-
-/// All spoilers for a service, those of the last question first.
+/// All spoilers for a service, by falling number of their question.
 pub fn spoilers(service: Service) -> Vec<Spoiler> {
     let mut all = late(service);
     all.extend(common(service));
@@ -168,7 +149,6 @@ fn late(service: Service) -> Vec<Spoiler> {
             ],
         )),
         Service::Solve => all.extend(list(11, &[|s| s.next(B_T), |s| s.next(SIGMA)])),
-        Service::SolveWithoutSum => all.extend(list(11, &[|s| s.next(B_T), |s| s.next(A)])),
         Service::Kernel => {
             all.extend(list(11, &[|s| s.next(G)]));
             all.extend(list(
@@ -235,19 +215,11 @@ fn common(service: Service) -> Vec<Spoiler> {
             |s| s.words.extend([word(P, 11); 400]),
             |s| s.set_last(END, 1),
             |s| s.set_last(END, s.p),
+            |s| s.words.truncate(s.words.len() - 1),
+            |s| s.words.truncate(s.head()),
         ],
     ));
-    // Without its end, a question without the sum has too few words for any question.
-    if service != Service::SolveWithoutSum {
-        all.extend(list(
-            6,
-            &[
-                |s| s.words.truncate(s.words.len() - 1),
-                |s| s.words.truncate(s.head()),
-            ],
-        ));
-    }
-    if !matches!(service, Service::Solve | Service::SolveWithoutSum) {
+    if service != Service::Solve {
         all.extend(list(
             6,
             &[
@@ -293,16 +265,6 @@ fn common(service: Service) -> Vec<Spoiler> {
             ],
         ));
     }
-    if service == Service::SolveWithoutSum {
-        // The least and the largest prime that passes 4 and not 17.
-        all.extend(list(
-            17,
-            &[
-                |s| s.set(P, next_prime((2 * s.l()).max(11))),
-                |s| s.set(P, previous_prime(8 * s.l() - 5)),
-            ],
-        ));
-    }
     all.extend(list(
         4,
         &[
@@ -344,17 +306,6 @@ fn early(service: Service) -> Vec<Spoiler> {
             |s| s.words.swap(1, 2),
         ],
     );
-    if service == Service::SolveWithoutSum {
-        all.extend(list(
-            2,
-            &[
-                |s| s.words.truncate(s.head()),
-                // Of another kind than 15 it makes the sheet a question with its sum.
-                |s| s.words[6] = word(G, 0),
-                |s| s.words[6] = word(0, 0),
-            ],
-        ));
-    }
     if service.is_strict() {
         all.extend(list(
             2,
@@ -371,8 +322,8 @@ fn early(service: Service) -> Vec<Spoiler> {
 
 /// Every choice of at most three spoilers with different numbers, and the
 /// number that the call must get; for sheets whose values are reduced, also with
-/// values from p on. The last question's is applied first: a later one may undo an
-/// earlier one, never the other way round.
+/// values from p on. Applied by falling number: a later one may undo an earlier
+/// one, never the other way round.
 pub fn cases(service: Service, certificate: &Certificate) -> Vec<(Call, Refusal)> {
     let all = spoilers(service);
     let draft = Draft::new(service, certificate);
@@ -402,8 +353,7 @@ fn extend_cases(draft: &Draft, left: &[Spoiler], depth: usize, cases: &mut Vec<(
         let mut spoiled = draft.clone();
         (spoiler.spoil)(&mut spoiled);
         cases.push((spoiled.call(), spoiler.number));
-        let lower = left[i..].iter();
-        let lower = lower.filter(|s| place(s.number) < place(spoiler.number));
+        let lower = left[i..].iter().filter(|s| s.number < spoiler.number);
         if depth > 1 {
             let lower: Vec<Spoiler> = lower.copied().collect();
             extend_cases(&spoiled, &lower, depth - 1, cases);

@@ -110,13 +110,9 @@ pub fn by_search(pair: &CurvePair) -> Vec<Certificate> {
 /// If some sigma has a g, the denominator is g^2, and in g^2 the coefficient of x^(l - 2)
 /// is -sigma, by R1. So this is the only sigma to ask.
 pub fn by_elimination(pair: &CurvePair) -> Option<Certificate> {
-    services::solution(&pair.with(sum_of(&denominator(pair)?)))
-}
-
-/// The sigma that R1 makes of a denominator g^2.
-pub fn sum_of(denominator: &Poly) -> u64 {
-    let degree = denominator.degree().expect("not 0");
-    denominator.field().neg(denominator.at(degree - 1))
+    let denominator = denominator(pair)?;
+    let sigma = pair.field().neg(denominator.at(pair.l as usize - 2));
+    services::solution(&pair.with(sigma))
 }
 
 /// The monic D of degree n = l - 1, if there is just one, for which D times the expansion
@@ -128,18 +124,10 @@ pub fn sum_of(denominator: &Poly) -> u64 {
 /// only one. The recurrence reaches h_2n, as its divisors, up to 4n + 3 = 4l - 1, are not 0
 /// with 8l - 5 < p.
 pub fn denominator(pair: &CurvePair) -> Option<Poly> {
-    denominator_of(pair.field(), &terms(pair))
-}
-
-/// h_0 = 0 and h_1 to h_2n.
-pub fn terms(pair: &CurvePair) -> Vec<u64> {
+    let field = pair.field();
+    let n = pair.l as usize - 1;
     let (domain, codomain) = ((pair.a, pair.b), (pair.a_t, pair.b_t));
-    rules::expansion(pair.field(), domain, codomain, 2 * pair.l as usize - 1)
-}
-
-/// The same for any such terms.
-pub fn denominator_of(field: Field, h: &[u64]) -> Option<Poly> {
-    let n = (h.len() - 1) / 2;
+    let h = rules::expansion(field, domain, codomain, 2 * n + 1);
     // At 1/x^j: the sum of D's coefficient of x^i times h_(i + j), i from 0 to n, is 0.
     let equation = |j: usize| {
         let mut row = h[j..=j + n].to_vec();
@@ -149,22 +137,6 @@ pub fn denominator_of(field: Field, h: &[u64]) -> Option<Poly> {
     let mut coefficients = eliminate(field, (1..=n).map(equation).collect())?;
     coefficients.push(1);
     Some(Poly::new(field, coefficients))
-}
-
-/// The degrees of the quotients that Euclid's algorithm makes of g^2 and what is left of N
-/// divided by it: each is 1 unless the degrees of the remainders jump.
-pub fn quotient_degrees(certificate: &Certificate) -> Vec<usize> {
-    let (g, n) = certificate.polynomials();
-    let square = g.square();
-    let (_, rest) = n.div_rem(&square);
-    let mut degrees = Vec::new();
-    let (mut a, mut b) = (square, rest);
-    while !b.is_zero() {
-        let (quotient, remainder) = a.div_rem(&b);
-        degrees.extend(quotient.degree());
-        (a, b) = (b, remainder);
-    }
-    degrees
 }
 
 /// The solution of n equations in n unknowns, each a row of n coefficients and the right
@@ -178,9 +150,9 @@ pub fn eliminate(field: Field, mut rows: Vec<Vec<u64>>) -> Option<Vec<u64>> {
         let pivot = &above[column][column..];
         let inverse = field.inv(pivot[0]);
         for row in below {
-            let factor = field.neg(field.mul(row[column], inverse));
+            let factor = field.mul(row[column], inverse);
             for (entry, &top) in row[column..].iter_mut().zip(pivot) {
-                *entry = field.mul_add(factor, top, *entry);
+                *entry = field.sub(*entry, field.mul(factor, top));
             }
         }
     }

@@ -4,21 +4,19 @@
 
 use std::collections::{BTreeSet, HashMap};
 
-use reference::brute::{all_isogenies, all_pairs, first_domains, is_curve};
+use reference::brute::{all_isogenies, all_pairs, is_curve};
 use reference::curve::Curve;
 use reference::field::Field;
-use reference::generate::{self, dual, random_curve, rescale, step_of_degree_2, twist};
-use reference::generate::{codomain_twisted, with_multiplications};
+use reference::generate::{self, dual, random_curve, rescale, twist, with_multiplications};
 use reference::marked;
 use reference::poly::Poly;
 use reference::primes::{is_prime, next_prime, previous_prime};
 use reference::random::Random;
-use reference::services::{self, solve, Written};
+use reference::services::{self, solve, solve_with_or_without_sum, Point, Written};
 use reference::sheet::{kind, word, Certificate, Refusal};
 use reference::sheet::{A, A_T, B, B_T, END, G, L, LARGEST_CERTIFICATE, P, SIGMA};
 use reference::unreduced::{alike, greatest, places, raised};
-use reference::without_sum::{by_elimination, by_search, denominator, eliminate};
-use reference::without_sum::{quotient_degrees, CurvePair};
+use reference::without_sum::{by_elimination, by_search, denominator, eliminate, CurvePair};
 
 const LARGEST: u64 = 268435399;
 
@@ -33,15 +31,21 @@ fn passes_17(l: u64, p: u64) -> bool {
 }
 
 fn asked(words: &[u32]) -> Written {
-    solve(words, LARGEST_CERTIFICATE)
+    solve_with_or_without_sum(words, LARGEST_CERTIFICATE)
 }
 
 fn pair_of(certificate: &Certificate) -> CurvePair {
     CurvePair::from_question(&certificate.question)
 }
 
+/// The sheet gets this number, and until the request lands solve gives it 2 as before, or
+/// the same number where it is not of the new form.
 fn refused(words: &[u32], number: Refusal) {
     assert_eq!(asked(words), Written::Refused(number), "{words:08x?}");
+    let is_new = words.len() > 6 && kind(words[6]) == END;
+    let before = if is_new { 2 } else { number };
+    let answer = solve(words, LARGEST_CERTIFICATE);
+    assert_eq!(answer, Written::Refused(before), "{words:08x?}");
 }
 
 /// Its curves and degree, with the sum and without it, give the certificate back.
@@ -49,6 +53,17 @@ fn gives_itself_back(certificate: &Certificate) {
     let written = Written::Words(certificate.words());
     assert_eq!(asked(&pair_of(certificate).words()), written);
     assert_eq!(asked(&certificate.question.words()), written);
+}
+
+/// The domains that come first among those that twists join: with t the map from (A, B) to
+/// (A~, B~) with sigma becomes one from (t^2 A, t^3 B) to (t^2 A~, t^3 B~) with t sigma, so
+/// that with all codomains they stand for all pairs of curves.
+fn first_domains(p: u64) -> Vec<(u64, u64)> {
+    let k = Field::new(p);
+    let twisted = |(a, b), t| (k.mul(a, k.pow(t, 2)), k.mul(b, k.pow(t, 3)));
+    let is_first = |&(a, b): &(u64, u64)| (1..p).all(|t| (a, b) <= twisted((a, b), t));
+    let curves = all_pairs(p).filter(|&(a, b)| is_curve(p, a, b));
+    curves.filter(is_first).collect()
 }
 
 /// Certificates by their curves. There may be more than one for two curves.
@@ -361,15 +376,39 @@ fn curves_of_another_degree() {
     }
 }
 
-/// Curves with different numbers of points have no map between them.
+/// The curves of a step of degree 2, normalized: with f(r) = 0 and v = 3r^2 + A the map is
+/// x + v/(x - r), so h_1 = v and h_2 = rv.
+fn step_of_degree_2(random: &mut Random, p: u64) -> CurvePair {
+    let k = Field::new(p);
+    loop {
+        let (r, a) = (random.below(p), random.below(p));
+        let b = k.neg(k.mul(r, k.add(k.mul(r, r), a)));
+        let v = k.add(k.mul(3, k.mul(r, r)), a);
+        let a_t = k.sub(a, k.mul(5, v));
+        let b_t = k.sub(b, k.mul(7, k.mul(r, v)));
+        if is_curve(p, a, b) && is_curve(p, a_t, b_t) {
+            return CurvePair::of([p, a, b, a_t, b_t, 2]);
+        }
+    }
+}
+
+/// Curves with different numbers of points have no map between them: the codomain is
+/// twisted by t, which is no square, and the domain has not p + 1 points.
 #[test]
 fn codomains_with_other_numbers_of_points() {
     let mut random = Random::new(95);
     let mut count = 0;
     for p in [521, 1009, 65521, LARGEST] {
+        let k = Field::new(p);
         let wanted: Vec<u64> = (3..=61).step_by(2).collect();
         for certificate in generate::from_points(&mut random, p, &wanted, 500) {
-            if let Some(pair) = codomain_twisted(&mut random, &certificate) {
+            let mut pair = pair_of(&certificate);
+            let domain = Curve::new(p, pair.a, pair.b);
+            let point = domain.random_point(&mut random);
+            let t = (2..p).find(|&t| !k.is_square(t)).expect("half are none");
+            pair.a_t = k.mul(pair.a_t, k.pow(t, 2));
+            pair.b_t = k.mul(pair.b_t, k.pow(t, 3));
+            if domain.multiple(point, p + 1) != Point::Infinity {
                 refused(&pair.words(), 11);
                 count += 1;
             }
@@ -432,63 +471,6 @@ fn elimination_against_search() {
         }
     }
     assert!(with > 50 && without > 200, "{with}, {without}");
-}
-
-/// Where the degrees of Euclid's remainders fall by more than 1: by chance over small primes,
-/// and with A = 0 on both curves always, as each third term of the expansion alone is not 0.
-/// With B = 0 on both each second term is 0, and each quotient is a multiple of x or of an
-/// odd power of it. Such certificates are given back; the quotients make up the degree of g^2.
-#[test]
-fn remainders_that_jump() {
-    let mut random = Random::new(99);
-    let mut list = Vec::new();
-    for (values, jumps) in [
-        ([167, 70, 51, 122, 83, 21], true),
-        ([197, 78, 148, 78, 170, 25], true),
-        ([1009, 1, 3, 265, 877, 3], false),
-    ] {
-        let pair = CurvePair::of(values);
-        let [answer] = &by_search(&pair)[..] else {
-            panic!("one sum works for {pair:?}");
-        };
-        let degrees = quotient_degrees(answer);
-        assert_eq!(degrees.iter().any(|&degree| degree > 1), jumps);
-        list.push(answer.clone());
-    }
-    // With A~ = A the first term is 0.
-    assert!(quotient_degrees(&list[1])[0] > 1);
-    for (p, a, b) in [(211, 0, 1), (211, 1, 0), (LARGEST, 0, 5), (LARGEST, 5, 0)] {
-        for m in [3, 5, 7, 9, 11].into_iter().filter(|m| passes_17(m * m, p)) {
-            let certificate = generate::multiplication(&Curve::new(p, a, b), m);
-            let degrees = quotient_degrees(&certificate);
-            match a {
-                0 => assert!(degrees.iter().any(|&degree| degree > 1)),
-                _ => assert!(degrees.iter().all(|&degree| degree % 2 == 1)),
-            }
-            gives_itself_back(&certificate);
-        }
-    }
-    for p in [71, 131, 263] {
-        let lawful: Vec<u64> = degrees().filter(|&l| passes_17(l, p)).collect();
-        for _ in 0..20 {
-            list.extend(generate::from_points(&mut random, p, &lawful, 30));
-        }
-    }
-    let mut jumps = 0;
-    for certificate in &list {
-        let degrees = quotient_degrees(certificate);
-        assert_eq!(
-            degrees.iter().sum::<usize>() as u64,
-            certificate.question.l - 1
-        );
-        jumps += usize::from(degrees.iter().any(|&degree| degree > 1));
-        gives_itself_back(certificate);
-    }
-    assert!(
-        jumps > 20 && jumps < list.len() / 2,
-        "{jumps} of {}",
-        list.len()
-    );
 }
 
 /// All systems of two equations over 5: (p^2 - 1)(p^2 - p) matrices have an inverse. Larger
@@ -572,6 +554,14 @@ fn marked_questions() {
     let marked = [marked::first(), marked::not_cyclic(), marked::second()];
     marked.iter().for_each(gives_itself_back);
     refused(&with_value(4, 878), 11);
+    // The rows for questions with a sum are as before, and so is every other row.
+    for row in marked::rows() {
+        if let reference::call::Call::Solve { sheet, room } = &row.call {
+            let before = solve(sheet, *room);
+            assert_eq!(solve_with_or_without_sum(sheet, *room), before);
+        }
+        assert_eq!(row.call.reply(), row.reply, "{}", row.name);
+    }
 }
 
 /// Over 23, the least prime that passes 17: from (0, 1) to (0, -27), g = x, N = x^3 + 4, as
@@ -762,12 +752,12 @@ fn order_of_questions() {
         }
         let first = ORDER.into_iter().find(|&number| fails(number));
         let expected = Written::Refused(first.expect("one fails"));
-        assert_eq!(solve(&words, room), expected);
+        assert_eq!(solve_with_or_without_sum(&words, room), expected);
     }
     for room in 0..LARGEST_CERTIFICATE {
         let refused = Written::Refused(1);
-        assert_eq!(solve(&FIRST, room), refused);
-        assert_eq!(solve(&[], room), refused);
+        assert_eq!(solve_with_or_without_sum(&FIRST, room), refused);
+        assert_eq!(solve_with_or_without_sum(&[], room), refused);
     }
 }
 
@@ -794,26 +784,17 @@ fn other_sheets() {
     }
 }
 
-/// A question with its sum is never asked 17: over 11, 13 and 19 each has the answer that
-/// search finds, or none.
+/// A question with its sum is answered as before, whatever 8l - 5 is.
 #[test]
 fn questions_with_their_sum() {
-    for (p, l) in [(11, 3), (11, 5), (13, 3), (19, 3)] {
-        assert!(!passes_17(l, p));
-        let domains = [(0, 1), (1, 0), (1, 3), (2, 0), (5, 7)];
-        for (a, b) in domains.into_iter().filter(|&(a, b)| is_curve(p, a, b)) {
-            let found = by_curves(all_isogenies(p, a, b, l));
-            for (a_t, b_t) in all_pairs(p).filter(|&(a_t, b_t)| is_curve(p, a_t, b_t)) {
-                let pair = CurvePair::of([p, a, b, a_t, b_t, l]);
-                let answers = found.get(&pair).map_or(&[][..], Vec::as_slice);
-                for sigma in 0..p {
-                    let answer = answers.iter().find(|c| c.question.sigma == sigma);
-                    let expected = match answer {
-                        Some(certificate) => Written::Words(certificate.words()),
-                        None => Written::Refused(11),
-                    };
-                    assert_eq!(asked(&pair.with(sigma).words()), expected);
-                }
+    let mut random = Random::new(98);
+    for p in [11, 13, 19, 23, 101, 1009, LARGEST] {
+        for l in [3, 5, 7, 25, 127, 255] {
+            for _ in 0..20 {
+                let question = generate::random_question(&mut random, p, l);
+                let words = raised(&mut random, &question.words());
+                let before = solve(&words, LARGEST_CERTIFICATE);
+                assert_eq!(asked(&words), before);
             }
         }
     }

@@ -13,9 +13,6 @@ enum-told-2 c = search rules
 enum-told-3 : tie.Need-enum-told-3
 enum-told-3 c = search rules
 
-enum-told-4 : tie.Need-enum-told-4
-enum-told-4 c = search rules
-
 returns : tie.Need-returns
 unfolding Bounds
 returns c =
@@ -34,12 +31,6 @@ returns-3 c =
     let s = c.before.before in
     (subst (λ form. Bounds form s.args.p (2 ^ 28)) (sym c.enum-told3.given.1) (λ x l. (λ _. mod-lt x s.requires.0, λ _. l)), omega arith)
 
-returns-4 : tie.Need-returns-4
-unfolding Bounds
-returns-4 c =
-    let s = c.before.before in
-    (subst (λ form. Bounds form s.args.p (2 ^ 28)) (sym c.enum-told4.given.1) (λ x l. (λ _. mod-lt x s.requires.0, λ _. l)), omega arith)
-
 pub coefficient-bound-spec : {M : Type 1} → statement M
 coefficient-bound-spec =
-    tie.close (tie.spec enum_told enum-told-2 enum-told-3 enum-told-4 returns returns-2 returns-3 returns-4)
+    tie.close (tie.spec enum_told enum-told-2 enum-told-3 returns returns-2 returns-3)

@@ -6,7 +6,7 @@ use Rattle.sheet.specs.declared.Form.{Form}
 use Rattle.sheet.specs.declared.Values.{Values}
 use Rattle.sheet.specs.Values.{valuesOf}
 use Rattle.sheet.specs.Ready.{Ready}
-use Rattle.sheet.specs.Asked.{Asked2, Asked6, Asked17, PrimeAllowed, DegreeAllowed, ValuesBelow, Curves, asked}
+use Rattle.sheet.specs.Asked.{Asked2, Asked6, PrimeAllowed, DegreeAllowed, ValuesBelow, Curves, asked}
 use Rattle.questions.specs.Tests.{refuted, shown}
 use Rattle.reading.proofs.read.Statement.{statement}
 use Rattle.reading.proofs.read.Tie as tie
@@ -31,10 +31,7 @@ passed4 c = c.before.before.before
 abbrev read-values : tie.Else4 → tie.After-values-of
 read-values c = c.before.before
 
-abbrev passed17 : tie.Else5 → tie.Else4
-passed17 c = c.before.before
-
-abbrev passed5 : tie.Else6 → tie.Else5
+abbrev passed5 : tie.Else5 → tie.Else4
 passed5 c = c.before.before
 
 -- ── the sheet, from each of them
@@ -61,10 +58,7 @@ abbrev start4 : tie.Else4 → tie.Start
 start4 c = start3 (passed4 c)
 
 abbrev start5 : tie.Else5 → tie.Start
-start5 c = start4 (passed17 c)
-
-abbrev start6 : tie.Else6 → tie.Start
-start6 c = start5 (passed5 c)
+start5 c = start4 (passed5 c)
 
 -- ── what was read is what the sheet says: p, ℓ, and the values
 
@@ -94,20 +88,16 @@ three c = subst PrimeAllowed (prime-is (read-p c)) (shown c.before.prime-allowed
 four : (c : tie.Else3) → DegreeAllowed (values (start3 c)).degree (values (start3 c)).p
 four c = subst (λ T. T) (fourth (read-degree c)) (shown c.before.degree-allowed.ensures c.if3.false)
 
-seventeen : (c : tie.Else4) → Asked17 (form (start4 c)) (values (start4 c))
-seventeen c = subst (Asked17 (form (start4 c))) (values-are (read-values c)) (shown c.before.large-enough.ensures c.if4.false)
+five : (c : tie.Else4) → ValuesBelow (values (start4 c))
+five c = subst ValuesBelow (values-are (read-values c)) (shown c.before.values-below.ensures c.if4.false)
 
-five : (c : tie.Else5) → ValuesBelow (values (start5 c))
-five c = subst ValuesBelow (values-are (read-values (passed17 c))) (shown c.before.values-below.ensures c.if5.false)
-
-six : (c : tie.Else6) → Asked6 (form (start6 c)) (words (start6 c))
-six c = shown c.before.exact.ensures c.if6.false
+six : (c : tie.Else5) → Asked6 (form (start5 c)) (words (start5 c))
+six c = shown c.before.exact.ensures c.if5.false
 
 -- 3, 4 and 5 of the values that were read
-known : (c : tie.Else5) → Ready (read-values (passed17 c)).values_of.result
+known : (c : tie.Else4) → Ready (read-values c).values_of.result
 known c =
-    let fourth = passed4 (passed17 c) in
-    subst Ready (sym (values-are (read-values (passed17 c)))) (record { prime = three (passed3 fourth); degree = four fourth; below = five c })
+    subst Ready (sym (values-are (read-values c))) (record { prime = three (passed3 (passed4 c)); degree = four (passed4 c); below = five c })
 
 -- ── the needs
 
@@ -154,10 +144,8 @@ values-of-requires c κs =
     let p = shown third.before.prime-allowed.ensures third.if2.left in
     (omega (arith, p.least), prime-is (read-p third), degree-is read)
 
-large-enough-requires : tie.Need-large-enough-requires
-large-enough-requires c κs =
-    let fourth = c.before in
-    subst (λ v. DegreeAllowed v.degree v.p) (sym (values-are c)) (four fourth)
+values-below-requires : tie.Need-values-below-requires
+values-below-requires c κs = search rules
 
 returns-4 : tie.Need-returns-4
 returns-4 c =
@@ -165,62 +153,45 @@ returns-4 c =
     let fourth = read.before in
     let third = passed3 fourth in
     let s = start3 fourth in
-    first-no (asked (form s) (words s)) 17 tt (two (passed2 third), (three third, (four fourth, tt)))
-    (λ h. refuted c.before.large-enough.ensures c.if4.true (subst (Asked17 (form s)) (sym (values-are read)) h))
-
-values-below-requires : tie.Need-values-below-requires
-values-below-requires c κs = search rules
-
-returns-5 : tie.Need-returns-5
-returns-5 c =
-    let large = c.before.before in
-    let fourth = passed4 large in
-    let third = passed3 fourth in
-    let s = start4 large in
-    first-no (asked (form s) (words s)) 5 tt (two (passed2 third), (three third, (four fourth, (seventeen large, tt))))
-    (λ h. refuted c.before.values-below.ensures c.if5.true (subst ValuesBelow (sym (values-are (read-values large))) h))
+    first-no (asked (form s) (words s)) 5 tt (two (passed2 third), (three third, (four fourth, tt)))
+    (λ h. refuted c.before.values-below.ensures c.if4.true (subst ValuesBelow (sym (values-are read)) h))
 
 exact-requires : tie.Need-exact-requires
 exact-requires c κs =
     let known = known c in
-    (values-are (read-values (passed17 c)), omega (arith, known.degree.most), omega (arith, known.prime.least), omega (arith, known.prime.most))
+    (values-are (read-values c), omega (arith, known.degree.most), omega (arith, known.prime.least), omega (arith, known.prime.most))
 
-returns-6 : tie.Need-returns-6
-returns-6 c =
+returns-5 : tie.Need-returns-5
+returns-5 c =
     let fifth = c.before.before in
-    let large = passed17 fifth in
-    let fourth = passed4 large in
+    let fourth = passed4 fifth in
     let third = passed3 fourth in
-    let s = start5 fifth in
-    first-no (asked (form s) (words s)) 6 tt (two (passed2 third), (three third, (four fourth, (seventeen large, (five fifth, tt)))))
-    (refuted c.before.exact.ensures c.if6.true)
+    let s = start4 fifth in
+    first-no (asked (form s) (words s)) 6 tt (two (passed2 third), (three third, (four fourth, (five fifth, tt))))
+    (refuted c.before.exact.ensures c.if5.true)
 
 curves-requires : tie.Need-curves-requires
 curves-requires c κs = let known = known (passed5 c) in (omega (arith, known.prime.least), omega (arith, known.prime.most))
+
+returns-6 : tie.Need-returns-6
+returns-6 c =
+    let sixth = c.before.before in
+    let fifth = passed5 sixth in
+    let fourth = passed4 fifth in
+    let third = passed3 fourth in
+    let s = start5 sixth in
+    first-no (asked (form s) (words s)) 7 tt (two (passed2 third), (three third, (four fourth, (five fifth, (six sixth, tt)))))
+    (λ h. refuted c.before.curves.ensures c.if6.true (subst (Curves (form s)) (sym (values-are (read-values fifth))) h))
 
 returns-7 : tie.Need-returns-7
 returns-7 c =
     let sixth = c.before.before in
     let fifth = passed5 sixth in
-    let large = passed17 fifth in
-    let fourth = passed4 large in
+    let fourth = passed4 fifth in
     let third = passed3 fourth in
-    let s = start6 sixth in
-    first-no (asked (form s) (words s)) 7 tt (two (passed2 third), (three third, (four fourth, (seventeen large, (five fifth, (six sixth, tt))))))
-    (λ h. refuted c.before.curves.ensures c.if7.true (subst (Curves (form s)) (sym (values-are (read-values large))) h))
-
-returns-8 : tie.Need-returns-8
-returns-8 c =
-    let sixth = c.before.before in
-    let fifth = passed5 sixth in
-    let large = passed17 fifth in
-    let fourth = passed4 large in
-    let third = passed3 fourth in
-    let s = start6 sixth in
-    let seven = subst (Curves (form s)) (values-are (read-values large)) (shown c.before.curves.ensures c.if7.false) in (
-      (two (passed2 third), (three third, (four fourth, (seventeen large, (five fifth, (six sixth, (seven, tt))))))),
-      values-are (read-values large),
-    )
+    let s = start5 sixth in
+    let seven = subst (Curves (form s)) (values-are (read-values fifth)) (shown c.before.curves.ensures c.if6.false) in
+    ((two (passed2 third), (three third, (four fourth, (five fifth, (six sixth, (seven, tt)))))), values-are (read-values fifth))
 
 pub read_spec : {M : Type 1} → statement M
 read_spec =
@@ -235,12 +206,10 @@ read_spec =
     degree-allowed-requires
     returns-3
     values-of-requires
-    large-enough-requires
-    returns-4
     values-below-requires
-    returns-5
+    returns-4
     exact-requires
-    returns-6
+    returns-5
     curves-requires
-    returns-7
-    returns-8)
+    returns-6
+    returns-7)

@@ -2,8 +2,7 @@
 use borrow.Author.Rules.{rules}
 use mathlib.Core.Path.{sym, subst}
 use Rattle.sheet.specs.Place.{PlacesOf}
-use Rattle.sheet.proofs.PlaceTable.{question, certificate, kernel, without-sum}
-use Rattle.sheet.proofs.PlaceTable.{question-places, certificate-places, kernel-places, without-sum-places}
+use Rattle.sheet.proofs.PlaceTable.{question, certificate, kernel, question-places, certificate-places, kernel-places}
 use Rattle.sheet.proofs.places_of.Statement.{statement}
 use Rattle.sheet.proofs.places_of.Tie as tie
 
@@ -25,12 +24,6 @@ enum-told-3 c = search rules
 array-copy-out-result-3 : tie.Need-array-copy-out-result-3
 array-copy-out-result-3 c = search rules
 
-enum-told-4 : tie.Need-enum-told-4
-enum-told-4 c = search rules
-
-array-copy-out-result-4 : tie.Need-array-copy-out-result-4
-array-copy-out-result-4 c = search rules
-
 returns : tie.Need-returns
 returns c = subst (λ form. PlacesOf form question) (sym c.before.enum_told.given.1) question-places
 
@@ -39,9 +32,6 @@ returns-2 c = subst (λ form. PlacesOf form certificate) (sym c.before.enum-told
 
 returns-3 : tie.Need-returns-3
 returns-3 c = subst (λ form. PlacesOf form kernel) (sym c.before.enum-told3.given.1) kernel-places
-
-returns-4 : tie.Need-returns-4
-returns-4 c = subst (λ form. PlacesOf form without-sum) (sym c.before.enum-told4.given.1) without-sum-places
 
 pub places-of-spec : {M : Type 1} → statement M
 places-of-spec =
@@ -53,9 +43,6 @@ places-of-spec =
     array-copy-out-result-2
     enum-told-3
     array-copy-out-result-3
-    enum-told-4
-    array-copy-out-result-4
     returns
     returns-2
-    returns-3
-    returns-4)
+    returns-3)

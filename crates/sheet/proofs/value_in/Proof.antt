@@ -24,12 +24,6 @@ enum-told-3 c = search rules
 rem-result-2 : tie.Need-nonzero-rem-result-2
 rem-result-2 c = search rules
 
-enum-told-4 : tie.Need-enum-told-4
-enum-told-4 c = search rules
-
-rem-result-3 : tie.Need-nonzero-rem-result-3
-rem-result-3 c = search rules
-
 returns-2 : tie.Need-returns-2
 returns-2 c = let a = c.before.before.before.args in sym (ap (λ form. valueIn form a.p a.x) c.enum_told.given.1)
 
@@ -38,9 +32,6 @@ returns-3 c = search rules
 
 returns-4 : tie.Need-returns-4
 returns-4 c = let a = c.before.before.before.args in sym (ap (λ form. valueIn form a.p a.x) c.enum-told3.given.1)
-
-returns-5 : tie.Need-returns-5
-returns-5 c = let a = c.before.before.before.args in sym (ap (λ form. valueIn form a.p a.x) c.enum-told4.given.1)
 
 pub value-in-spec : {M : Type 1} → statement M
 value-in-spec =
@@ -52,9 +43,6 @@ value-in-spec =
     enum-told-2
     enum-told-3
     rem-result-2
-    enum-told-4
-    rem-result-3
     returns-2
     returns-3
-    returns-4
-    returns-5)
+    returns-4)

@@ -10,7 +10,6 @@ use reference::random::Random;
 use reference::services::{self, Point};
 use reference::sheet::{ask_degree, with_value, Certificate};
 
-use crate::groups::without_sum::given_back;
 use crate::judge::Judge;
 
 pub const LARGEST_PRIME: u64 = 268435399;
@@ -123,7 +122,6 @@ pub fn valid(judge: &mut Judge, random: &mut Random, certificate: &Certificate) 
     }
     let written = Reply::written(words.clone());
     judge.expect(&Call::solve(&certificate.question.words()), &written);
-    given_back(judge, certificate);
     let kernel = Call::kernel(&certificate.kernel_sheet().words());
     judge.expect(&kernel, &written);
     for point in points(random, certificate) {

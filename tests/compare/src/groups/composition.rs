@@ -20,7 +20,6 @@ use reference::spoil;
 use crate::groups::certificates::LARGEST_PRIME;
 use crate::groups::damage::each_damage;
 use crate::groups::hostile;
-use crate::groups::without_sum::given_back;
 use crate::judge::Judge;
 
 type Pair = [Certificate; 2];
@@ -115,7 +114,6 @@ fn split(judge: &mut Judge, random: &mut Random, cyclic: &Cyclic) -> usize {
     let both = cyclic.certificate();
     let written = Reply::written(both.words());
     judge.expect(&Call::solve(&both.question.words()), &written);
-    given_back(judge, &both);
     let pairs = factors(cyclic.l());
     for &(m, n) in &pairs {
         let hints = [cyclic.abscissas[0], cyclic.abscissas[n as usize - 1]];

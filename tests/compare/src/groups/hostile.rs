@@ -68,7 +68,7 @@ impl Spoiled {
 }
 
 /// Valid certificates; many of small degree, a few of the largest.
-pub fn pool(random: &mut Random) -> Vec<Certificate> {
+fn pool(random: &mut Random) -> Vec<Certificate> {
     let mut pool = Vec::new();
     for p in [11, 13, 17, 23, 101, 521, 1009, 65521, LARGEST_PRIME] {
         let wanted: Vec<u64> = [3, 5, 7, 9, 11, 15]

@@ -10,7 +10,6 @@ use reference::random::Random;
 use reference::rules;
 use reference::sheet::{bytes_of, word, Certificate, Question, END, G, N};
 use reference::sheet::{A, B_T, LARGEST_CERTIFICATE, P, RATIONAL};
-use reference::without_sum::CurvePair;
 
 use crate::groups::certificates::LARGEST_PRIME;
 use crate::groups::document;
@@ -98,12 +97,11 @@ fn cut(judge: &mut Judge, certificate: &Certificate) {
     }
 }
 
-/// The certificate, its question with and without the kernel sum, and its kernel sheet.
-fn forms(certificate: &Certificate) -> [Vec<u32>; 4] {
+/// The certificate, its question and its kernel sheet.
+fn forms(certificate: &Certificate) -> [Vec<u32>; 3] {
     [
         certificate.words(),
         certificate.question.words(),
-        CurvePair::from_question(&certificate.question).words(),
         certificate.kernel_sheet().words(),
     ]
 }

@@ -1,8 +1,7 @@
-//! Request E2: on question and kernel sheets a value at or above p is read modulo p, with
-//! the kernel sum or without it; on certificates and for name it gets 5 or 6 as before; p, l,
-//! the count of rational abscissas and the end are never reduced. Where certificates are
-//! known from how they were made, the expectation is the certificate; else it is what the
-//! reduced sheet gets, which is put too.
+//! Request E2: on question and kernel sheets a value at or above p is read modulo p;
+//! on certificates and for name it gets 5 or 6 as before; p, l, the count of rational
+//! abscissas and the end are never reduced. Where certificates are known from how they were made, the expectation is
+//! the certificate; else it is what the reduced sheet gets, which is put too.
 
 use reference::call::{answered, Call, Put, Reply, INFINITY};
 use reference::curve::Curve;
@@ -13,10 +12,8 @@ use reference::random::Random;
 use reference::sheet::{ask_degree, kind, value, with_value};
 use reference::sheet::{Certificate, KernelSheet, Question, END, L, P, RATIONAL, VALUE_LIMIT};
 use reference::unreduced::{alike, any, greatest, limits, places, raised, reduced, with_values};
-use reference::without_sum::{is_without_sum, CurvePair};
 
 use crate::groups::certificates::LARGEST_PRIME;
-use crate::groups::without_sum::passes_17;
 use crate::judge::Judge;
 
 /// Small ones, and those of which five, four, three, two or one multiple fit a word,
@@ -40,10 +37,7 @@ pub fn over(judge: &mut Judge, p: u64, quick: bool) {
         for (put, words) in answered(certificate) {
             one_place(judge, &mut random, put, &words, certificate);
             all_places(judge, &mut random, put, &words, certificate);
-            // Without the sum a large degree takes the reference long.
-            if certificate.question.l < 100 || !is_without_sum(&words) {
-                beside(judge, &mut random, put, &words);
-            }
+            beside(judge, &mut random, put, &words);
             never_reduced(judge, &mut random, put, &words);
         }
         leading(judge, &mut random, certificate);
@@ -203,11 +197,7 @@ fn singular_curves(judge: &mut Judge, random: &mut Random, p: u64) {
         let (a, b) = (any(random, a, p), any(random, b, p));
         let g = vec![any(random, 0, p), any(random, 1, p)];
         for values in [[p, a, b, 0, 1, 3, 0], [p, 0, 1, a, b, 3, 0]] {
-            let question = Question::of(values);
-            judge.refuses(&Call::solve(&question.words()), 7);
-            let number = if passes_17(3, p) { 7 } else { 17 };
-            let pair = CurvePair::from_question(&question);
-            judge.refuses(&Call::solve(&pair.words()), number);
+            judge.refuses(&Call::solve(&Question::of(values).words()), 7);
         }
         judge.refuses(&Call::kernel(&KernelSheet { p, a, b, l: 3, g }.words()), 7);
     }

@@ -11,9 +11,9 @@ use reference::rational::roots;
 use reference::repetition::{common_factors, read_any_degree};
 use reference::rules::{self, R3};
 use reference::services;
-use reference::sheet::{Certificate, KernelSheet};
+use reference::sheet::{Certificate, KernelSheet, Question};
 
-use super::{certificate, rational, refusal, unanswered, with_answer, words};
+use super::{certificate, rational, refusal, with_answer, words};
 
 /// Whether g has a repeated factor, one of f and one of N.
 fn common(certificate: &Certificate) -> [bool; 3] {
@@ -102,12 +102,13 @@ fn meets_rules(certificate: &Certificate) -> bool {
 // What is written where there is no answer: R3 is not asked.
 
 pub fn repeated_solved(call: &Call, reply: Reply) -> Reply {
-    match unanswered(call, &reply) {
-        Some(question) => {
+    match call {
+        Call::Solve { sheet, .. } if refusal(call, &reply) == 11 => {
+            let question = Question::read(sheet).expect("11 comes after 2 to 7");
             let candidate = services::recurrence_candidate(&question);
             instead(candidate, reply, is_repeated)
         }
-        None => reply,
+        _ => reply,
     }
 }
 

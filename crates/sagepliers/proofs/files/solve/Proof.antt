@@ -6,7 +6,6 @@ use mathlib.Core.Path.{refl}
 use Rattle.sagepliers.proofs.Loading.{at-kept}
 use Rattle.sagepliers.proofs.Long.{solve-long}
 use Rattle.sagepliers.proofs.Bytes.{solve-bytes}
-use Rattle.sheet.specs.Word.{words_of}
 use Rattle.promises.specs.Answer.{SolveRight}
 use Rattle.sagepliers.proofs.files.solve.Statement.{statement}
 use Rattle.sagepliers.proofs.files.solve.Tie as tie
@@ -44,7 +43,7 @@ returns-3 c =
     let start = kept.before.before.before.before.before.before.before in
     solve-bytes start.args.bytes.now start.args.answer.now c.before.before.solve.new.1.0 c.before.before.solve.result
     (omega (arith, kept.before.before.before.if2.false))
-    (solve-long (words_of start.args.bytes.now) start.args.answer.now c.before.before.solve.new.1.0 c.before.before.solve.result
+    (solve-long _ start.args.answer.now c.before.before.solve.new.1.0 c.before.before.solve.result
     (at-kept (λ ws. SolveRight ws start.args.answer.now c.before.before.solve.new.1.0 c.before.before.solve.result)
     kept.before.before.blank.result kept.before.before.blank.ensures kept.keep.ensures
     c.before.before.solve.ensures))
