@@ -29,11 +29,11 @@ module _ (p : ℕ) (pos : 0 < p) (fits : p < 2 ^ 28) where
       go (yes h) = h
       go (no h) = let large : 2 ^ 28 ≤ 2 ^ j = pow_mono {i = 28} {j = j} (omega arith) in omega (arith, top.2)
 
-  pub zeros-least : 4 ≤ zeros
-  zeros-least = omega (arith, top_below, top.1)
+  pub zeros_least : 4 ≤ zeros
+  zeros_least = omega (arith, top_below, top.1)
 
-  pub shift-below : shift < 28
-  shift-below = omega (arith, top.1)
+  pub shift_below : shift < 28
+  shift_below = omega (arith, top.1)
 
   pub shifted_least : 2 ^ 27 ≤ p * 2 ^ shift
   shifted_least =
@@ -41,8 +41,8 @@ module _ (p : ℕ) (pos : 0 < p) (fits : p < 2 ^ 28) where
       let e : 2 ^ j * 2 ^ shift ≡ 2 ^ 27 = sym (pow-add 2 j shift) ∙ ap (λ n. 2 ^ n) place in
       omega (arith, N.mul-le-mul_right (2 ^ shift) top.2)
 
-  pub shifted-most : p * 2 ^ shift < 2 ^ 28
-  shifted-most =
+  pub shifted_most : p * 2 ^ shift < 2 ^ 28
+  shifted_most =
       let place : suc j + shift ≡ 28 = omega (arith, top_below, top.1) in
       let e : 2 ^ (suc j + shift) ≡ 2 ^ 28 = ap (λ n. 2 ^ n) place in
       omega (arith, shl_lt (suc j) shift top.3)

@@ -15,31 +15,31 @@ pub record Prepared (m : Modulus) : Type 0 where
 
 -- what the bounds of a number of 28 bits say of its factors
 module _ (p s : ℕ) (lo : 2 ^ 27 ≤ p * 2 ^ s) (hi : p * 2 ^ s < 2 ^ 28) where
-  factor-positive : 0 < p
-  factor-positive = go (dec_lt 0 p)
+  factor_positive : 0 < p
+  factor_positive = go (dec_lt 0 p)
     where
       go : Dec (0 < p) → 0 < p
       go (yes h) = h
       go (no h) = let z : p * 2 ^ s ≡ 0 = ap (λ n. n * 2 ^ s) (omega arith) ∙ N.zero-mul (2 ^ s) in omega arith
 
-  factor-below : p < 2 ^ 28
-  factor-below = omega (arith, N.le-mul_of_pos_right p (pow_pos s))
+  factor_below : p < 2 ^ 28
+  factor_below = omega (arith, N.le-mul_of_pos_right p (pow_pos s))
 
-  exponent-below : s < 28
-  exponent-below = go (dec_lt s 28)
+  exponent_below : s < 28
+  exponent_below = go (dec_lt s 28)
     where
       go : Dec (s < 28) → s < 28
       go (yes h) = h
       go (no h) =
           let large : 2 ^ 28 ≤ 2 ^ s = pow_mono {i = 28} {j = s} (omega arith) in
-          omega (arith, N.mul-le-mul_right (2 ^ s) factor-positive, N.one-mul (2 ^ s))
+          omega (arith, N.mul-le-mul_right (2 ^ s) factor_positive, N.one-mul (2 ^ s))
 
 module _ {m : Modulus} (h : Prepared m) where
-  pub prepared-positive : 0 < m.p
-  prepared-positive = factor-positive m.p m.shift (omega arith) (omega arith)
+  pub prepared_positive : 0 < m.p
+  prepared_positive = factor_positive m.p m.shift (omega arith) (omega arith)
 
-  pub prepared-below : m.p < 2 ^ 28
-  prepared-below = factor-below m.p m.shift (omega arith) (omega arith)
+  pub prepared_below : m.p < 2 ^ 28
+  prepared_below = factor_below m.p m.shift (omega arith) (omega arith)
 
-  pub prepared-shift : m.shift < 28
-  prepared-shift = exponent-below m.p m.shift (omega arith) (omega arith)
+  pub prepared_shift : m.shift < 28
+  prepared_shift = exponent_below m.p m.shift (omega arith) (omega arith)

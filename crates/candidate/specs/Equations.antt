@@ -5,7 +5,7 @@ use Rattle.std.specs.Prelude.{◌≡◌, ℕ, suc, ◌*◌, ◌-◌, ◌≤◌}
 use Rattle.ring.specs.Ring.{CRing, cast}
 use Rattle.series.specs.Series.{Seq, sum}
 use Rattle.isogeny.specs.Rules.{Question}
-use Rattle.isogeny.specs.Expansion.{Newton, from-sums}
+use Rattle.isogeny.specs.Expansion.{Newton, from_sums}
 
 module _ (R : CRing) where
   module _ (q : Question R) where
@@ -15,7 +15,7 @@ module _ (R : CRing) where
     pub record SAt (h s : Seq R) (k : ℕ) : Type 0 where
       pub zero : k ≡ 0 → s 0 ≡ cast R (2 * d)
       pub one : k ≡ 1 → s 1 ≡ σ
-      pub more : 2 ≤ k → from-sums R A B s (k - 1) ≡ h (k - 1)
+      pub more : 2 ≤ k → from_sums R A B s (k - 1) ≡ h (k - 1)
 
   -- c, the coefficients of g from the leading one down, from s
   pub record CAt (s c : Seq R) (k : ℕ) : Type 0 where

@@ -10,11 +10,11 @@ use Rattle.zmod.specs.Residues.{poly}
 use Rattle.isogeny.specs.Curve.{Nonsingular}
 use Rattle.isogeny.specs.Rules.{Question, Meets}
 use Rattle.reconstruction.specs.Approximant.{Fits}
-use Rattle.kernel_sum.specs.WithoutSum.{with-sum, Expands, Found}
+use Rattle.kernel_sum.specs.WithoutSum.{with_sum, Expands, Found}
 use Rattle.kernel_sum.specs.Theorems as Theorems
 use Rattle.sheet.specs.declared.Values.{Values}
 use Rattle.sheet.specs.Values.{half, question}
-use Rattle.sheet.specs.Ready.{Ready, half-least, degree-half}
+use Rattle.sheet.specs.Ready.{Ready, half_least, degree_half}
 use Rattle.expansion.specs.Equations.{Solved}
 use Rattle.recurrence.specs.Equations.{HAt}
 use Rattle.recurrence.specs.Expands as Words
@@ -24,7 +24,7 @@ use Rattle.poles.specs.Poles.{SumOf, PolesOf}
 
 -- the question of the values with another kernel sum
 abbrev pub asked : (v : Values) → Elt v.p → Question (Zmod v.p)
-asked v σ = with-sum (Zmod v.p) (question v).A (question v).B (question v).Ã (question v).B̃ (half v) σ
+asked v σ = with_sum (Zmod v.p) (question v).A (question v).B (question v).Ã (question v).B̃ (half v) σ
 
 abbrev pub CandidateSum : Values → PoleSum → Type 0
 CandidateSum v Missing = (σ : Elt v.p) (g : Seq (Zmod v.p)) → Meets (Zmod v.p) (asked v σ) g → ⊥
@@ -48,7 +48,7 @@ module _ (v : Values) (h : List ℕ) (asks : Determined v) (size : length h ≡ 
   H = poly v.p h
 
   some : 0 < d
-  some = half-least v asks.ready
+  some = half_least v asks.ready
 
   expands : Expands R (question v).A (question v).B (question v).Ã (question v).B̃ (4 * d) H
   expands = record {
@@ -62,7 +62,7 @@ module _ (v : Values) (h : List ℕ) (asks : Determined v) (size : length h ≡ 
   part = omega (arith, size)
 
   small : 4 * (2 * d + 1) - 1 < v.p
-  small = omega (arith, asks.large, degree-half v asks.ready)
+  small = omega (arith, asks.large, degree_half v asks.ready)
 
   module _ (result : PoleSum) (poles : PolesOf v.p h result) where
     found : Found R d H poles.r poles.t
@@ -70,8 +70,8 @@ module _ (v : Values) (h : List ℕ) (asks : Determined v) (size : length h ≡ 
         subst (λ n. Fits R n H (2 * d) poles.r poles.t) (omega (arith, size))
         (subst (λ a. Fits R (length h - 1) H a poles.r poles.t) part poles.found)
 
-    pub candidate-sum : CandidateSum v result
-    candidate-sum = go result (subst (λ a. SumOf v.p a poles.t result) part poles.sum)
+    pub candidate_sum_lem : CandidateSum v result
+    candidate_sum_lem = go result (subst (λ a. SumOf v.p a poles.t result) part poles.sum)
       where
         go : (result : PoleSum) → SumOf v.p (2 * d) poles.t result → CandidateSum v result
         go Missing e =

@@ -14,9 +14,9 @@ abbrev pub Front : List ℕ → List ℕ → List ℕ → Type 0
 Front before X after = after ≡ X ++ drop (length X) before
 
 -- one word more
-pub front-more : (src out : List ℕ) (i : ℕ) → i < length src → i < length out
+pub front_more : (src out : List ℕ) (i : ℕ) → i < length src → i < length out
     → set (take i src ++ drop i out) i (get_or src i 0) ≡ take (i + 1) src ++ drop (i + 1) out
-front-more src out i h k =
+front_more src out i h k =
     ap (λ (l : List ℕ). set (take i src ++ l) i (get_or src i 0)) (drop-cons out i 0 k)
     ∙ set_at (take i src) (get_or out i 0) (drop (suc i) out) (get_or src i 0) i (length-take-le i src (omega arith))
     ∙ sym (append_snoc (take i src) (get_or src i 0) (drop (suc i) out))
@@ -24,9 +24,9 @@ front-more src out i h k =
     ∙ ap (λ (n : ℕ). take n src ++ drop n out) (sym (add-one i))
 
 -- a part pasted where the front ends
-pub front-paste : (before X ys : List ℕ) {out after : List ℕ} (at n : ℕ) → n ≡ length ys → at ≡ length X → Front before X out
+pub front_paste : (before X ys : List ℕ) {out after : List ℕ} (at n : ℕ) → n ≡ length ys → at ≡ length X → Front before X out
     → after ≡ paste out at ys n → Front before (X ++ ys) after
-front-paste before X ys {out} {after} at n all e h put =
+front_paste before X ys {out} {after} at n all e h put =
     put
     ∙ ap₂ (λ (a b : List ℕ). a ++ take n ys ++ b)
     (ap (take at) h ∙ take_at X (drop (length X) before) at (sym e))
@@ -37,17 +37,17 @@ front-paste before X ys {out} {after} at n all e h put =
 pub front_length : (before X : List ℕ) {after : List ℕ} → Front before X after → length X ≤ length before → length after ≡ length before
 front_length before X h l = ap length h ∙ length-append X (drop (length X) before) ∙ omega (arith, length-drop (length X) before)
 
-pub front-one : (before X : List ℕ) {out : List ℕ} (at w : ℕ) → at ≡ length X → at < length before → Front before X out → Front before (X ++ w ∷ [])
+pub front_one : (before X : List ℕ) {out : List ℕ} (at w : ℕ) → at ≡ length X → at < length before → Front before X out → Front before (X ++ w ∷ [])
     (set out at w)
-front-one before X {out} at w e l h =
+front_one before X {out} at w e l h =
     ap (λ (o : List ℕ). set o at w) (h ∙ ap (λ (r : List ℕ). X ++ r) (drop-cons before (length X) 0 (omega arith)))
     ∙ set_at X (get_or before (length X) 0) (drop (suc (length X)) before) w at (sym e)
     ∙ sym (append_snoc X w (drop (suc (length X)) before))
     ∙ ap (λ n. X ++ (w ∷ []) ++ drop n before) (sym (length-append X (w ∷ []) ∙ add-one (length X)))
 
-pub section-more : (k : ℕ) (xs : List ℕ) (from : ℕ) (out : List ℕ) (i : ℕ) → from + i < length out → i < length xs
+pub section_more : (k : ℕ) (xs : List ℕ) (from : ℕ) (out : List ℕ) (i : ℕ) → from + i < length out → i < length xs
     → set (paste out from (map (word k) xs) i) (from + i) (word k (get_or xs i 0)) ≡ paste out from (map (word k) xs) (i + 1)
-section-more k xs from out i h l =
+section_more k xs from out i h l =
     ap (λ w. set (paste out from (map (word k) xs) i) (from + i) w) (sym (get_or-map (word k) xs i 0))
     ∙ paste-suc out from (map (word k) xs) i (word k 0) h (omega (arith, length-map xs (word k)))
     ∙ ap (paste out from (map (word k) xs)) (sym (add-one i))

@@ -16,12 +16,12 @@ pub record ValuesFit (v : Values) : Type 0 where
   pub sigma : v.sigma < 2 ^ 28
 
 module _ (v : Values) (ready : Ready v) where
-  pub values-fit : ValuesFit v
-  values-fit =
+  pub values_fit : ValuesFit v
+  values_fit =
       record { p = ready.prime.most; a = omega arith; b = omega arith; atilde = omega arith; btilde = omega arith; degree = omega arith; sigma = omega arith }
 
-  pub g-fit : (g : List ℕ) → HoldsG v g → Reduced (2 ^ 28) g
-  g-fit g h i = omega (arith, h.reduced i)
+  pub g_fit : (g : List ℕ) → HoldsG v g → Reduced (2 ^ 28) g
+  g_fit g h i = omega (arith, h.reduced i)
 
-  pub n-fit : (n : List ℕ) → HoldsN v n → Reduced (2 ^ 28) n
-  n-fit n h i = omega (arith, h.reduced i)
+  pub n_fit : (n : List ℕ) → HoldsN v n → Reduced (2 ^ 28) n
+  n_fit n h i = omega (arith, h.reduced i)

@@ -3,7 +3,7 @@ ghost use Rattle.std.specs.Prelude.{◌≡◌, ◌+◌, ◌-◌, ◌*◌, ◌^�
 ghost use Rattle.std.proofs.Math.Seq.{paste};
 ghost use Rattle.zmod.specs.Residues.{Reduced};
 ghost use Rattle.sheet.specs.Word.{word};
-ghost use Rattle.certificate.specs.Certificate.{headerWords, value_at, Writable, Stored};
+ghost use Rattle.certificate.specs.Certificate.{header_words, value_at, Writable, Stored};
 ghost use Rattle.sheet.specs.Ready.{Ready};
 
 use sheet::{Form, Values};
@@ -33,7 +33,7 @@ fn header_value(v: Values, k: usize) -> u32
 
 fn write_header(v: Values, out: &mut [u32])
     requires { (7 ≤ length out.old) × Ready v }
-    ensures { out.new ≡ headerWords v ++ drop 7 out.old }
+    ensures { out.new ≡ header_words v ++ drop 7 out.old }
 {
     for k in 1..8 {
         let at = sheet::place(Form::Certificate, k, 0, 0);

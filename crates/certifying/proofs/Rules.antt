@@ -12,10 +12,10 @@ use Rattle.questions.specs.Tests.{refuted, shown}
 use Rattle.sheet.specs.declared.Values.{Values}
 use Rattle.sheet.specs.Values.{question}
 
-module _ (v : Values) (g n : List ℕ) (holds : Bool) (n-is : poly v.p n ≡ N (Zmod v.p) (question v) (poly v.p g))
+module _ (v : Values) (g n : List ℕ) (holds : Bool) (n_is : poly v.p n ≡ N (Zmod v.p) (question v) (poly v.p g))
     (test : (holds ≡ true) ↔ R3 (Zmod v.p) (question v) (poly v.p g) (poly v.p n)) where
   pub refused : not holds ≡ true → Meets (Zmod v.p) (question v) (poly v.p g) → ⊥
-  refused f m = refuted test f (subst (R3 (Zmod v.p) (question v) (poly v.p g)) (sym n-is) m.r3)
+  refused f m = refuted test f (subst (R3 (Zmod v.p) (question v) (poly v.p g)) (sym n_is) m.r3)
 
   pub meets : R1 (Zmod v.p) (question v) (poly v.p g) → not holds ≡ false → Meets (Zmod v.p) (question v) (poly v.p g)
-  meets r1 t = record { r1 = r1; r3 = subst (R3 (Zmod v.p) (question v) (poly v.p g)) n-is (shown test t) }
+  meets r1 t = record { r1 = r1; r3 = subst (R3 (Zmod v.p) (question v) (poly v.p g)) n_is (shown test t) }

@@ -12,7 +12,7 @@ use Rattle.promises.specs.Answer.{CertificateIn}
 
 pub record Done (v : Values) (g before after : List ℕ) (count : ℕ) : Type 0 where
   pub certificate : CertificateIn v before after count
-  pub same-g : certificate.g ≡ g
+  pub same_g : certificate.g ≡ g
 
 pub record Unmet (v : Values) (g before after : List ℕ) (k : ℕ) : Type 0 where
   pub number : k ≡ 11

@@ -42,5 +42,5 @@ pub data Way : Brackets → Outcome (List ℕ) → Type 0 where
   given : {ws : List ℕ} → Way (sheet ws) (result ws)
   called : {s t : Brackets} {first second : List ℕ} {o : Outcome (List ℕ)} → Way s (result first) → Way t (result second) → Call first second o
       → Way (both s t) o
-  left-refused : {s t : Brackets} {k : ℕ} → Way s (refused k) → Way (both s t) (refused k)
-  right-refused : {s t : Brackets} {k : ℕ} → Way t (refused k) → Way (both s t) (refused k)
+  left_refused : {s t : Brackets} {k : ℕ} → Way s (refused k) → Way (both s t) (refused k)
+  right_refused : {s t : Brackets} {k : ℕ} → Way t (refused k) → Way (both s t) (refused k)

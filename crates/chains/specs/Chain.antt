@@ -4,24 +4,24 @@ use Rattle.std.specs.Prelude.{List, [], ◌∷◌, ◌++◌, ℕ, ◌*◌}
 use Rattle.questions.specs.Questions.{Questions, AllYes}
 use Rattle.sheet.specs.declared.Form.TheVariants.{Certificate}
 use Rattle.sheet.specs.declared.Values.{Values}
-use Rattle.sheet.specs.Values.{valuesOf}
+use Rattle.sheet.specs.Values.{values_of}
 use Rattle.sheet.specs.Asked.{DegreeAllowed}
-use Rattle.promises.specs.Asked.{check-asks, ComposableValues}
+use Rattle.promises.specs.Asked.{check_asks, ComposableValues}
 
 -- the values on a certificate
 abbrev pub values : List ℕ → Values
-values ws = valuesOf Certificate ws
+values ws = values_of Certificate ws
 
 -- 2 to 10 of each sheet
-abbrev pub each-asks : List (List ℕ) → Questions
-each-asks [] = []
-each-asks (ws ∷ rest) = check-asks ws ++ each-asks rest
+abbrev pub each_asks : List (List ℕ) → Questions
+each_asks [] = []
+each_asks (ws ∷ rest) = check_asks ws ++ each_asks rest
 
 -- 13 of every two neighbours
-abbrev pub meet-asks : List (List ℕ) → Questions
-meet-asks [] = []
-meet-asks (ws ∷ []) = []
-meet-asks (ws ∷ us ∷ rest) = (13, ComposableValues (values ws) (values us)) ∷ meet-asks (us ∷ rest)
+abbrev pub meet_asks : List (List ℕ) → Questions
+meet_asks [] = []
+meet_asks (ws ∷ []) = []
+meet_asks (ws ∷ us ∷ rest) = (13, ComposableValues (values ws) (values us)) ∷ meet_asks (us ∷ rest)
 
 -- the product of all degrees
 abbrev pub product : List (List ℕ) → ℕ
@@ -37,9 +37,9 @@ Each P (ws ∷ rest) = P ws × Each P rest
 abbrev pub Permitted : List (List ℕ) → Type 0
 Permitted sheets = Each (λ ws. DegreeAllowed (product sheets) (values ws).p) sheets
 
-abbrev pub chain-asks : List (List ℕ) → Questions
-chain-asks sheets = each-asks sheets ++ meet-asks sheets ++ (14, Permitted sheets) ∷ []
+abbrev pub chain_asks : List (List ℕ) → Questions
+chain_asks sheets = each_asks sheets ++ meet_asks sheets ++ (14, Permitted sheets) ∷ []
 
 -- The sheets pass check, they meet in turn, and their degrees multiply to a permitted degree.
 abbrev pub Chain : List (List ℕ) → Type 0
-Chain sheets = AllYes (chain-asks sheets)
+Chain sheets = AllYes (chain_asks sheets)

@@ -5,24 +5,24 @@ use Rattle.questions.specs.Questions.{AllYes, FirstNo}
 use Rattle.questions.specs.Judged.{Judged}
 use Rattle.sheet.specs.declared.Form.TheVariants.{Certificate}
 use Rattle.sheet.specs.declared.Values.{Values}
-use Rattle.sheet.specs.Values.{valuesOf, half, gOf, n_of}
+use Rattle.sheet.specs.Values.{values_of, half, gOf, n_of}
 use Rattle.reading.specs.declared.Reading.{Reading}
 use Rattle.reading.specs.declared.Reading.TheVariants.{Accepted, Refused}
-use Rattle.promises.specs.Asked.{certificate-rules, check-asks}
+use Rattle.promises.specs.Asked.{certificate_rules, check_asks}
 
 -- the sheet's coefficients, and the number for 8 to 10
 pub record Coefficients (ws g n : List ℕ) (k : ℕ) : Type 0 where
-  pub g-is : g ≡ gOf Certificate ws
-  pub n-is : n ≡ n_of Certificate ws
-  pub judged : Judged (certificate-rules ws) k
+  pub g_is : g ≡ gOf Certificate ws
+  pub n_is : n ≡ n_of Certificate ws
+  pub judged : Judged (certificate_rules ws) k
 
 -- it passes, and the slices begin with its coefficients
 pub record Passes (ws g n : List ℕ) (v : Values) : Type 0 where
-  pub all : AllYes (check-asks ws)
-  pub values : v ≡ valuesOf Certificate ws
-  pub g-is : take (half v + 1) g ≡ gOf Certificate ws
-  pub n-is : take (2 * half v + 2) n ≡ n_of Certificate ws
+  pub all : AllYes (check_asks ws)
+  pub values : v ≡ values_of Certificate ws
+  pub g_is : take (half v + 1) g ≡ gOf Certificate ws
+  pub n_is : take (2 * half v + 2) n ≡ n_of Certificate ws
 
 abbrev pub Passed : List ℕ → List ℕ → List ℕ → Reading → Type 0
 Passed ws g n (Accepted v) = Passes ws g n v
-Passed ws g n (Refused k) = FirstNo (check-asks ws) k
+Passed ws g n (Refused k) = FirstNo (check_asks ws) k

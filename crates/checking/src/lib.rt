@@ -6,12 +6,12 @@ ghost use Rattle.isogeny.specs.Rules.{N, R1};
 ghost use Rattle.questions.specs.Questions.{AllYes};
 ghost use Rattle.questions.specs.Judged.{Judged};
 ghost use Rattle.sheet.specs.declared.Form.TheVariants.{Certificate};
-ghost use Rattle.sheet.specs.Values.{valuesOf, half, question};
+ghost use Rattle.sheet.specs.Values.{values_of, half, question};
 ghost use Rattle.sheet.specs.Asked.{asked};
 ghost use Rattle.sheet.specs.Ready.{Ready, HoldsG, HoldsN};
 ghost use Rattle.rules.specs.Over.{Over};
-ghost use Rattle.promises.specs.Abscissas.{rational-abscissas};
-ghost use Rattle.promises.specs.Asked.{rules-ask};
+ghost use Rattle.promises.specs.Abscissas.{rational_abscissas_of};
+ghost use Rattle.promises.specs.Asked.{rules_ask};
 ghost use Rattle.promises.specs.Answer.{CheckRight};
 ghost use Rattle.checking.specs.Passed.{Coefficients, Passed};
 
@@ -46,7 +46,7 @@ fn numerator_and_count(v: Values, m: Modulus, g: &[u32], n: &[u32], abscissas: u
     requires ready { (Ready v) × HoldsG v g.now × Over v m }
     requires holds_n { HoldsN v n.now × R1 (Zmod v.p) (question v) (poly v.p g.now) }
     ensures { (result ≡ true) ↔ ((poly v.p n.now ≡ N (Zmod v.p) (question v) (poly v.p g.now))
-        × (abscissas ≡ rational-abscissas v g.now)) }
+        × (abscissas ≡ rational_abscissas_of v g.now)) }
 {
     if !same_numerator(v, m, g, n) {
         return false;
@@ -58,7 +58,7 @@ fn numerator_and_count(v: Values, m: Modulus, g: &[u32], n: &[u32], abscissas: u
 fn rules_number_over(v: Values, m: Modulus, g: &[u32], n: &[u32], abscissas: u32) -> u32
     requires ready { (Ready v) × HoldsG v g.now × Over v m }
     requires holds_n { HoldsN v n.now }
-    ensures { Judged (rules-ask v g.now n.now abscissas) result }
+    ensures { Judged (rules_ask v g.now n.now abscissas) result }
 {
     if !rules::rule_one(v, g) {
         return 8;
@@ -76,7 +76,7 @@ fn rules_number_over(v: Values, m: Modulus, g: &[u32], n: &[u32], abscissas: u32
 fn rules_number(v: Values, g: &[u32], n: &[u32], abscissas: u32) -> u32
     requires ready { (Ready v) × HoldsG v g.now }
     requires holds_n { HoldsN v n.now }
-    ensures { Judged (rules-ask v g.now n.now abscissas) result }
+    ensures { Judged (rules_ask v g.now n.now abscissas) result }
 {
     let m = barrett::modulus(v.p);
     rules_number_over(v, m, g, n, abscissas)
@@ -85,7 +85,7 @@ fn rules_number(v: Values, g: &[u32], n: &[u32], abscissas: u32) -> u32
 // The coefficients on a certificate that passes 2 to 7, to g and n, and the number of the first of questions 8 to 10 that it does not pass, or 0.
 fn judge(v: Values, ws: &[u32], d: usize, g: &mut [u32], n: &mut [u32]) -> u32
     requires all_yes { AllYes (asked Certificate ws.now) }
-    requires v_value { (v ≡ valuesOf Certificate ws.now) × (d ≡ half v) }
+    requires v_value { (v ≡ values_of Certificate ws.now) × (d ≡ half v) }
     requires g_len { (length g.old ≡ d + 1) × (length n.old ≡ 2 * d + 2) }
     ensures { Coefficients ws.now g.new n.new result }
 {

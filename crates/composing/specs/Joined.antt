@@ -17,12 +17,12 @@ pub record Joined (v w : Values) (g₁ n₁ g₂ : List ℕ) : Type 0 where
   pub ready₂ : Ready w
   pub meet : ComposableValues v w
   pub allowed : ProductAllowed v w
-  pub g₁-words : HoldsG v g₁
-  pub n₁-words : HoldsN v n₁
-  pub g₂-words : HoldsG w g₂
+  pub g₁_words : HoldsG v g₁
+  pub n₁_words : HoldsN v n₁
+  pub g₂_words : HoldsG w g₂
   pub meets₁ : Meets (Zmod v.p) (question v) (poly v.p g₁)
   pub meets₂ : Meets (Zmod w.p) (question w) (poly w.p g₂)
-  pub n₁-is : poly v.p n₁ ≡ N (Zmod v.p) (question v) (poly v.p g₁)
+  pub n₁_is : poly v.p n₁ ≡ N (Zmod v.p) (question v) (poly v.p g₁)
 
 abbrev pub Composed : Values → Values → List ℕ → List ℕ → List ℕ → List ℕ → Written → Type 0
 Composed v w g₁ g₂ before after (Count c) = ComposeIn v w g₁ g₂ before after c

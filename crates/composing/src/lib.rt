@@ -3,9 +3,9 @@
 ghost use Rattle.std.specs.Prelude.{◌≡◌, true, ◌↔◌, ◌+◌, ◌*◌, length};
 ghost use Rattle.questions.specs.Questions.{AllYes};
 ghost use Rattle.sheet.specs.declared.Form.TheVariants.{Certificate};
-ghost use Rattle.sheet.specs.Values.{valuesOf, half, gOf, n_of};
+ghost use Rattle.sheet.specs.Values.{values_of, half, gOf, n_of};
 ghost use Rattle.sheet.specs.Ready.{Ready};
-ghost use Rattle.promises.specs.Asked.{Room, ComposableValues, ProductAllowed, check-asks};
+ghost use Rattle.promises.specs.Asked.{Room, ComposableValues, ProductAllowed, check_asks};
 ghost use Rattle.promises.specs.Answer.{composed, ComposeRight};
 ghost use Rattle.composing.specs.Joined.{Joined, Composed};
 
@@ -110,8 +110,8 @@ fn compose_passed(
     g2: &[u32],
     answer: &mut [u32],
 ) -> Written
-    requires all_yes { (AllYes (check-asks first.now)) × (v ≡ valuesOf Certificate first.now) }
-    requires all_yes_2 { (AllYes (check-asks second.now)) × (w ≡ valuesOf Certificate second.now) }
+    requires all_yes { (AllYes (check_asks first.now)) × (v ≡ values_of Certificate first.now) }
+    requires all_yes_2 { (AllYes (check_asks second.now)) × (w ≡ values_of Certificate second.now) }
     requires g1_value { (g1.now ≡ gOf Certificate first.now) × (n1.now ≡ n_of Certificate first.now) × (g2.now ≡ gOf Certificate second.now) }
     requires room { Room (length answer.old) }
     ensures { ComposeRight first.now second.now answer.old answer.new result }
@@ -134,7 +134,7 @@ fn compose_second(
     n1: &[u32],
     answer: &mut [u32],
 ) -> Written
-    requires all_yes { (AllYes (check-asks first.now)) × (v ≡ valuesOf Certificate first.now) }
+    requires all_yes { (AllYes (check_asks first.now)) × (v ≡ values_of Certificate first.now) }
     requires g1_value { (g1.now ≡ gOf Certificate first.now) × (n1.now ≡ n_of Certificate first.now) }
     requires room { Room (length answer.old) }
     ensures { ComposeRight first.now second.now answer.old answer.new result }

@@ -13,8 +13,8 @@ abbrev pub pullback : (R : CRing) (q : Question R) → Seq R → ℕ → Seq R �
 pullback R q g n P = homogenize R (N R q g) (pow (Series R) g 2) n P
 
 -- g₁ times g₂ at N₁/g₁², cleared by g₁^(2d₂)
-unfoldable pub composite-g : (R : CRing) (q₁ : Question R) (d₂ : ℕ) → Seq R → Seq R → Seq R
-composite-g R q₁ d₂ g₁ g₂ = conv R g₁ (pullback R q₁ g₁ d₂ g₂)
+unfoldable pub composite_g : (R : CRing) (q₁ : Question R) (d₂ : ℕ) → Seq R → Seq R → Seq R
+composite_g R q₁ d₂ g₁ g₂ = conv R g₁ (pullback R q₁ g₁ d₂ g₂)
 
 module _ (R : CRing) (q₁ q₂ : Question R) where
   -- the first codomain is the second domain
@@ -34,8 +34,8 @@ module _ (R : CRing) (q₁ q₂ : Question R) where
   }
 
   -- d₁ + ℓ₁d₂ is (ℓ₁ℓ₂ − 1)/2
-  pub composite-degree : ℓ R q₂ * ℓ R q₁ ≡ ℓ R composite
-  composite-degree =
+  pub composite_degree : ℓ R q₂ * ℓ R q₁ ≡ ℓ R composite
+  composite_degree =
       let a : ℓ R q₂ * ℓ R q₁ ≡ 2 * q₂.d * ℓ R q₁ + 1 * ℓ R q₁ = Nat.add-mul (2 * q₂.d) 1 (ℓ R q₁) in
       let b : 2 * q₂.d * ℓ R q₁ ≡ 2 * (q₂.d * ℓ R q₁) = Nat.mul_assoc 2 q₂.d (ℓ R q₁) in
       omega arith

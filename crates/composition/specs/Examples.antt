@@ -8,10 +8,10 @@ use Rattle.ring.specs.Ring.{CRing, cast, pow}
 use Rattle.series.specs.Series.{Series, conv, sums, const}
 use Rattle.series.specs.Indeterminate.{ind}
 use Rattle.isogeny.specs.Rules.{Meets, ℓ, N}
-use Rattle.isogeny.specs.Examples.{q, meets, N-is}
-use Rattle.composition.specs.Homogenized.{h-ind}
-use Rattle.composition.specs.Composite.{composite, composite-g}
-use Rattle.composition.specs.Proof.Rules.{composite-meets}
+use Rattle.isogeny.specs.Examples.{q, meets, N_is}
+use Rattle.composition.specs.Homogenized.{h_ind}
+use Rattle.composition.specs.Composite.{composite, composite_g}
+use Rattle.composition.specs.Proof.Rules.{composite_meets}
 
 module _ (R : CRing) (B : R.Car) where
   -- −27 B
@@ -21,11 +21,11 @@ module _ (R : CRing) (B : R.Car) where
   degree : ℓ R (composite R (q R B) (q R B₁)) ≡ 9
   degree = refl
 
-  twice : Meets R (composite R (q R B) (q R B₁)) (composite-g R (q R B) 1 (ind R) (ind R))
+  twice : Meets R (composite R (q R B) (q R B₁)) (composite_g R (q R B) 1 (ind R) (ind R))
   twice =
-      composite-meets R (q R B) (q R B₁) (omega arith) (omega arith) (record { A = refl; B = refl }) (ind R) (ind R) (meets R B) (meets R B₁).r1 (meets R B₁)
+      composite_meets R (q R B) (q R B₁) (omega arith) (omega arith) (record { A = refl; B = refl }) (ind R) (ind R) (meets R B) (meets R B₁).r1 (meets R B₁)
 
-  kernel-polynomial : composite-g R (q R B) 1 (ind R) (ind R)
+  kernel_polynomial : composite_g R (q R B) 1 (ind R) (ind R)
       ≡ conv R (ind R) (sums R (pow (Series R) (ind R) 3) (conv R (cast (Series R) 4) (const R B)))
-  unfolding composite-g
-  kernel-polynomial = ap (conv R (ind R)) ((h-ind R (N R (q R B) (ind R)) (pow (Series R) (ind R) 2)).same ∙ N-is R B)
+  unfolding composite_g
+  kernel_polynomial = ap (conv R (ind R)) ((h_ind R (N R (q R B) (ind R)) (pow (Series R) (ind R) 2)).same ∙ N_is R B)

@@ -8,14 +8,14 @@ use Rattle.ring.specs.Ring
 use Rattle.series.specs.Series.{sums, negs}
 use Rattle.series.specs.Degree.{Monic}
 use Rattle.series.specs.Indeterminate.{ind}
-use Rattle.zmod.specs.Zmod.{Zmod, mk, plus, minus, plus-zero}
+use Rattle.zmod.specs.Zmod.{Zmod, mk, plus, minus, plus_zero}
 use Rattle.zmod.specs.Prime.{Prime}
-use Rattle.zmod.specs.Residues.{Residue, Reduced, poly, poly-at, poly-past}
-use Rattle.roots.specs.Rational.{rational-roots}
-use Rattle.roots.specs.Theorems.{roots-modulo, roots-most, roots-linear}
+use Rattle.zmod.specs.Residues.{Residue, Reduced, poly, poly_at, poly_past}
+use Rattle.roots.specs.Rational.{rational_roots}
+use Rattle.roots.specs.Theorems.{roots_modulo, roots_most, roots_linear}
 use Rattle.modulo.specs.Modulo.{Divisor, RemainderOf}
-use Rattle.modulo.specs.Power.{x-to}
-use Rattle.euclid.specs.Words.{Leads, monic-leads}
+use Rattle.modulo.specs.Power.{x_to}
+use Rattle.euclid.specs.Words.{Leads, monic_leads}
 use Rattle.euclid.specs.Euclid.{GcdDegree}
 
 -- r − x
@@ -26,24 +26,24 @@ module _ (p v : ℕ) (r : List ℕ) (low : Reduced p r) (inside : 1 < length r) 
   other : (i : ℕ) → i ≢ 1 → get_or (set r 1 v) i 0 ≡ get_or r i 0
   other i apart = get_or-set_other r 1 i v 0 apart
 
-  pub subtracted-reduced : Reduced p (set r 1 v)
-  subtracted-reduced zero = omega (arith, other 0 (λ e. absurd (omega arith)), low 0)
-  subtracted-reduced (suc zero) = omega (arith, first, h.below)
-  subtracted-reduced (suc (suc i)) = omega (arith, other (suc (suc i)) (λ e. absurd (omega arith)), low (suc (suc i)))
+  pub subtracted_reduced : Reduced p (set r 1 v)
+  subtracted_reduced zero = omega (arith, other 0 (λ e. absurd (omega arith)), low 0)
+  subtracted_reduced (suc zero) = omega (arith, first, h.below)
+  subtracted_reduced (suc (suc i)) = omega (arith, other (suc (suc i)) (λ e. absurd (omega arith)), low (suc (suc i)))
 
-  pub subtracted-is : poly p (set r 1 v) ≡ sums (Zmod p) (poly p r) (negs (Zmod p) (ind (Zmod p)))
+  pub subtracted_is : poly p (set r 1 v) ≡ sums (Zmod p) (poly p r) (negs (Zmod p) (ind (Zmod p)))
   unfolding ind
-  subtracted-is = fun_ext go
+  subtracted_is = fun_ext go
     where
       kept : (i : ℕ) → i ≢ 1 → poly p (set r 1 v) i ≡ plus p (poly p r i) (minus p (mk p 0))
       kept i apart =
-          poly-at p (set r 1 v) i ∙ ap (mk p) (other i apart) ∙ sym (poly-at p r i) ∙ sym (plus-zero p (poly p r i))
+          poly_at p (set r 1 v) i ∙ ap (mk p) (other i apart) ∙ sym (poly_at p r i) ∙ sym (plus_zero p (poly p r i))
           ∙ ap (plus p (poly p r i)) (sym (Ring.neg-zero (Zmod p)))
 
       go : (i : ℕ) → poly p (set r 1 v) i ≡ plus p (poly p r i) (minus p (ind (Zmod p) i))
       go zero = kept 0 (λ e. absurd (omega arith))
       go (suc zero) =
-          poly-at p (set r 1 v) 1 ∙ ap (mk p) first ∙ h.class ∙ ap (λ x. plus p x (minus p (mk p 1))) (sym (poly-at p r 1))
+          poly_at p (set r 1 v) 1 ∙ ap (mk p) first ∙ h.class ∙ ap (λ x. plus p x (minus p (mk p 1))) (sym (poly_at p r 1))
       go (suc (suc i)) = kept (suc (suc i)) (λ e. absurd (omega arith))
 
 -- words that are widened are the same words
@@ -51,27 +51,27 @@ pub widened : {a out : List ℕ} → length out ≡ length a → Filled (λ j v.
 widened {a} {out} same words = ext_get_or 0 out a same words
 
 -- Euclid's algorithm may divide by a monic g
-pub divisor-leads : {p : ℕ} {g : List ℕ} → 1 < p → Divisor p g → Leads p g
-divisor-leads large h = monic-leads large h.reduced h.some h.monic
+pub divisor_leads : {p : ℕ} {g : List ℕ} → 1 < p → Divisor p g → Leads p g
+divisor_leads large h = monic_leads large h.reduced h.some h.monic
 
 -- the count
-pub counted : {p d n : ℕ} (P : Prime p) (g r : List ℕ) → RemainderOf p d (poly p g) (x-to p p) r
-    → GcdDegree (Zmod p) (poly p g) (sums (Zmod p) (poly p r) (negs (Zmod p) (ind (Zmod p)))) n → n ≡ rational-roots p (length g) (poly p g)
-counted {p} {d} {n} P g r h (c, G) = sym (roots-modulo P (length g) (poly p g) (poly-past p g) (poly p r) h.congruent n c G)
+pub counted : {p d n : ℕ} (P : Prime p) (g r : List ℕ) → RemainderOf p d (poly p g) (x_to p p) r
+    → GcdDegree (Zmod p) (poly p g) (sums (Zmod p) (poly p r) (negs (Zmod p) (ind (Zmod p)))) n → n ≡ rational_roots p (length g) (poly p g)
+counted {p} {d} {n} P g r h (c, G) = sym (roots_modulo P (length g) (poly p g) (poly_past p g) (poly p r) h.congruent n c G)
 
 -- which is at most g's degree
-pub roots_few : {p : ℕ} {g : List ℕ} → Prime p → Divisor p g → rational-roots p (length g) (poly p g) < length g
+pub roots_few : {p : ℕ} {g : List ℕ} → Prime p → Divisor p g → rational_roots p (length g) (poly p g) < length g
 roots_few {p} {g} P h =
     let size : suc (length g - 1) ≡ length g = omega (arith, h.some) in
-    let most : rational-roots p (length g) (poly p g) ≤ length g - 1 = subst (λ n. rational-roots p n (poly p g) ≤ length g - 1) size
-    (roots-most P (length g - 1) (poly p g) h.monic) in
+    let most : rational_roots p (length g) (poly p g) ≤ length g - 1 = subst (λ n. rational_roots p n (poly p g) ≤ length g - 1) size
+    (roots_most P (length g - 1) (poly p g) h.monic) in
     omega (arith, most, h.some)
 
 -- and 1 for a degree of 1
-pub roots-one : {p : ℕ} {g : List ℕ} → Prime p → Divisor p g → length g ≡ 2 → rational-roots p (length g) (poly p g) ≡ 1
-roots-one {p} {g} P h two =
-    ap (λ n. rational-roots p n (poly p g)) two
-    ∙ roots-linear P (poly p g) (subst (λ n. Monic (Zmod p) n (poly p g)) (ap (λ n. n - 1) two) h.monic)
+pub roots_one : {p : ℕ} {g : List ℕ} → Prime p → Divisor p g → length g ≡ 2 → rational_roots p (length g) (poly p g) ≡ 1
+roots_one {p} {g} P h two =
+    ap (λ n. rational_roots p n (poly p g)) two
+    ∙ roots_linear P (poly p g) (subst (λ n. Monic (Zmod p) n (poly p g)) (ap (λ n. n - 1) two) h.monic)
 
 -- the words of a table for a degree of up to 15
 pub table_fits : (d : ℕ) → d ≤ 15 → d * (d + 3) ≤ 270

@@ -3,10 +3,10 @@
 ghost use Rattle.std.specs.Prelude.{◌≡◌, ◌+◌, ◌-◌, ◌*◌, ◌<◌, ◌≤◌, length};
 ghost use Rattle.zmod.specs.Prime.{Prime};
 ghost use Rattle.zmod.specs.Residues.{poly};
-ghost use Rattle.roots.specs.Rational.{rational-roots};
+ghost use Rattle.roots.specs.Rational.{rational_roots};
 ghost use Rattle.barrett.specs.Modulus.{Prepared};
 ghost use Rattle.modulo.specs.Modulo.{Divisor, RemainderOf};
-ghost use Rattle.modulo.specs.Power.{x-to};
+ghost use Rattle.modulo.specs.Power.{x_to};
 
 use barrett::Modulus;
 
@@ -14,8 +14,8 @@ use barrett::Modulus;
 fn from_power(g: &[u32], r: &mut [u32], a: &mut [u64], b: &mut [u64], m: Modulus) -> usize
     requires prime { Prime m.p × Prepared m × (Divisor m.p g.now) × (3 ≤ length g.now) }
     requires r_len { (length r.old + 1 ≡ length g.now) × (length a.old ≡ length g.now) × (length b.old ≡ length r.old)
-        × RemainderOf m.p (length g.now - 1) (poly m.p g.now) (x-to m.p m.p) r.old }
-    ensures { result ≡ rational-roots m.p (length g.now) (poly m.p g.now) }
+        × RemainderOf m.p (length g.now - 1) (poly m.p g.now) (x_to m.p m.p) r.old }
+    ensures { result ≡ rational_roots m.p (length g.now) (poly m.p g.now) }
 {
     r[1] = field::subtract(r[1], 1, m.p);
     rows::widen(g, a);
@@ -40,7 +40,7 @@ fn by_quotients(
     requires a_len { (length a.old ≡ length g.now) × (length r.old + 1 ≡ length g.now) × (length q.old ≡ length g.now)
         × (length g.now + 3 ≤ length t.old) × (length g.now + 3 ≤ length n.old) × (length g.now + 6 ≤ length e.old)
         × (length acc.old ≡ length room.old) × (length room.old + 1 ≡ 2 * length g.now) }
-    ensures { result ≡ rational-roots m.p (length g.now) (poly m.p g.now) }
+    ensures { result ≡ rational_roots m.p (length g.now) (poly m.p g.now) }
 {
     quotients::power_of_x(g, r, t, n, e, acc, room, a, q, m);
     let k = g.len();
@@ -51,7 +51,7 @@ fn by_quotients(
 // The same, with room of its own, in two sizes.
 fn roots88(g: &[u32], m: Modulus) -> usize
     requires { Prime m.p × Prepared m × (Divisor m.p g.now) × (3 ≤ length g.now) × (length g.now ≤ 40) }
-    ensures { result ≡ rational-roots m.p (length g.now) (poly m.p g.now) }
+    ensures { result ≡ rational_roots m.p (length g.now) (poly m.p g.now) }
 {
     let k = g.len();
     let d = k - 1;
@@ -81,7 +81,7 @@ fn roots88(g: &[u32], m: Modulus) -> usize
 
 fn roots264(g: &[u32], m: Modulus) -> usize
     requires { Prime m.p × Prepared m × (Divisor m.p g.now) × (3 ≤ length g.now) × (length g.now ≤ 128) }
-    ensures { result ≡ rational-roots m.p (length g.now) (poly m.p g.now) }
+    ensures { result ≡ rational_roots m.p (length g.now) (poly m.p g.now) }
 {
     let k = g.len();
     let d = k - 1;
@@ -124,7 +124,7 @@ fn by_table(
     requires r_len { (length r.old + 1 ≡ length g.now) × (length n.old ≡ length r.old) × (length q.old ≡ length r.old)
         × (length t.old ≡ length r.old * (length r.old + 3)) × (length r.old + 6 ≤ length e.old)
         × (length acc.old ≡ 2 * length r.old) }
-    ensures { result ≡ rational-roots m.p (length g.now) (poly m.p g.now) }
+    ensures { result ≡ rational_roots m.p (length g.now) (poly m.p g.now) }
 {
     folding::power_of_x(g, r, n, q, t, e, acc, m);
     let k = g.len();
@@ -147,7 +147,7 @@ fn table() -> [u64; 270] {
 // The same, with room of its own.
 fn roots40(g: &[u32], m: Modulus) -> usize
     requires { Prime m.p × Prepared m × (Divisor m.p g.now) × (3 ≤ length g.now) × (length g.now ≤ 16) }
-    ensures { result ≡ rational-roots m.p (length g.now) (poly m.p g.now) }
+    ensures { result ≡ rational_roots m.p (length g.now) (poly m.p g.now) }
 {
     let d = g.len() - 1;
     let c = d + 6;
@@ -174,7 +174,7 @@ fn roots40(g: &[u32], m: Modulus) -> usize
 // The same for every degree. One of degree 1 has one root.
 fn roots_by_size(g: &[u32], m: Modulus) -> usize
     requires { Prime m.p × Prepared m × (Divisor m.p g.now) × (2 ≤ length g.now) × (length g.now ≤ 128) }
-    ensures { result ≡ rational-roots m.p (length g.now) (poly m.p g.now) }
+    ensures { result ≡ rational_roots m.p (length g.now) (poly m.p g.now) }
 {
     if g.len() == 2 {
         return 1;
@@ -191,7 +191,7 @@ fn roots_by_size(g: &[u32], m: Modulus) -> usize
 // The number of roots of g in ℤ/p.
 pub fn roots(g: &[u32], m: Modulus) -> u32
     requires { Prime m.p × Prepared m × (Divisor m.p g.now) × (2 ≤ length g.now) × (length g.now ≤ 128) }
-    ensures { result ≡ rational-roots m.p (length g.now) (poly m.p g.now) }
+    ensures { result ≡ rational_roots m.p (length g.now) (poly m.p g.now) }
 {
     roots_by_size(g, m) as u32
 }

@@ -8,12 +8,12 @@ use Rattle.ring.specs.Ring.{CRing}
 use Rattle.ring.specs.Field.{Field}
 use Rattle.ring.specs.Identity.{solve2, solve3}
 use Rattle.ring.specs.Identity.Ex.{:0, :1, ◌:+◌, ◌:-◌, ◌:*◌}
-use Rattle.series.specs.Series.{Series, Seq, const, zeros, conv-const}
-use Rattle.series.specs.Degree.{Below, Leading, Monic, degree, below-zeros, below-const, poly-zeros, poly-const}
+use Rattle.series.specs.Series.{Series, Seq, const, zeros, conv_const}
+use Rattle.series.specs.Degree.{Below, Leading, Monic, degree, below_zeros, below_const, poly_zeros, poly_const}
 use Rattle.divisibility.specs.Division.{Division, divide}
-use Rattle.divisibility.specs.Divides.{Divides, divides-zeros, divides-sum}
-use Rattle.divisibility.specs.Congruence.{Congruent, congruent-remainder}
-use Rattle.divisibility.specs.Coprime.{Bezout, Coprime, bezout-sym, bezout-divides, bezout-modulo, const-unit}
+use Rattle.divisibility.specs.Divides.{Divides, divides_zeros, divides_sum}
+use Rattle.divisibility.specs.Congruence.{Congruent, congruent_remainder}
+use Rattle.divisibility.specs.Coprime.{Bezout, Coprime, bezout_sym, bezout_divides, bezout_modulo, const_unit}
 
 module _ (R : CRing) where
   open R use {𝟙, mul as ◌⊗◌}
@@ -29,19 +29,19 @@ module _ (R : CRing) where
     pub bezout : Bezout R a b c
 
   -- every common divisor divides it
-  pub gcd-greatest : (a b : Seq R) (n : ℕ) (c : Seq R) → Gcd a b n c → (e : Seq R) → Divides R e a → Divides R e b → Divides R e c
-  gcd-greatest a b n c G = bezout-divides R a b c G.bezout
+  pub gcd_greatest : (a b : Seq R) (n : ℕ) (c : Seq R) → Gcd a b n c → (e : Seq R) → Divides R e a → Divides R e b → Divides R e c
+  gcd_greatest a b n c G = bezout_divides R a b c G.bezout
 
-  gcd-sym : (a b : Seq R) (n : ℕ) (c : Seq R) → Gcd a b n c → Gcd b a n c
-  gcd-sym a b n c G = record { monic = G.monic; left = G.right; right = G.left; bezout = bezout-sym R a b c G.bezout }
+  gcd_sym : (a b : Seq R) (n : ℕ) (c : Seq R) → Gcd a b n c → Gcd b a n c
+  gcd_sym a b n c G = record { monic = G.monic; left = G.right; right = G.left; bezout = bezout_sym R a b c G.bezout }
 
   -- the one of a and b is the one of a and r, where b = r modulo a
-  pub gcd-modulo : (a b r : Seq R) → Congruent R a b r → (n : ℕ) (c : Seq R) → Gcd a r n c → Gcd a b n c
-  gcd-modulo a b r h n c G = record {
+  pub gcd_modulo : (a b r : Seq R) → Congruent R a b r → (n : ℕ) (c : Seq R) → Gcd a r n c → Gcd a b n c
+  gcd_modulo a b r h n c G = record {
     monic = G.monic;
     left = G.left;
-    right = subst (Divides R c) (sym split) (divides-sum R c a r h.cofactor 1ₛ h.poly (poly-const R 𝟙) G.left G.right);
-    bezout = bezout-modulo R a b r c h G.bezout;
+    right = subst (Divides R c) (sym split) (divides_sum R c a r h.cofactor 1ₛ h.poly (poly_const R 𝟙) G.left G.right);
+    bezout = bezout_modulo R a b r c h G.bezout;
   }
     where
       split : b ≡ h.cofactor *ₛ a +ₛ 1ₛ *ₛ r
@@ -50,64 +50,64 @@ module _ (R : CRing) where
           ∙ solve3 (Series R) (λ a k r. a :* k :+ r) (λ a k r. k :* a :+ :1 :* r) tt a h.cofactor r
 
   -- Euclid's step: from b and a modulo b to a and b
-  pub gcd-step : (a b r : Seq R) → Congruent R b a r → (n : ℕ) (c : Seq R) → Gcd b r n c → Gcd a b n c
-  gcd-step a b r h n c G = gcd-sym b a n c (gcd-modulo b a r h n c G)
+  pub gcd_step : (a b r : Seq R) → Congruent R b a r → (n : ℕ) (c : Seq R) → Gcd b r n c → Gcd a b n c
+  gcd_step a b r h n c G = gcd_sym b a n c (gcd_modulo b a r h n c G)
 
   -- a divided by its leading coefficient
   unfoldable pub normalized : (n : ℕ) (a : Seq R) → Leading R n a → Seq R
   normalized n a L = const R L.unit.0 *ₛ a
 
-  pub normalized-monic : (n : ℕ) (a : Seq R) (L : Leading R n a) → Monic R n (normalized n a L)
+  pub normalized_monic : (n : ℕ) (a : Seq R) (L : Leading R n a) → Monic R n (normalized n a L)
   unfolding normalized
-  normalized-monic n a L = record {
-    below = λ i l. conv-const R L.unit.0 a i ∙ ap (λ x. L.unit.0 ⊗ x) (L.below i l) ∙ Ring.mul-zero R _;
-    one = conv-const R L.unit.0 a n ∙ R.mul_comm _ (a n) ∙ L.unit.1;
+  normalized_monic n a L = record {
+    below = λ i l. conv_const R L.unit.0 a i ∙ ap (λ x. L.unit.0 ⊗ x) (L.below i l) ∙ Ring.mul-zero R _;
+    one = conv_const R L.unit.0 a n ∙ R.mul_comm _ (a n) ∙ L.unit.1;
   }
 
-  pub normalized-divides : (n : ℕ) (a : Seq R) (L : Leading R n a) → Divides R (normalized n a L) a
+  pub normalized_divides : (n : ℕ) (a : Seq R) (L : Leading R n a) → Divides R (normalized n a L) a
   unfolding normalized
-  normalized-divides n a L = record {
+  normalized_divides n a L = record {
     cofactor = const R (a n);
-    poly = poly-const R (a n);
+    poly = poly_const R (a n);
     is =
         solve3 (Series R) (λ k a l. k :* a :* l) (λ k a l. l :* k :* a) tt (const R L.unit.0) a (const R (a n))
-        ∙ ap (λ x. x *ₛ a) (const-unit R (a n) L.unit) ∙ Ring.one-mul (Series R) a;
+        ∙ ap (λ x. x *ₛ a) (const_unit R (a n) L.unit) ∙ Ring.one-mul (Series R) a;
   }
 
   -- the one of a and 0, where Euclid's algorithm ends
-  pub gcd-zeros : (n : ℕ) (a b : Seq R) (L : Leading R n a) → b ≡ zeros R → Gcd a b n (normalized n a L)
+  pub gcd_zeros : (n : ℕ) (a b : Seq R) (L : Leading R n a) → b ≡ zeros R → Gcd a b n (normalized n a L)
   unfolding normalized
-  gcd-zeros n a b L e = record {
-    monic = normalized-monic n a L;
-    left = normalized-divides n a L;
-    right = subst (Divides R _) (sym e) (divides-zeros R _);
+  gcd_zeros n a b L e = record {
+    monic = normalized_monic n a L;
+    left = normalized_divides n a L;
+    right = subst (Divides R _) (sym e) (divides_zeros R _);
     bezout = record {
       u = const R L.unit.0;
       v = zeros R;
-      poly-u = poly-const R _;
-      poly-v = poly-zeros R;
+      poly_u = poly_const R _;
+      poly_v = poly_zeros R;
       is = solve3 (Series R) (λ k a b. k :* a :+ :0 :* b) (λ k a b. k :* a) tt (const R L.unit.0) a b;
     };
   }
 
   -- of degree 0 it is 1
-  pub gcd-one : (a b : Seq R) (n : ℕ) (c : Seq R) → Gcd a b n c → n ≡ 0 → Coprime R a b
-  gcd-one a b n c G e =
-      subst (Bezout R a b) (below-const R c (λ i l. G.monic.below i (omega arith)) ∙ ap (const R) (ap c (sym e) ∙ G.monic.one)) G.bezout
+  pub gcd_one : (a b : Seq R) (n : ℕ) (c : Seq R) → Gcd a b n c → n ≡ 0 → Coprime R a b
+  gcd_one a b n c G e =
+      subst (Bezout R a b) (below_const R c (λ i l. G.monic.below i (omega arith)) ∙ ap (const R) (ap c (sym e) ∙ G.monic.one)) G.bezout
 
   -- Euclid's algorithm, for a that is not zero
   module _ (F : Field R) where
     pub euclid : (j m : ℕ) (a b : Seq R) → Leading R m a → Below R j b → (n : ℕ) × (c : Seq R) × Gcd a b n c
-    euclid zero m a b L h = (m, normalized m a L, gcd-zeros m a b L (below-zeros R b h))
+    euclid zero m a b L h = (m, normalized m a L, gcd_zeros m a b L (below_zeros R b h))
     euclid (suc j) m a b L h = go (degree R F (suc j) b h) (euclid j)
       where
         go : (b ≡ zeros R) ⊎ ((n : ℕ) × (n < suc j) × Leading R n b)
             → ((n : ℕ) (a b : Seq R) → Leading R n a → Below R j b → (n : ℕ) × (c : Seq R) × Gcd a b n c) → (n : ℕ) × (c : Seq R) × Gcd a b n c
-        go (inl e) rec = (m, normalized m a L, gcd-zeros m a b L e)
+        go (inl e) rec = (m, normalized m a L, gcd_zeros m a b L e)
         go (inr d) rec = up (rec d.0 b D.remainder d.2 (λ i g. D.below i (let l : d.0 < suc j = d.1 in omega arith)))
           where
             D : Division R d.0 a b
             D = divide R d.0 b d.2 (suc m) a L.below
 
             up : (n : ℕ) × (c : Seq R) × Gcd b D.remainder n c → (n : ℕ) × (c : Seq R) × Gcd a b n c
-            up (n, c, G) = (n, c, gcd-step a b D.remainder (congruent-remainder R d.0 a b D) n c G)
+            up (n, c, G) = (n, c, gcd_step a b D.remainder (congruent_remainder R d.0 a b D) n c G)

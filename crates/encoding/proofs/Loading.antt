@@ -7,16 +7,16 @@ use native.Mathlib.Decide.{dec_le}
 use native.Mathlib.Omega.{arith}
 use lib.ListN.{length, take, drop, length-take, length-drop, length-append}
 use lib.Seq.{take_all, take-append_seam}
-use Rattle.slices.specs.Filling.{length-tab}
+use Rattle.slices.specs.Filling.{length_tab}
 use Rattle.sheet.specs.Word.{word_at, words_of}
 use Rattle.encoding.specs.Encoding.{Loaded}
 
-words-length : (bytes : List ℕ) → length (words_of bytes) ≡ length bytes / 4
-words-length bytes = length-tab (length bytes / 4) (word_at bytes)
+words_length : (bytes : List ℕ) → length (words_of bytes) ≡ length bytes / 4
+words_length bytes = length_tab (length bytes / 4) (word_at bytes)
 
 -- n, the lesser of the count of words and the room, takes what the room takes
-same-words : (ws : List ℕ) (room n : ℕ) → n ≡ min (length ws) room → take n ws ≡ take room ws
-same-words ws room n e = go (dec_le room (length ws))
+same_words : (ws : List ℕ) (room n : ℕ) → n ≡ min (length ws) room → take n ws ≡ take room ws
+same_words ws room n e = go (dec_le room (length ws))
   where
     go : Dec (room ≤ length ws) → take n ws ≡ take room ws
     go (yes le) = let same : n ≡ room = omega arith in ap (λ m. take m ws) same
@@ -29,10 +29,10 @@ module _ (bytes before out : List ℕ) (n : ℕ) (least : n ≡ min (length byte
   pub loaded : out ≡ take (length (take n before)) (words_of bytes) → Loaded bytes (length before) (out ++ drop n before) n
   loaded e =
       let words : out ≡ take n (words_of bytes) = e ∙ ap (λ m. take m (words_of bytes)) count in
-      let long : length out ≡ n = ap length words ∙ omega (arith, length-take n (words_of bytes), words-length bytes) in
+      let long : length out ≡ n = ap length words ∙ omega (arith, length-take n (words_of bytes), words_length bytes) in
       let front : take n (out ++ drop n before) ≡ out = subst (λ m. take m (out ++ drop n before) ≡ out) long (take-append_seam out (drop n before)) in
       record {
         fits = omega (arith, length-append out (drop n before));
         counted = sym (ap length front ∙ long);
-        words = front ∙ words ∙ same-words (words_of bytes) (length before) n (least ∙ ap (λ m. min m (length before)) (sym (words-length bytes)));
+        words = front ∙ words ∙ same_words (words_of bytes) (length before) n (least ∙ ap (λ m. min m (length before)) (sym (words_length bytes)));
       }

@@ -14,9 +14,9 @@ abbrev pub point_of : ℕ → Point
 point_of k = cond (ltb k (2 ^ 56)) (point.Affine (k % 2 ^ 28) (k / 2 ^ 28)) point.Infinity
 
 -- what push answers to a number above 2^56, from what check answers
-abbrev pub unpointedOf : Verdict → Image
-unpointedOf verdict.Passes = image.Refused 12
-unpointedOf (verdict.Refused n) = image.Refused n
+abbrev pub unpointed_of : Verdict → Image
+unpointed_of verdict.Passes = image.Refused 12
+unpointed_of (verdict.Refused n) = image.Refused n
 
 -- ── the words of bytes at the front of a buffer, or the first of them if there is room for no more
 

@@ -2,9 +2,9 @@
 // u + 2^28·v and infinity as 2^56; an answer as one number, a refusal of 64 bits as 2^57 plus its own.
 ghost use Rattle.std.specs.Prelude.{◌≡◌, ◌+◌, ◌*◌, ◌^◌, ◌<◌, ◌≤◌, min, length};
 ghost use Rattle.sheet.specs.Word.{word_at};
-ghost use Rattle.sheet.specs.Form.{mostWords};
-ghost use Rattle.promises.specs.Outcome.{verdictNumber, writtenNumber};
-ghost use Rattle.encoding.specs.Encoding.{point_of, unpointedOf, Loaded};
+ghost use Rattle.sheet.specs.Form.{most_words};
+ghost use Rattle.promises.specs.Outcome.{verdict_number, written_number};
+ghost use Rattle.encoding.specs.Encoding.{point_of, unpointed_of, Loaded};
 
 use promises::{Image, Point, Verdict, Written};
 
@@ -15,7 +15,7 @@ pub const KEPT: usize = sheet::MOST_WORDS + 1;
 
 // Room for them.
 pub fn blank() -> [u32; KEPT]
-    ensures { mostWords + 1 ≡ length result }
+    ensures { most_words + 1 ≡ length result }
 {
     [0; KEPT]
 }
@@ -76,7 +76,7 @@ pub fn point_of(k: u64) -> Point
 
 // What push answers to a number that is no point, from what check answers: its refusal, or 12.
 pub fn unpointed(verdict: Verdict) -> Image
-    ensures { result ≡ unpointedOf verdict }
+    ensures { result ≡ unpointed_of verdict }
 {
     let Verdict::Refused(n) = verdict else {
         return Image::Refused(12);
@@ -88,7 +88,7 @@ pub fn unpointed(verdict: Verdict) -> Image
 
 // The number of what check answers.
 pub fn verdict_number(verdict: Verdict) -> u32
-    ensures { result ≡ verdictNumber verdict }
+    ensures { result ≡ verdict_number verdict }
 {
     let Verdict::Refused(n) = verdict else {
         return 0;
@@ -112,7 +112,7 @@ pub fn refusal(n: u32) -> u64
 
 // The number of what solve, kernel and compose answer.
 pub fn written_number(written: Written) -> u64
-    ensures { result ≡ writtenNumber written }
+    ensures { result ≡ written_number written }
 {
     match written {
         Written::Count(c) => field::wide(c),

@@ -9,13 +9,13 @@ use Rattle.evaluation.specs.declared.Jet.{Jet}
 use Rattle.evaluation.specs.Tables.{weighed}
 
 pub record JetOf (p : ℕ) (a : List ℕ) (u : Elt p) (j : Jet) : Type 0 where
-  pub value-is : Residue p (value (Zmod p) (length a) (poly p a) u) j.value
-  pub slope-is : Residue p (value (Zmod p) (length a) (∂ (Zmod p) (poly p a)) u) j.slope
+  pub value_is : Residue p (value (Zmod p) (length a) (poly p a) u) j.value
+  pub slope_is : Residue p (value (Zmod p) (length a) (∂ (Zmod p) (poly p a)) u) j.slope
 
 pub record Stepped (p : ℕ) (a powers slopes : List ℕ) (above r : Jet) : Type 0 where
-  pub value-is :
+  pub value_is :
       Residue p (plus p (weighed (Zmod p) (poly p a) (poly p powers) (length a)) (times p (poly p powers (length a)) (mk p above.value))) r.value
-  pub slope-is :
+  pub slope_is :
       Residue p
       (plus p (plus p (weighed (Zmod p) (poly p a) (poly p slopes) (length a)) (times p (poly p powers (length a)) (mk p above.slope)))
       (times p (poly p slopes (length a)) (mk p above.value)))

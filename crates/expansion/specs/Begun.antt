@@ -9,8 +9,8 @@ use Rattle.series.specs.Recursion.{Before}
 use Rattle.zmod.specs.Zmod.{Zmod}
 use Rattle.zmod.specs.Residues.{Residue, poly}
 use Rattle.isogeny.specs.Rules.{Question}
-use Rattle.isogeny.specs.Expansion.{expansion, power-sums, Recurs}
-use Rattle.isogeny.specs.Proof.Terms.{recurrence-same}
+use Rattle.isogeny.specs.Expansion.{expansion, power_sums_of, Recurs}
+use Rattle.isogeny.specs.Proof.Terms.{recurrence_same}
 use Rattle.sheet.specs.declared.Values.{Values}
 use Rattle.sheet.specs.Values.{half, question}
 
@@ -26,33 +26,33 @@ module _ (R : CRing) (q : Question R) where
     pub second : 2 < n → cast R 7 ⊗ h 2 ≡ B ⊕ neg B̃
     pub recurs : (k : ℕ) → 3 ≤ k → k < n → Recurs R A B h k
 
-  pub short-to-same : (n : ℕ) (a b : Seq R) → Before Car n a b → ShortTo n a → ShortTo n b
-  short-to-same n a b e x = record {
+  pub short_to_same : (n : ℕ) (a b : Seq R) → Before Car n a b → ShortTo n a → ShortTo n b
+  short_to_same n a b e x = record {
     first = λ l. ap (λ y. cast R 5 ⊗ y) (sym (e 1 l)) ∙ x.first l;
     second = λ l. ap (λ y. cast R 7 ⊗ y) (sym (e 2 l)) ∙ x.second l;
     recurs = λ k l m.
         ap (λ y. cast R (k - 2) ⊗ cast R (2 * k + 3) ⊗ y) (sym (e k m)) ∙ x.recurs k l m
-        ∙ recurrence-same R A B k l a b (λ i j. e i (omega arith));
+        ∙ recurrence_same R A B k l a b (λ i j. e i (omega arith));
   }
 
 module _ (v : Values) (g : List ℕ) where
-  abbrev pub sums-of : Seq (Zmod v.p)
-  sums-of = power-sums (Zmod v.p) (half v) (poly v.p g)
+  abbrev pub sums_of : Seq (Zmod v.p)
+  sums_of = power_sums_of (Zmod v.p) (half v) (poly v.p g)
 
-  abbrev pub terms-of : Seq (Zmod v.p)
-  terms-of = expansion (Zmod v.p) (question v).A (question v).B sums-of
+  abbrev pub terms_of : Seq (Zmod v.p)
+  terms_of = expansion (Zmod v.p) (question v).A (question v).B sums_of
 
   -- s₀ to s_n, if any
   abbrev pub KnownSums : List ℕ → ℕ → Type 0
-  KnownSums s n = 1 ≤ n → (k : ℕ) → k ≤ n → Residue v.p (sums-of k) (get_or s k 0)
+  KnownSums s n = 1 ≤ n → (k : ℕ) → k ≤ n → Residue v.p (sums_of k) (get_or s k 0)
 
   pub record Begun (s h : List ℕ) (n : ℕ) : Type 0 where
     pub sums : KnownSums s n
-    pub terms : (k : ℕ) → k < n → Residue v.p (terms-of k) (get_or h k 0)
-    pub short : ShortTo (Zmod v.p) (question v) n terms-of
+    pub terms : (k : ℕ) → k < n → Residue v.p (terms_of k) (get_or h k 0)
+    pub short : ShortTo (Zmod v.p) (question v) n terms_of
 
-  pub begun-none : (s h : List ℕ) → Begun s h 0
-  begun-none s h = record {
+  pub begun_none : (s h : List ℕ) → Begun s h 0
+  begun_none s h = record {
     sums = λ l. absurd (omega arith);
     terms = λ k l. absurd (omega arith);
     short = record { first = λ l. absurd (omega arith); second = λ l. absurd (omega arith); recurs = λ k l m. absurd (omega arith) };

@@ -3,7 +3,7 @@ ghost use Rattle.std.specs.Prelude.{◌≡◌, ◌↔◌, true, ℕ, ◌+◌, �
 ghost use Rattle.slices.specs.Filling.{Filled};
 ghost use Rattle.zmod.specs.Zmod.{Zmod, mk, plus, times};
 ghost use Rattle.zmod.specs.Residues.{Residue, Reduced, poly, Residues};
-ghost use Rattle.isogeny.specs.Expansion.{expansion as expansion-of, Recurs, sum_to};
+ghost use Rattle.isogeny.specs.Expansion.{expansion as expansion_of, Recurs, sum_to};
 ghost use Rattle.sheet.specs.Values.{question};
 ghost use Rattle.sheet.specs.Ready.{Ready};
 ghost use Rattle.expansion.specs.Products.{Squares};
@@ -42,7 +42,7 @@ fn expansion_at(v: Values, s: &[u32], i: usize, y: u32, z: u32) -> u32
     requires ready { Ready v }
     requires le_i { (1 ≤ i) × (i + 1 < length s.now) × (length s.now ≤ 1024) × Reduced v.p s.now }
     requires multiple { (Multiple v.p (2 * i - 1) (question v).A y) × (Multiple v.p (2 * i - 2) (question v).B z) }
-    ensures { Residue v.p (expansion-of (Zmod v.p) (question v).A (question v).B (poly v.p s.now) i) result }
+    ensures { Residue v.p (expansion_of (Zmod v.p) (question v).A (question v).B (poly v.p s.now) i) result }
 {
     let n = i as u32;
     weighted(
@@ -62,8 +62,8 @@ pub fn expansion(v: Values, s: &[u32], h: &mut [u32], known: usize)
     requires ready { Ready v }
     requires h_nonzero { (0 < length h.old) × (length h.old < length s.now) × (length s.now ≤ 1024) × Reduced v.p s.now × (known ≤ length h.old) }
     requires by_index { (k : ℕ) → k < known
-        → Residue v.p (expansion-of (Zmod v.p) (question v).A (question v).B (poly v.p s.now) k) (get_or h.old k 0) }
-    ensures { Residues v.p (expansion-of (Zmod v.p) (question v).A (question v).B (poly v.p s.now)) h.new }
+        → Residue v.p (expansion_of (Zmod v.p) (question v).A (question v).B (poly v.p s.now) k) (get_or h.old k 0) }
+    ensures { Residues v.p (expansion_of (Zmod v.p) (question v).A (question v).B (poly v.p s.now)) h.new }
 {
     let p = v.p;
     let a = field::add(v.a, v.a, p);

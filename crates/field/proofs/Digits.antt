@@ -9,11 +9,11 @@ use native.Mathlib.Omega.{arith}
 use lib.Count.{count_leading_zeros, leading_top}
 use lib.Pow.{pow-add}
 use Rattle.ring.specs.Ring.{pow, pow-zero}
-use Rattle.zmod.specs.Zmod.{Zmod, mk, times, mk-mul, mk-pow}
-use Rattle.zmod.specs.Residues.{Residue, residue-same}
+use Rattle.zmod.specs.Zmod.{Zmod, mk, times, mk_mul, mk_pow}
+use Rattle.zmod.specs.Residues.{Residue, residue_same}
 
-pub to-zero : (a e p : ℕ) → e ≡ 0 → 1 < p → Residue p (pow (Zmod p) (mk p a) e) 1
-to-zero a e p z h = record { below = h; class = sym (ap (pow (Zmod p) (mk p a)) z ∙ pow-zero (Zmod p) (mk p a)) }
+pub to_zero : (a e p : ℕ) → e ≡ 0 → 1 < p → Residue p (pow (Zmod p) (mk p a) e) 1
+to_zero a e p z h = record { below = h; class = sym (ap (pow (Zmod p) (mk p a)) z ∙ pow-zero (Zmod p) (mk p a)) }
 
 -- the place of the topmost digit of a number of 32 bits, and that above it there is just this digit
 pub topmost : (e : ℕ) → (e ≡ 0 → ⊥) → e < 2 ^ 32 → (count_leading_zeros 32 e ≤ 31) × (e / 2 ^ (31 - count_leading_zeros 32 e) ≡ 1)
@@ -32,7 +32,7 @@ start a e p pos fits h = record {
 }
 
 pub finish : (a e p i : ℕ) {r : ℕ} → i ≡ 0 → Residue p (mk p (a ^ (e / 2 ^ i))) r → Residue p (pow (Zmod p) (mk p a) e) r
-finish a e p i z = residue-same (ap (λ n. mk p (a ^ (e / 2 ^ n))) z ∙ ap (λ n. mk p (a ^ n)) (N.div-one e) ∙ mk-pow p a e)
+finish a e p i z = residue_same (ap (λ n. mk p (a ^ (e / 2 ^ n))) z ∙ ap (λ n. mk p (a ^ n)) (N.div-one e) ∙ mk_pow p a e)
 
 -- the digits of e from place j up: those from j + 1 up, and the one at j
 digit : (e j : ℕ) → e / 2 ^ j ≡ e / 2 ^ (j + 1) + e / 2 ^ (j + 1) + (e / 2 ^ j) % 2
@@ -49,12 +49,12 @@ module _ (a e p i : ℕ) {r s : ℕ} (pos : 0 < i) (inv : Residue p (mk p (a ^ (
   down = ap (λ n. e / 2 ^ n) (omega arith)
 
   squared : Residue p (mk p (a ^ (k + k))) s
-  squared = residue-same (ap (λ x. times p x x) inv.class ∙ sym (mk-mul p (a ^ k) (a ^ k)) ∙ ap (mk p) (sym (pow-add a k k))) sq
+  squared = residue_same (ap (λ x. times p x x) inv.class ∙ sym (mk_mul p (a ^ k) (a ^ k)) ∙ ap (mk p) (sym (pow-add a k k))) sq
 
-  pub digit-0 : ((e / 2 ^ (i - 1)) % 2 ≡ 1 → ⊥) → Residue p (mk p (a ^ (e / 2 ^ (i - 1)))) s
-  digit-0 d = residue-same (ap (λ n. mk p (a ^ n)) (omega (arith, digit e (i - 1), down))) squared
+  pub digit_0 : ((e / 2 ^ (i - 1)) % 2 ≡ 1 → ⊥) → Residue p (mk p (a ^ (e / 2 ^ (i - 1)))) s
+  digit_0 d = residue_same (ap (λ n. mk p (a ^ n)) (omega (arith, digit e (i - 1), down))) squared
 
-  pub digit-1 : {t : ℕ} → (e / 2 ^ (i - 1)) % 2 ≡ 1 → Residue p (times p (mk p s) (mk p a)) t → Residue p (mk p (a ^ (e / 2 ^ (i - 1)))) t
-  digit-1 d = residue-same
-      (ap (λ x. times p x (mk p a)) squared.class ∙ sym (mk-mul p (a ^ (k + k)) a) ∙ ap (mk p) (sym (N.pow-suc a (k + k)))
+  pub digit_1 : {t : ℕ} → (e / 2 ^ (i - 1)) % 2 ≡ 1 → Residue p (times p (mk p s) (mk p a)) t → Residue p (mk p (a ^ (e / 2 ^ (i - 1)))) t
+  digit_1 d = residue_same
+      (ap (λ x. times p x (mk p a)) squared.class ∙ sym (mk_mul p (a ^ (k + k)) a) ∙ ap (mk p) (sym (N.pow-suc a (k + k)))
       ∙ ap (λ n. mk p (a ^ n)) (omega (arith, digit e (i - 1), down)))

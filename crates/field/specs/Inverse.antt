@@ -7,20 +7,20 @@ use Rattle.ring.specs.Ring
 use Rattle.ring.specs.Field.{Inverse}
 use Rattle.ring.specs.Identity.{solve3}
 use Rattle.ring.specs.Identity.Ex.{◌:*◌}
-use Rattle.zmod.specs.Zmod.{Zmod, mk, times, mk-apart}
+use Rattle.zmod.specs.Zmod.{Zmod, mk, times, mk_apart}
 
 pub record InverseOf (p a r : ℕ) : Type 0 where
   pub below : r < p
   pub unit : times p (mk p a) (mk p r) ≡ mk p 1
 
 -- as an inverse of the ring
-pub inverse-in : {p a r : ℕ} → InverseOf p a r → Inverse (Zmod p) (mk p a)
-inverse-in {p} {a} {r} h = (mk p r, h.unit)
+pub inverse_in : {p a r : ℕ} → InverseOf p a r → Inverse (Zmod p) (mk p a)
+inverse_in {p} {a} {r} h = (mk p r, h.unit)
 
 -- there is only one: r = (a s) r = (a r) s = s
-pub inverse-unique : {p a r s : ℕ} → InverseOf p a r → InverseOf p a s → r ≡ s
-inverse-unique {p} {a} {r} {s} h k =
-    mk-apart {p = p} (omega arith) r s h.below k.below
+pub inverse_unique : {p a r s : ℕ} → InverseOf p a r → InverseOf p a s → r ≡ s
+inverse_unique {p} {a} {r} {s} h k =
+    mk_apart {p = p} (omega arith) r s h.below k.below
     (sym (Ring.one-mul (Zmod p) _) ∙ ap (λ x. times p x (mk p r)) (sym k.unit)
     ∙ solve3 (Zmod p) (λ a r s. a :* s :* r) (λ a r s. a :* r :* s) tt (mk p a) (mk p r) (mk p s)
     ∙ ap (λ x. times p x (mk p s)) h.unit ∙ Ring.one-mul (Zmod p) _)

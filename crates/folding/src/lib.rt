@@ -11,9 +11,9 @@ ghost use Rattle.zmod.specs.Residues.{Residue, Reduced, poly, Residues};
 ghost use Rattle.barrett.specs.Modulus.{Prepared};
 ghost use Rattle.rows.specs.Sums.{Sums, ProductSums};
 ghost use Rattle.modulo.specs.Modulo.{Divisor, RemainderOf};
-ghost use Rattle.modulo.specs.Power.{x-to};
+ghost use Rattle.modulo.specs.Power.{x_to};
 ghost use Rattle.folding.specs.Combination.{combination};
-ghost use Rattle.folding.specs.Table.{Table, BegunTable, monic-of, rows};
+ghost use Rattle.folding.specs.Table.{Table, BegunTable, monic_of, rows};
 ghost use Rattle.folding.specs.Fold.{fold_more};
 
 use barrett::Modulus;
@@ -57,7 +57,7 @@ fn shift_up(r: &mut [u32])
 // r = x r modulo x^d − n
 fn times_x(r: &mut [u32], n: &[u32], m: Modulus)
     requires { Prepared m × (0 < length n.now) × (length r.old ≡ length n.now) × (Reduced m.p r.old) × (Reduced m.p n.now) }
-    ensures { RemainderOf m.p (length n.now) (monic-of m.p n.now)
+    ensures { RemainderOf m.p (length n.now) (monic_of m.p n.now)
         (conv (Zmod m.p) (ind (Zmod m.p)) (poly m.p r.old)) r.new }
 {
     let top = r[r.len() - 1];
@@ -70,10 +70,10 @@ fn fill_row(r: &mut [u32], n: &[u32], t: &mut [u64], i: usize, m: Modulus)
     requires prepared { Prepared m × (i < length n.now) × (length r.old ≡ length n.now)
         × (length t.old ≡ length n.now * (length n.now + 3)) × (Reduced m.p n.now) }
     requires begun_table { (BegunTable m.p n.now i t.old)
-        × (RemainderOf m.p (length n.now) (monic-of m.p n.now) (x-to m.p (length n.now + i)) r.old) }
+        × (RemainderOf m.p (length n.now) (monic_of m.p n.now) (x_to m.p (length n.now + i)) r.old) }
     ensures { (BegunTable m.p n.now (i + 1) t.new)
-        × (RemainderOf m.p (length n.now) (monic-of m.p n.now)
-        (x-to m.p (length n.now + (i + 1))) r.new) }
+        × (RemainderOf m.p (length n.now) (monic_of m.p n.now)
+        (x_to m.p (length n.now + (i + 1))) r.new) }
 {
     let at = i * n.len();
     let to = at + n.len();
@@ -86,7 +86,7 @@ fn fill(r: &mut [u32], n: &[u32], t: &mut [u64], m: Modulus)
     requires { Prepared m × (length r.old ≡ length n.now)
         × (length t.old ≡ length n.now * (length n.now + 3)) × (Reduced m.p n.now) }
     ensures { (Reduced m.p t.new)
-        × (Table m.p (length n.now) (monic-of m.p n.now) (length n.now) t.new) }
+        × (Table m.p (length n.now) (monic_of m.p n.now) (length n.now) t.new) }
 {
     let d = n.len();
     rows::clear(&mut t[d * d..]);
@@ -200,7 +200,7 @@ pub fn power_of_x(
     requires r_len { (length r.old ≡ length g.now - 1) × (length n.old ≡ length r.old) × (length q.old ≡ length r.old)
         × (length t.old ≡ length r.old * (length r.old + 3)) × (length r.old + 6 ≤ length e.old)
         × (length acc.old ≡ length r.old + length r.old) }
-    ensures { RemainderOf m.p (length g.now - 1) (poly m.p g.now) (x-to m.p m.p) r.new }
+    ensures { RemainderOf m.p (length g.now - 1) (poly m.p g.now) (x_to m.p m.p) r.new }
 {
     prepare(g, r, n, t, m);
     let mut i = modulo::begin(r, m.p);

@@ -4,61 +4,61 @@
 use Rattle.std.specs.Prelude.{◌≡◌, refl, ◌↔◌, List, ℕ, ◌<◌, ◌≤◌, length, get_or, take}
 use Rattle.std.proofs.Common.{◌∙◌, inl, inr, arith}
 use Rattle.questions.specs.Questions.{AllYes}
-use Rattle.questions.specs.Numbered.{yes-to, first-no, YesBefore}
-use Rattle.questions.specs.Joined.{all-all, no-after}
+use Rattle.questions.specs.Numbered.{yes_to, first_no, YesBefore}
+use Rattle.questions.specs.Joined.{all_all, no_after}
 use Rattle.zmod.specs.Zmod.{Zmod}
 use Rattle.isogeny.specs.Rules.{N, R1, R3}
 use Rattle.sheet.specs.declared.Form.TheVariants.{Certificate}
 use Rattle.sheet.specs.Word.{kind_of}
-use Rattle.sheet.specs.Form.{kindsOf}
-use Rattle.sheet.specs.Values.{valuesOf, half, gOf, abscissasOf}
+use Rattle.sheet.specs.Form.{kinds_of}
+use Rattle.sheet.specs.Values.{values_of, half, gOf, abscissas_of}
 use Rattle.sheet.specs.Asked.{Asked6, asked}
-use Rattle.sheet.specs.Kinds.{below, kind_at, kinds-rise, place-from}
-use Rattle.sheet.specs.Lengths.{certificate-words}
-use Rattle.sheet.specs.Places.{coefficients-end, count-last, end-place}
+use Rattle.sheet.specs.Kinds.{below, kind_at, kinds_rise, place_from}
+use Rattle.sheet.specs.Lengths.{certificate_words_lem}
+use Rattle.sheet.specs.Places.{coefficients_end, count_last, end_place}
 use Rattle.sheet.specs.Ready.{ready}
-use Rattle.reading.specs.Body.{kinds-at, kinds-length}
-use Rattle.reading.specs.Accepted.{certificate-g}
+use Rattle.reading.specs.Body.{kinds_at, kinds_length}
+use Rattle.reading.specs.Accepted.{certificate_g}
 use Rattle.promises.specs.declared.Verdict.{Verdict}
 use Rattle.promises.specs.declared.Verdict.TheVariants as verdict
 use Rattle.promises.specs.declared.Written.TheVariants as written
-use Rattle.promises.specs.Abscissas.{rational-abscissas, abscissas-most}
-use Rattle.promises.specs.Asked.{prime, put, g, n, certificate-rules, check-asks}
+use Rattle.promises.specs.Abscissas.{rational_abscissas_of, abscissas_most}
+use Rattle.promises.specs.Asked.{prime, put, g, n, certificate_rules, check_asks}
 use Rattle.promises.specs.Answer.{CheckRight, SolveRight, KernelRight, ComposeRight}
-use Rattle.guarantees.specs.Check.{check-unique}
-use Rattle.promises.specs.Certificates.{check-asked}
-use Rattle.guarantees.specs.Solve.{solve-certified}
-use Rattle.guarantees.specs.Kernel.{kernel-certified}
-use Rattle.guarantees.specs.Compose.{compose-certified}
-use Rattle.guarantees.specs.Demands.{passes-exactly}
+use Rattle.guarantees.specs.Check.{check_unique}
+use Rattle.promises.specs.Certificates.{check_asked}
+use Rattle.guarantees.specs.Solve.{solve_certified}
+use Rattle.guarantees.specs.Kernel.{kernel_certified}
+use Rattle.guarantees.specs.Compose.{compose_certified}
+use Rattle.guarantees.specs.Demands.{passes_exactly}
 
 -- The sheet's count is right.
 abbrev pub Counted : List ℕ → Type 0
-Counted ws = abscissasOf ws ≡ rational-abscissas (valuesOf Certificate ws) (gOf Certificate ws)
+Counted ws = abscissas_of ws ≡ rational_abscissas_of (values_of Certificate ws) (gOf Certificate ws)
 
 -- It is on every certificate that passes,
-pub certificate-abscissas : (ws : List ℕ) → AllYes (check-asks ws) → Counted ws
-certificate-abscissas ws passes = (yes-to (check-asks ws) 9 passes).1
+pub certificate_abscissas : (ws : List ℕ) → AllYes (check_asks ws) → Counted ws
+certificate_abscissas ws passes = (yes_to (check_asks ws) 9 passes).1
 
 -- where it is d at most,
-pub certificate-abscissas-most : (ws : List ℕ) → AllYes (check-asks ws) → abscissasOf ws ≤ half (valuesOf Certificate ws)
-certificate-abscissas-most ws passes =
-    let v = valuesOf Certificate ws in
-    let accepted = check-asked ws passes in
-    let most = abscissas-most v (ready Certificate ws accepted) (gOf Certificate ws) (certificate-g ws accepted) (yes-to (check-asks ws) 8 passes) in
-    omega (arith, certificate-abscissas ws passes, most)
+pub certificate_abscissas_most : (ws : List ℕ) → AllYes (check_asks ws) → abscissas_of ws ≤ half (values_of Certificate ws)
+certificate_abscissas_most ws passes =
+    let v = values_of Certificate ws in
+    let accepted = check_asked ws passes in
+    let most = abscissas_most v (ready Certificate ws accepted) (gOf Certificate ws) (certificate_g ws accepted) (yes_to (check_asks ws) 8 passes) in
+    omega (arith, certificate_abscissas ws passes, most)
 
 -- and so it is on what solve writes,
-pub solve-abscissas : (ws before after : List ℕ) (c : ℕ) → SolveRight ws before after (written.Count c) → Counted (take c after)
-solve-abscissas ws before after c h = certificate-abscissas (take c after) (solve-certified ws before after c h)
+pub solve_abscissas : (ws before after : List ℕ) (c : ℕ) → SolveRight ws before after (written.Count c) → Counted (take c after)
+solve_abscissas ws before after c h = certificate_abscissas (take c after) (solve_certified ws before after c h)
 
 -- on what kernel writes,
-pub kernel-abscissas : (ws before after : List ℕ) (c : ℕ) → KernelRight ws before after (written.Count c) → Counted (take c after)
-kernel-abscissas ws before after c h = certificate-abscissas (take c after) (kernel-certified ws before after c h)
+pub kernel_abscissas : (ws before after : List ℕ) (c : ℕ) → KernelRight ws before after (written.Count c) → Counted (take c after)
+kernel_abscissas ws before after c h = certificate_abscissas (take c after) (kernel_certified ws before after c h)
 
 -- and on what compose writes: a composed map carries its own count.
-pub compose-abscissas : (first second before after : List ℕ) (c : ℕ) → ComposeRight first second before after (written.Count c) → Counted (take c after)
-compose-abscissas first second before after c h = certificate-abscissas (take c after) (compose-certified first second before after c h)
+pub compose_abscissas : (first second before after : List ℕ) (c : ℕ) → ComposeRight first second before after (written.Count c) → Counted (take c after)
+compose_abscissas first second before after c h = certificate_abscissas (take c after) (compose_certified first second before after c h)
 
 -- ── what check says of the count
 
@@ -67,34 +67,34 @@ module _ (ws : List ℕ) (r : Verdict) (h : CheckRight ws r) where
   p = prime Certificate ws
 
   -- Check says passes if 2 to 7 are answered with yes, R1 to R3 hold and the count is that of g's roots, and only then.
-  pub passes-when : (r ≡ verdict.Passes)
+  pub passes_when : (r ≡ verdict.Passes)
       ↔ (AllYes (asked Certificate ws) × R1 (Zmod p) (put Certificate ws) (g Certificate ws)
       × (n Certificate ws ≡ N (Zmod p) (put Certificate ws) (g Certificate ws))
       × R3 (Zmod p) (put Certificate ws) (g Certificate ws) (n Certificate ws) × Counted ws)
-  passes-when = (
+  passes_when = (
     λ e.
-        let all = (passes-exactly ws r h).0 e in
-        (check-asked ws all, yes-to (check-asks ws) 8 all, (yes-to (check-asks ws) 9 all).0, yes-to (check-asks ws) 10 all, (yes-to (check-asks ws) 9 all).1),
-    λ (a, one, two, three, c). (passes-exactly ws r h).1 (all-all (asked Certificate ws) (certificate-rules ws) a (one, ((two, c), (three, tt)))),
+        let all = (passes_exactly ws r h).0 e in
+        (check_asked ws all, yes_to (check_asks ws) 8 all, (yes_to (check_asks ws) 9 all).0, yes_to (check_asks ws) 10 all, (yes_to (check_asks ws) 9 all).1),
+    λ (a, one, two, three, c). (passes_exactly ws r h).1 (all_all (asked Certificate ws) (certificate_rules ws) a (one, ((two, c), (three, tt)))),
   )
 
   -- On a sheet that passes 2 to 8 a count that is not right gets 9, whatever its size and whatever N is.
-  pub wrong-count : AllYes (asked Certificate ws) → R1 (Zmod p) (put Certificate ws) (g Certificate ws) → (Counted ws → ⊥) → r ≡ verdict.Refused 9
-  wrong-count all one wrong =
-      check-unique ws r (verdict.Refused 9) h
-      (no-after (asked Certificate ws) (certificate-rules ws) 9 all (inr (one, inl (refl, λ both. wrong both.1))))
+  pub wrong_count : AllYes (asked Certificate ws) → R1 (Zmod p) (put Certificate ws) (g Certificate ws) → (Counted ws → ⊥) → r ≡ verdict.Refused 9
+  wrong_count all one wrong =
+      check_unique ws r (verdict.Refused 9) h
+      (no_after (asked Certificate ws) (certificate_rules ws) 9 all (inr (one, inl (refl, λ both. wrong both.1))))
 
   -- A sheet that passes 2 to 5 and has no word of kind 10 gets 6.
-  pub without-count : YesBefore (check-asks ws) 6 → ((i : ℕ) → i < length ws → kind_of (get_or ws i 0) ≡ 10 → ⊥) → r ≡ verdict.Refused 6
-  without-count before none = check-unique ws r (verdict.Refused 6) h (first-no (check-asks ws) 6 tt before there)
+  pub without_count : YesBefore (check_asks ws) 6 → ((i : ℕ) → i < length ws → kind_of (get_or ws i 0) ≡ 10 → ⊥) → r ≡ verdict.Refused 6
+  without_count before none = check_unique ws r (verdict.Refused 6) h (first_no (check_asks ws) 6 tt before there)
     where
       there : Asked6 Certificate ws → ⊥
       there six =
-          let d = half (valuesOf Certificate ws) in
-          let kinds = kindsOf Certificate d in
+          let d = half (values_of Certificate ws) in
+          let kinds = kinds_of Certificate d in
           let at = below 10 kinds in
-          let last = place-from Certificate d 15 (below 16 kinds) refl in
+          let last = place_from Certificate d 15 (below 16 kinds) refl in
           let next : below 10 kinds < below 11 kinds =
-          omega (arith, coefficients-end d, count-last Certificate d, last, end-place d (below 16 kinds) Certificate, certificate-words d) in
-          none at (omega (arith, kinds-length Certificate d ws six.kinds, certificate-words d, coefficients-end d))
-          (kinds-at Certificate d ws six.kinds at (omega (arith, coefficients-end d)) ∙ kind_at 10 0 at kinds (kinds-rise Certificate d) (omega arith) next)
+          omega (arith, coefficients_end d, count_last Certificate d, last, end_place d (below 16 kinds) Certificate, certificate_words_lem d) in
+          none at (omega (arith, kinds_length Certificate d ws six.kinds, certificate_words_lem d, coefficients_end d))
+          (kinds_at Certificate d ws six.kinds at (omega (arith, coefficients_end d)) ∙ kind_at 10 0 at kinds (kinds_rise Certificate d) (omega arith) next)

@@ -3,20 +3,20 @@
 use Rattle.std.specs.Prelude.{◌≡◌, refl, List, ◌++◌, ℕ, ◌^◌, ◌<◌, length, take, drop}
 use Rattle.std.proofs.Common.{sym, ◌∙◌, ap, ap₂, subst, arith, take_at}
 use Rattle.zmod.specs.Zmod.{Zmod}
-use Rattle.zmod.specs.Residues.{poly, residues-self, residues-same, residues-unique}
+use Rattle.zmod.specs.Residues.{poly, residues_self, residues_same, residues_unique}
 use Rattle.isogeny.specs.Rules.{N, R3}
 use Rattle.isogeny.specs.Theorems.{unique}
 use Rattle.questions.specs.Questions.{AllYes}
-use Rattle.questions.specs.Joined.{all-all}
+use Rattle.questions.specs.Joined.{all_all}
 use Rattle.sheet.specs.declared.Form.TheVariants.{Certificate}
 use Rattle.sheet.specs.declared.Values.{Values}
-use Rattle.sheet.specs.Values.{valuesOf, gOf, n_of, abscissasOf, question}
+use Rattle.sheet.specs.Values.{values_of, gOf, n_of, abscissas_of, question}
 use Rattle.sheet.specs.Asked.{Curves, asked}
-use Rattle.sheet.specs.Ready.{Ready, HoldsG, HoldsN, half-least, degree-half}
+use Rattle.sheet.specs.Ready.{Ready, HoldsG, HoldsN, half_least, degree_half}
 use Rattle.certificate.specs.Certificate.{certificate}
-use Rattle.certificate.specs.RoundTrip.{values-back, g-back, n-back, abscissas-back, count-back, all_back}
-use Rattle.promises.specs.Abscissas.{rational-abscissas, abscissas-fit}
-use Rattle.promises.specs.Asked.{check-asks, rules-ask, certificate-rules}
+use Rattle.certificate.specs.RoundTrip.{values_back, g_back, n_back, abscissas_back, count_back, all_back}
+use Rattle.promises.specs.Abscissas.{rational_abscissas_of, abscissas_fit}
+use Rattle.promises.specs.Asked.{check_asks, rules_ask, certificate_rules}
 use Rattle.promises.specs.Answer.{CertificateIn}
 
 -- ── it passes check
@@ -29,86 +29,86 @@ module _ (v : Values) (ready : Ready v) (curves : Curves Certificate v) (before 
   n = held.n
 
   abbrev ws : List ℕ
-  ws = certificate v held.g held.n (rational-abscissas v held.g)
+  ws = certificate v held.g held.n (rational_abscissas_of v held.g)
 
   abbrev c : ℕ
-  c = rational-abscissas v held.g
+  c = rational_abscissas_of v held.g
 
-  c-fits : c < 2 ^ 28
-  c-fits = abscissas-fit v ready g held.g-words held.meets.r1
+  c_fits : c < 2 ^ 28
+  c_fits = abscissas_fit v ready g held.g_words held.meets.r1
 
   -- questions 8 to 10
-  rules : AllYes (rules-ask v g n c)
-  rules = (held.meets.r1, ((held.n-is, refl), (subst (R3 (Zmod v.p) (question v) (poly v.p g)) (sym held.n-is) held.meets.r3, tt)))
+  rules : AllYes (rules_ask v g n c)
+  rules = (held.meets.r1, ((held.n_is, refl), (subst (R3 (Zmod v.p) (question v) (poly v.p g)) (sym held.n_is) held.meets.r3, tt)))
 
-  rules-back : AllYes (certificate-rules ws)
-  rules-back =
-      subst (λ v. AllYes (rules-ask v (gOf Certificate ws) (n_of Certificate ws) (abscissasOf ws))) (sym (values-back v ready g n c))
-      (subst (λ g. AllYes (rules-ask v g (n_of Certificate ws) (abscissasOf ws))) (sym (g-back v ready g n c held.g-words held.n-words c-fits))
-      (subst (λ n. AllYes (rules-ask v g n (abscissasOf ws))) (sym (n-back v ready g n c held.g-words held.n-words c-fits))
-      (subst (λ c. AllYes (rules-ask v g n c)) (sym (abscissas-back v ready g n c held.g-words held.n-words c-fits)) rules)))
+  rules_back : AllYes (certificate_rules ws)
+  rules_back =
+      subst (λ v. AllYes (rules_ask v (gOf Certificate ws) (n_of Certificate ws) (abscissas_of ws))) (sym (values_back v ready g n c))
+      (subst (λ g. AllYes (rules_ask v g (n_of Certificate ws) (abscissas_of ws))) (sym (g_back v ready g n c held.g_words held.n_words c_fits))
+      (subst (λ n. AllYes (rules_ask v g n (abscissas_of ws))) (sym (n_back v ready g n c held.g_words held.n_words c_fits))
+      (subst (λ c. AllYes (rules_ask v g n c)) (sym (abscissas_back v ready g n c held.g_words held.n_words c_fits)) rules)))
 
-  pub certificate-words : take count after ≡ ws
-  certificate-words =
+  pub certificate_words_lem : take count after ≡ ws
+  certificate_words_lem =
       ap (take count) held.words
-      ∙ take_at ws (drop count before) count (count-back v ready g n c held.g-words held.n-words c-fits ∙ sym held.count-is)
+      ∙ take_at ws (drop count before) count (count_back v ready g n c held.g_words held.n_words c_fits ∙ sym held.count_is)
 
   -- the count and the buffer, from the words that were written
   pub written_count : count ≡ length (take count after)
-  written_count = held.count-is ∙ sym (count-back v ready g n c held.g-words held.n-words c-fits) ∙ ap length (sym certificate-words)
+  written_count = held.count_is ∙ sym (count_back v ready g n c held.g_words held.n_words c_fits) ∙ ap length (sym certificate_words_lem)
 
-  pub written-buffer : after ≡ take count after ++ drop count before
-  written-buffer = held.words ∙ ap (λ (ws : List ℕ). ws ++ drop count before) (sym certificate-words)
+  pub written_buffer : after ≡ take count after ++ drop count before
+  written_buffer = held.words ∙ ap (λ (ws : List ℕ). ws ++ drop count before) (sym certificate_words_lem)
 
   -- what is on it
-  pub written-values : valuesOf Certificate (take count after) ≡ v
-  written-values = ap (valuesOf Certificate) certificate-words ∙ values-back v ready g n c
+  pub written_values : values_of Certificate (take count after) ≡ v
+  written_values = ap (values_of Certificate) certificate_words_lem ∙ values_back v ready g n c
 
-  pub written-g : gOf Certificate (take count after) ≡ held.g
-  written-g = ap (gOf Certificate) certificate-words ∙ g-back v ready g n c held.g-words held.n-words c-fits
+  pub written_g : gOf Certificate (take count after) ≡ held.g
+  written_g = ap (gOf Certificate) certificate_words_lem ∙ g_back v ready g n c held.g_words held.n_words c_fits
 
-  pub written-n : n_of Certificate (take count after) ≡ held.n
-  written-n = ap (n_of Certificate) certificate-words ∙ n-back v ready g n c held.g-words held.n-words c-fits
+  pub written_n : n_of Certificate (take count after) ≡ held.n
+  written_n = ap (n_of Certificate) certificate_words_lem ∙ n_back v ready g n c held.g_words held.n_words c_fits
 
-  pub certified : AllYes (check-asks (take count after))
+  pub certified : AllYes (check_asks (take count after))
   certified =
-      subst (λ ws. AllYes (check-asks ws)) (sym certificate-words)
-      (all-all (asked Certificate ws) (certificate-rules ws)
-      (all_back v ready g n c held.g-words held.n-words c-fits curves) rules-back)
+      subst (λ ws. AllYes (check_asks ws)) (sym certificate_words_lem)
+      (all_all (asked Certificate ws) (certificate_rules ws)
+      (all_back v ready g n c held.g_words held.n_words c_fits curves) rules_back)
 
 -- ── there is one
 
 module _ (v : Values) (g g' : List ℕ) where
-  same-words : HoldsG v g → HoldsG v g' → poly v.p g ≡ poly v.p g' → g ≡ g'
-  same-words h k e =
-      residues-unique (h.count ∙ sym k.count) (residues-same e (residues-self h.reduced)) (residues-self k.reduced)
+  same_words : HoldsG v g → HoldsG v g' → poly v.p g ≡ poly v.p g' → g ≡ g'
+  same_words h k e =
+      residues_unique (h.count ∙ sym k.count) (residues_same e (residues_self h.reduced)) (residues_self k.reduced)
 
 module _ (v : Values) (n n' : List ℕ) where
-  same-n-words : HoldsN v n → HoldsN v n' → poly v.p n ≡ poly v.p n' → n ≡ n'
-  same-n-words h k e =
-      residues-unique (h.count ∙ sym k.count) (residues-same e (residues-self h.reduced)) (residues-self k.reduced)
+  same_n_words : HoldsN v n → HoldsN v n' → poly v.p n ≡ poly v.p n' → n ≡ n'
+  same_n_words h k e =
+      residues_unique (h.count ∙ sym k.count) (residues_same e (residues_self h.reduced)) (residues_self k.reduced)
 
 module _ (v : Values) (ready : Ready v) (before after after' : List ℕ) (c c' : ℕ) (h : CertificateIn v before after c)
     (k : CertificateIn v before after' c') where
-  same-poly : poly v.p h.g ≡ poly v.p k.g
-  same-poly =
-      unique ready.prime.prime (question v) (half-least v ready) (omega (arith, ready.degree, degree-half v ready)) (poly v.p h.g)
+  same_poly : poly v.p h.g ≡ poly v.p k.g
+  same_poly =
+      unique ready.prime.prime (question v) (half_least v ready) (omega (arith, ready.degree, degree_half v ready)) (poly v.p h.g)
       (poly v.p k.g)
       h.meets k.meets
 
-  pub one-g : h.g ≡ k.g
-  one-g = same-words v h.g k.g h.g-words k.g-words same-poly
+  pub one_g : h.g ≡ k.g
+  one_g = same_words v h.g k.g h.g_words k.g_words same_poly
 
-  one-n : h.n ≡ k.n
-  one-n =
-      same-n-words v h.n k.n h.n-words k.n-words (h.n-is ∙ ap (N (Zmod v.p) (question v)) same-poly ∙ sym k.n-is)
+  one_n : h.n ≡ k.n
+  one_n =
+      same_n_words v h.n k.n h.n_words k.n_words (h.n_is ∙ ap (N (Zmod v.p) (question v)) same_poly ∙ sym k.n_is)
 
-  one-count : c ≡ c'
-  one-count = h.count-is ∙ sym k.count-is
+  one_count : c ≡ c'
+  one_count = h.count_is ∙ sym k.count_is
 
-  pub one-certificate : (c ≡ c') × (after ≡ after')
-  one-certificate = (
-    one-count,
-    h.words ∙ ap (λ m. certificate v h.g h.n (rational-abscissas v h.g) ++ drop m before) one-count
-        ∙ ap₂ (λ g n. certificate v g n (rational-abscissas v g) ++ drop c' before) one-g one-n ∙ sym k.words,
+  pub one_certificate : (c ≡ c') × (after ≡ after')
+  one_certificate = (
+    one_count,
+    h.words ∙ ap (λ m. certificate v h.g h.n (rational_abscissas_of v h.g) ++ drop m before) one_count
+        ∙ ap₂ (λ g n. certificate v g n (rational_abscissas_of v g) ++ drop c' before) one_g one_n ∙ sym k.words,
   )

@@ -8,17 +8,17 @@ use Rattle.zmod.specs.Zmod.{Elt, Zmod, mk}
 use Rattle.zmod.specs.Residues.{poly}
 use Rattle.isogeny.specs.Curve.{OnCurve}
 use Rattle.isogeny.specs.Kernel.{Passes}
-use Rattle.isogeny.specs.Rules.{Meets, g-at}
+use Rattle.isogeny.specs.Rules.{Meets, g_at}
 use Rattle.isogeny.specs.Theorems.{unique}
-use Rattle.questions.specs.Questions.{Questions, AllYes, not-both}
-use Rattle.questions.specs.Joined.{no-after, all-all, all-front, all_back}
-use Rattle.questions.specs.Numbered.{no-by}
+use Rattle.questions.specs.Questions.{Questions, AllYes, not_both}
+use Rattle.questions.specs.Joined.{no_after, all_all, all_front, all_back}
+use Rattle.questions.specs.Numbered.{no_by}
 use Rattle.sheet.specs.declared.Form.TheVariants.{Question, Certificate, Kernel}
 use Rattle.sheet.specs.declared.Values.{Values}
-use Rattle.sheet.specs.Form.{certificateWords}
-use Rattle.sheet.specs.Values.{valuesOf, half, gOf, n_of}
+use Rattle.sheet.specs.Form.{certificate_words}
+use Rattle.sheet.specs.Values.{values_of, half, gOf, n_of}
 use Rattle.sheet.specs.Asked.{asked}
-use Rattle.sheet.specs.Ready.{Ready, ready, half-least, degree-half}
+use Rattle.sheet.specs.Ready.{Ready, ready, half_least, degree_half}
 use Rattle.promises.specs.declared.Verdict.{Verdict}
 use Rattle.promises.specs.declared.Verdict.TheVariants as verdict
 use Rattle.promises.specs.declared.Written.{Written}
@@ -26,87 +26,87 @@ use Rattle.promises.specs.declared.Written.TheVariants as written
 use Rattle.promises.specs.declared.Point.TheVariants as point
 use Rattle.promises.specs.declared.Image.{Image}
 use Rattle.promises.specs.declared.Image.TheVariants as image
-use Rattle.promises.specs.Asked.{Room, Solvable, Leading, Passing, OnDomain, Given, prime, put, g, check-asks, solve-asks, last-ask, kernel-asks, push-asks}
+use Rattle.promises.specs.Asked.{Room, Solvable, Leading, Passing, OnDomain, Given, prime, put, g, check_asks, solve_asks, last_ask, kernel_asks, push_asks}
 use Rattle.promises.specs.Answer.{CheckRight, CertificateIn, SolveRight, KernelRight, PushRight, ToPoint}
-use Rattle.guarantees.specs.Check.{check-unique}
-use Rattle.guarantees.specs.Solve.{solve-unique, refused-11, unsolved-11}
-use Rattle.guarantees.specs.Push.{push-on-codomain}
-use Rattle.guarantees.specs.Kernel.{kernel-unique}
+use Rattle.guarantees.specs.Check.{check_unique}
+use Rattle.guarantees.specs.Solve.{solve_unique, refused_11, unsolved_11}
+use Rattle.guarantees.specs.Push.{push_on_codomain}
+use Rattle.guarantees.specs.Kernel.{kernel_unique}
 
 -- ── solve
 
 -- For a question sheet that comes as far as question 11, any two polynomials that meet the rules are equal.
-pub sheet-unique : (ws : List ℕ) → AllYes (asked Question ws) → (a b : Seq (Zmod (prime Question ws)))
+pub sheet_unique : (ws : List ℕ) → AllYes (asked Question ws) → (a b : Seq (Zmod (prime Question ws)))
     → Meets (Zmod (prime Question ws)) (put Question ws) a → Meets (Zmod (prime Question ws)) (put Question ws) b → a ≡ b
-sheet-unique ws all a b h k =
-    let v : Values = valuesOf Question ws in
-    let known : Ready (valuesOf Question ws) = ready Question ws all in
-    unique known.prime.prime (put Question ws) (half-least (valuesOf Question ws) known)
-    (omega (arith, known.degree, degree-half (valuesOf Question ws) known)) a b h k
+sheet_unique ws all a b h k =
+    let v : Values = values_of Question ws in
+    let known : Ready (values_of Question ws) = ready Question ws all in
+    unique known.prime.prime (put Question ws) (half_least (values_of Question ws) known)
+    (omega (arith, known.degree, degree_half (values_of Question ws) known)) a b h k
 
 -- If there is one, and the buffer has room, solve answers with the count of a certificate's words, and the buffer holds the certificate with that
 -- polynomial.
 pub solved : (ws before after : List ℕ) (r : Written) → Room (length before) → AllYes (asked Question ws)
     → (a : Seq (Zmod (prime Question ws))) → Meets (Zmod (prime Question ws)) (put Question ws) a → SolveRight ws before after r
-    → (r ≡ written.Count (certificateWords (half (valuesOf Question ws))))
-    × ((f : CertificateIn (valuesOf Question ws) before after (certificateWords (half (valuesOf Question ws)))) × (poly (prime Question ws) f.g ≡ a))
+    → (r ≡ written.Count (certificate_words (half (values_of Question ws))))
+    × ((f : CertificateIn (values_of Question ws) before after (certificate_words (half (values_of Question ws)))) × (poly (prime Question ws) f.g ≡ a))
 solved ws before after (written.Refused k) room all a meets h =
-    absurd (not-both (solve-asks ws (length before)) k
-    (room, all-all (asked Question ws) ((11, Solvable (valuesOf Question ws)) ∷ []) all (record { g = a; meets = meets }, tt)) h.0)
+    absurd (not_both (solve_asks ws (length before)) k
+    (room, all_all (asked Question ws) ((11, Solvable (values_of Question ws)) ∷ []) all (record { g = a; meets = meets }, tt)) h.0)
 solved ws before after (written.Count c) room all a meets (_, f) =
-    let e : c ≡ certificateWords (half (valuesOf Question ws)) = f.count-is in (
+    let e : c ≡ certificate_words (half (values_of Question ws)) = f.count_is in (
       ap written.Count e,
-      subst (λ n. (f : CertificateIn (valuesOf Question ws) before after n) × (poly (prime Question ws) f.g ≡ a)) e
-          (f, sheet-unique ws all (poly (prime Question ws) f.g) a f.meets meets),
+      subst (λ n. (f : CertificateIn (values_of Question ws) before after n) × (poly (prime Question ws) f.g ≡ a)) e
+          (f, sheet_unique ws all (poly (prime Question ws) f.g) a f.meets meets),
     )
 
 -- Solve answers 11 exactly when the sheet comes as far as question 11 and no polynomial meets the rules.
-pub solve-11 : (ws before after : List ℕ) (r : Written) → SolveRight ws before after r
+pub solve_11 : (ws before after : List ℕ) (r : Written) → SolveRight ws before after r
     → (r ≡ written.Refused 11)
     ↔ (Room (length before) × AllYes (asked Question ws)
     × ((a : Seq (Zmod (prime Question ws))) → Meets (Zmod (prime Question ws)) (put Question ws) a → ⊥))
-solve-11 ws before after r h = (
-  λ e. refused-11 ws before after (subst (SolveRight ws before after) e h),
-  λ none. (solve-unique ws before after before r (written.Refused 11) h (unsolved-11 ws before none.0 none.1 none.2)).0,
+solve_11 ws before after r h = (
+  λ e. refused_11 ws before after (subst (SolveRight ws before after) e h),
+  λ none. (solve_unique ws before after before r (written.Refused 11) h (unsolved_11 ws before none.0 none.1 none.2)).0,
 )
 
 -- ── check
 
 -- Check lets pass exactly the certificates: the sheets that answer questions 2 to 10 with yes.
-pub passes-exactly : (ws : List ℕ) (r : Verdict) → CheckRight ws r → (r ≡ verdict.Passes) ↔ AllYes (check-asks ws)
-passes-exactly ws r h = (λ e. (subst (CheckRight ws) e h).0, λ all. check-unique ws r verdict.Passes h (all, tt))
+pub passes_exactly : (ws : List ℕ) (r : Verdict) → CheckRight ws r → (r ≡ verdict.Passes) ↔ AllYes (check_asks ws)
+passes_exactly ws r h = (λ e. (subst (CheckRight ws) e h).0, λ all. check_unique ws r verdict.Passes h (all, tt))
 
 -- ── push, through a certificate that passes
 
-module _ (ws : List ℕ) (passes : AllYes (check-asks ws)) where
+module _ (ws : List ℕ) (passes : AllYes (check_asks ws)) where
   abbrev p : ℕ
   p = prime Certificate ws
 
-  asked-affine : (u v : ℕ) → OnDomain (valuesOf Certificate ws) u v → AllYes (push-asks ws (point.Affine u v))
-  asked-affine u v on = all-all (check-asks ws) ((12, Given (valuesOf Certificate ws) (point.Affine u v)) ∷ []) passes (on, tt)
+  asked_affine : (u v : ℕ) → OnDomain (values_of Certificate ws) u v → AllYes (push_asks ws (point.Affine u v))
+  asked_affine u v on = all_all (check_asks ws) ((12, Given (values_of Certificate ws) (point.Affine u v)) ∷ []) passes (on, tt)
 
   -- A point (u, v) of the domain with g(u) not 0 goes to an affine point, the one that the rules name, and that point is on the codomain.
-  pub push-affine : (u v : ℕ) (r : Image) → OnDomain (valuesOf Certificate ws) u v → g-at (Zmod p) (put Certificate ws) (g Certificate ws) (mk p u) ≢ mk p 0
+  pub push_affine : (u v : ℕ) (r : Image) → OnDomain (values_of Certificate ws) u v → g_at (Zmod p) (put Certificate ws) (g Certificate ws) (mk p u) ≢ mk p 0
       → PushRight ws (point.Affine u v) r
-      → (u' : ℕ) × (v' : ℕ) × (r ≡ image.Affine u' v') × ToPoint (valuesOf Certificate ws) (gOf Certificate ws) (n_of Certificate ws) u v u' v'
+      → (u' : ℕ) × (v' : ℕ) × (r ≡ image.Affine u' v') × ToPoint (values_of Certificate ws) (gOf Certificate ws) (n_of Certificate ws) u v u' v'
       × OnCurve (Zmod p) (put Certificate ws).Ã (put Certificate ws).B̃ (mk p u') (mk p v')
-  push-affine u v (image.Affine u' v') on nonzero h = (u', v', refl, h.1, push-on-codomain ws (point.Affine u v) u' v' h)
-  push-affine u v image.Infinity on nonzero h = absurd (nonzero h.1)
-  push-affine u v (image.Refused k) on nonzero h = absurd (not-both (push-asks ws (point.Affine u v)) k (asked-affine u v on) h)
+  push_affine u v (image.Affine u' v') on nonzero h = (u', v', refl, h.1, push_on_codomain ws (point.Affine u v) u' v' h)
+  push_affine u v image.Infinity on nonzero h = absurd (nonzero h.1)
+  push_affine u v (image.Refused k) on nonzero h = absurd (not_both (push_asks ws (point.Affine u v)) k (asked_affine u v on) h)
 
   -- A point (u, v) of the domain with g(u) = 0 goes to infinity.
-  pub push-kernel : (u v : ℕ) (r : Image) → OnDomain (valuesOf Certificate ws) u v → g-at (Zmod p) (put Certificate ws) (g Certificate ws) (mk p u) ≡ mk p 0
+  pub push_kernel : (u v : ℕ) (r : Image) → OnDomain (values_of Certificate ws) u v → g_at (Zmod p) (put Certificate ws) (g Certificate ws) (mk p u) ≡ mk p 0
       → PushRight ws (point.Affine u v) r → r ≡ image.Infinity
-  push-kernel u v (image.Affine u' v') on zero h = absurd (h.1.image.defined zero)
-  push-kernel u v image.Infinity on zero h = refl
-  push-kernel u v (image.Refused k) on zero h = absurd (not-both (push-asks ws (point.Affine u v)) k (asked-affine u v on) h)
+  push_kernel u v (image.Affine u' v') on zero h = absurd (h.1.image.defined zero)
+  push_kernel u v image.Infinity on zero h = refl
+  push_kernel u v (image.Refused k) on zero h = absurd (not_both (push_asks ws (point.Affine u v)) k (asked_affine u v on) h)
 
   -- Infinity goes to infinity.
-  pub push-infinity : (r : Image) → PushRight ws point.Infinity r → r ≡ image.Infinity
-  push-infinity (image.Affine u' v') h = absurd h.1
-  push-infinity image.Infinity h = refl
-  push-infinity (image.Refused k) h =
-      absurd (not-both (push-asks ws point.Infinity) k (all-all (check-asks ws) ((12, Given (valuesOf Certificate ws) point.Infinity) ∷ []) passes (tt, tt)) h)
+  pub push_infinity : (r : Image) → PushRight ws point.Infinity r → r ≡ image.Infinity
+  push_infinity (image.Affine u' v') h = absurd h.1
+  push_infinity image.Infinity h = refl
+  push_infinity (image.Refused k) h =
+      absurd (not_both (push_asks ws point.Infinity) k (all_all (check_asks ws) ((12, Given (values_of Certificate ws) point.Infinity) ∷ []) passes (tt, tt)) h)
 
 -- ── kernel
 
@@ -116,51 +116,51 @@ module _ (ws : List ℕ) where
 
   -- The codomain (Ã, B̃) passes question 7 and meets R3, for the domain, the degree and the polynomial on a kernel sheet.
   abbrev pub KernelPasses : Elt q → Elt q → Type 0
-  KernelPasses Ã B̃ = Passes (Zmod q) (put Kernel ws).A (put Kernel ws).B (half (valuesOf Kernel ws)) (g Kernel ws) Ã B̃
+  KernelPasses Ã B̃ = Passes (Zmod q) (put Kernel ws).A (put Kernel ws).B (half (values_of Kernel ws)) (g Kernel ws) Ã B̃
 
   -- A kernel sheet comes as far as question 11.
   abbrev pub ToEleven : ℕ → Type 0
-  ToEleven room = Room room × AllYes (asked Kernel ws) × Leading (valuesOf Kernel ws) (gOf Kernel ws)
+  ToEleven room = Room room × AllYes (asked Kernel ws) × Leading (values_of Kernel ws) (gOf Kernel ws)
 
   -- questions 8 and 11
   abbrev later : Questions
-  later = last-ask (valuesOf Kernel ws) (gOf Kernel ws)
+  later = last_ask (values_of Kernel ws) (gOf Kernel ws)
 
   module _ (before after : List ℕ) where
     -- Kernel writes a certificate exactly when the sheet comes as far as question 11 and some codomain passes 7 and meets R3;
-    pub kernel-written : (r : Written) → KernelRight ws before after r
-        → (r ≡ written.Count (certificateWords (half (valuesOf Kernel ws)))) ↔ (ToEleven (length before) × ((Ã : Elt q) × (B̃ : Elt q) × KernelPasses Ã B̃))
-    kernel-written r h = (λ e. there _ (subst (KernelRight ws before after) e h), λ all. back r h all.0 all.1)
+    pub kernel_written : (r : Written) → KernelRight ws before after r
+        → (r ≡ written.Count (certificate_words (half (values_of Kernel ws)))) ↔ (ToEleven (length before) × ((Ã : Elt q) × (B̃ : Elt q) × KernelPasses Ã B̃))
+    kernel_written r h = (λ e. there _ (subst (KernelRight ws before after) e h), λ all. back r h all.0 all.1)
       where
         there : (c : ℕ) → KernelRight ws before after (written.Count c) → ToEleven (length before) × ((Ã : Elt q) × (B̃ : Elt q) × KernelPasses Ã B̃)
         there c (all, _) =
             let rest : AllYes later = all_back (asked Kernel ws) later all.1 in
-            let some : Passing (valuesOf Kernel ws) (gOf Kernel ws) = rest.1.0 in
-            ((all.0, all-front (asked Kernel ws) later all.1, rest.0), (some.Ã, some.B̃, some.passes))
+            let some : Passing (values_of Kernel ws) (gOf Kernel ws) = rest.1.0 in
+            ((all.0, all_front (asked Kernel ws) later all.1, rest.0), (some.Ã, some.B̃, some.passes))
 
         back : (r : Written) → KernelRight ws before after r → ToEleven (length before) → ((Ã : Elt q) × (B̃ : Elt q) × KernelPasses Ã B̃)
-            → r ≡ written.Count (certificateWords (half (valuesOf Kernel ws)))
-        back (written.Count c) (_, it) to some = ap written.Count it.certificate.count-is
+            → r ≡ written.Count (certificate_words (half (values_of Kernel ws)))
+        back (written.Count c) (_, it) to some = ap written.Count it.certificate.count_is
         back (written.Refused k) (refused, _) (room, all, leading) (Ã, B̃, passes) =
-            absurd (not-both (kernel-asks ws (length before)) k
-            (room, all-all (asked Kernel ws) later all (leading, (record { Ã = Ã; B̃ = B̃; passes = passes }, tt))) refused)
+            absurd (not_both (kernel_asks ws (length before)) k
+            (room, all_all (asked Kernel ws) later all (leading, (record { Ã = Ã; B̃ = B̃; passes = passes }, tt))) refused)
 
     -- and it answers 11 exactly when the sheet comes as far as question 11 and no codomain does.
-    pub kernel-11 : (r : Written) → KernelRight ws before after r
+    pub kernel_11 : (r : Written) → KernelRight ws before after r
         → (r ≡ written.Refused 11) ↔ (ToEleven (length before) × ((Ã B̃ : Elt q) → KernelPasses Ã B̃ → ⊥))
-    kernel-11 r h = (
+    kernel_11 r h = (
       λ e. there (subst (KernelRight ws before after) e h),
-      λ none. (kernel-unique ws before after before r (written.Refused 11) h (back none.0 none.1)).0,
+      λ none. (kernel_unique ws before after before r (written.Refused 11) h (back none.0 none.1)).0,
     )
       where
         there : KernelRight ws before after (written.Refused 11) → ToEleven (length before) × ((Ã B̃ : Elt q) → KernelPasses Ã B̃ → ⊥)
         there (refused, _) =
-            let no = no-by (kernel-asks ws (length before)) 11 tt refused in
-            let eight : Questions = (8, Leading (valuesOf Kernel ws) (gOf Kernel ws)) ∷ [] in (
-              (no.0.0, all-front (asked Kernel ws) eight no.0.1, (all_back (asked Kernel ws) eight no.0.1).0),
+            let no = no_by (kernel_asks ws (length before)) 11 tt refused in
+            let eight : Questions = (8, Leading (values_of Kernel ws) (gOf Kernel ws)) ∷ [] in (
+              (no.0.0, all_front (asked Kernel ws) eight no.0.1, (all_back (asked Kernel ws) eight no.0.1).0),
               λ Ã B̃ passes. no.1 (record { Ã = Ã; B̃ = B̃; passes = passes }),
             )
 
         back : ToEleven (length before) → ((Ã B̃ : Elt q) → KernelPasses Ã B̃ → ⊥) → KernelRight ws before before (written.Refused 11)
         back (room, all, leading) none =
-            (inr (room, no-after (asked Kernel ws) later 11 all (inr (leading, inl (refl, λ some. none some.Ã some.B̃ some.passes)))), refl)
+            (inr (room, no_after (asked Kernel ws) later 11 all (inr (leading, inl (refl, λ some. none some.Ã some.B̃ some.passes)))), refl)

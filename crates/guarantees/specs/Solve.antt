@@ -7,54 +7,54 @@ use Rattle.series.specs.Series.{Seq}
 use Rattle.zmod.specs.Zmod.{Zmod}
 use Rattle.isogeny.specs.Rules.{Meets}
 use Rattle.questions.specs.Questions.{AllYes}
-use Rattle.questions.specs.Joined.{no-after, all-front}
-use Rattle.questions.specs.Answers.{writes-unique}
-use Rattle.questions.specs.Numbered.{yes-to, no-by}
+use Rattle.questions.specs.Joined.{no_after, all_front}
+use Rattle.questions.specs.Answers.{writes_unique}
+use Rattle.questions.specs.Numbered.{yes_to, no_by}
 use Rattle.sheet.specs.declared.Form.TheVariants.{Question, Certificate}
 use Rattle.sheet.specs.declared.Values.{Values}
-use Rattle.sheet.specs.Values.{valuesOf, question}
+use Rattle.sheet.specs.Values.{values_of, question}
 use Rattle.sheet.specs.Asked.{Curves, asked}
 use Rattle.sheet.specs.Ready.{ready}
 use Rattle.promises.specs.declared.Written.{Written}
 use Rattle.promises.specs.declared.Written.TheVariants as written
-use Rattle.promises.specs.Outcome.{writtenOutcome, same-written}
-use Rattle.promises.specs.Asked.{Room, Solvable, check-asks, solve-asks}
+use Rattle.promises.specs.Outcome.{written_outcome, same_written}
+use Rattle.promises.specs.Asked.{Room, Solvable, check_asks, solve_asks}
 use Rattle.promises.specs.Answer.{CertificateIn, SolveRight}
-use Rattle.guarantees.specs.Certified.{certified, one-certificate}
+use Rattle.guarantees.specs.Certified.{certified, one_certificate}
 
 -- the questions before 11
-pub solve-asked : (ws : List ℕ) (room : ℕ) → AllYes (solve-asks ws room) → AllYes (asked Question ws)
-solve-asked ws room all = all-front (asked Question ws) ((11, Solvable (valuesOf Question ws)) ∷ []) all.1
+pub solve_asked : (ws : List ℕ) (room : ℕ) → AllYes (solve_asks ws room) → AllYes (asked Question ws)
+solve_asked ws room all = all_front (asked Question ws) ((11, Solvable (values_of Question ws)) ∷ []) all.1
 
 -- One answer is right at most, with one content of the lent buffer.
-pub solve-unique : (ws before after after' : List ℕ) (r r' : Written) → SolveRight ws before after r → SolveRight ws before after' r' → (r ≡ r') ×
+pub solve_unique : (ws before after after' : List ℕ) (r r' : Written) → SolveRight ws before after r → SolveRight ws before after' r' → (r ≡ r') ×
     (after ≡ after')
-solve-unique ws before after after' r r' h k =
-    let v : Values = valuesOf Question ws in
+solve_unique ws before after after' r r' h k =
+    let v : Values = values_of Question ws in
     let same =
-    writes-unique (solve-asks ws (length before)) (λ count after. CertificateIn (valuesOf Question ws) before after count) before (λ all c c' xs ys a b.
-    one-certificate (valuesOf Question ws) (ready Question ws (solve-asked ws (length before) all)) before xs ys c c' a b)
-    (writtenOutcome r) (writtenOutcome r') after after' h k in
-    (same-written r r' same.0, same.1)
+    writes_unique (solve_asks ws (length before)) (λ count after. CertificateIn (values_of Question ws) before after count) before (λ all c c' xs ys a b.
+    one_certificate (values_of Question ws) (ready Question ws (solve_asked ws (length before) all)) before xs ys c c' a b)
+    (written_outcome r) (written_outcome r') after after' h k in
+    (same_written r r' same.0, same.1)
 
 -- What solve writes passes check.
-pub solve-certified : (ws before after : List ℕ) (c : ℕ) → SolveRight ws before after (written.Count c) → AllYes (check-asks (take c after))
-solve-certified ws before after c h =
-    let all : AllYes (asked Question ws) = solve-asked ws (length before) h.0 in
-    let curves : Curves Question (valuesOf Question ws) = yes-to (asked Question ws) 7 all in
-    certified (valuesOf Question ws) (ready Question ws all) (record { domain = curves.domain; codomain = curves.codomain }) before after c h.1
+pub solve_certified : (ws before after : List ℕ) (c : ℕ) → SolveRight ws before after (written.Count c) → AllYes (check_asks (take c after))
+solve_certified ws before after c h =
+    let all : AllYes (asked Question ws) = solve_asked ws (length before) h.0 in
+    let curves : Curves Question (values_of Question ws) = yes_to (asked Question ws) 7 all in
+    certified (values_of Question ws) (ready Question ws all) (record { domain = curves.domain; codomain = curves.codomain }) before after c h.1
 
 -- 11 is right only where questions 1 to 7 have passed and no polynomial meets the rules,
-pub refused-11 : (ws before after : List ℕ) → SolveRight ws before after (written.Refused 11)
+pub refused_11 : (ws before after : List ℕ) → SolveRight ws before after (written.Refused 11)
     → Room (length before) × AllYes (asked Question ws)
-    × ((g : Seq (Zmod (valuesOf Question ws).p)) → Meets (Zmod (valuesOf Question ws).p) (question (valuesOf Question ws)) g → ⊥)
-refused-11 ws before after h =
-    let no = no-by (solve-asks ws (length before)) 11 tt h.0 in
+    × ((g : Seq (Zmod (values_of Question ws).p)) → Meets (Zmod (values_of Question ws).p) (question (values_of Question ws)) g → ⊥)
+refused_11 ws before after h =
+    let no = no_by (solve_asks ws (length before)) 11 tt h.0 in
     (no.0.0, no.0.1, λ g meets. no.1 (record { g = g; meets = meets }))
 
 -- and there it is right.
-pub unsolved-11 : (ws before : List ℕ) → Room (length before) → AllYes (asked Question ws)
-    → ((g : Seq (Zmod (valuesOf Question ws).p)) → Meets (Zmod (valuesOf Question ws).p) (question (valuesOf Question ws)) g → ⊥)
+pub unsolved_11 : (ws before : List ℕ) → Room (length before) → AllYes (asked Question ws)
+    → ((g : Seq (Zmod (values_of Question ws).p)) → Meets (Zmod (values_of Question ws).p) (question (values_of Question ws)) g → ⊥)
     → SolveRight ws before before (written.Refused 11)
-unsolved-11 ws before room all none =
-    (inr (room, no-after (asked Question ws) ((11, Solvable (valuesOf Question ws)) ∷ []) 11 all (inl (refl, λ s. none s.g s.meets))), refl)
+unsolved_11 ws before room all none =
+    (inr (room, no_after (asked Question ws) ((11, Solvable (values_of Question ws)) ∷ []) 11 all (inl (refl, λ s. none s.g s.meets))), refl)

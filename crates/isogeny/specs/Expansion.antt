@@ -42,13 +42,13 @@ module _ (R : CRing) where
     Recurs h k = # (k - 2) ⊗ # (2 * k + 3) ⊗ h k ≡ recurrence h k
 
     -- h_i = (2i + 1)s_(i+1) + (2i − 1)A s_(i−1) + (2i − 2)B s_(i−2); at i = 1 the factor 2i − 2 takes B's term away
-    abbrev pub from-sums : Seq R → ℕ → Car
-    from-sums s i = # (2 * i + 1) ⊗ s (i + 1) ⊕ # (2 * i - 1) ⊗ A ⊗ s (i - 1) ⊕ # (2 * i - 2) ⊗ B ⊗ s (i - 2)
+    abbrev pub from_sums : Seq R → ℕ → Car
+    from_sums s i = # (2 * i + 1) ⊗ s (i + 1) ⊕ # (2 * i - 1) ⊗ A ⊗ s (i - 1) ⊕ # (2 * i - 2) ⊗ B ⊗ s (i - 2)
 
     -- all of h: h₀ is 0, and the rest come from s
     abbrev pub expansion : Seq R → Seq R
     expansion s zero = 𝟘
-    expansion s (suc i) = from-sums s (suc i)
+    expansion s (suc i) = from_sums s (suc i)
 
   -- ── s, for a g of degree d
 
@@ -60,12 +60,12 @@ module _ (R : CRing) where
       pub newton : (k : ℕ) → 1 ≤ k → k ≤ n → Newton (rev R d g) s k
 
     -- the sequence that obeys them: s_k = −2k c_k − (sum of s_i c_(k − i), i from 1 to k − 1), where k is `suc k`
-    unfoldable pub newton-step : Seq R → ℕ → Seq R → Car
-    newton-step g zero s = # (2 * d)
-    newton-step g (suc k) s = neg (# (2 * suc k) ⊗ rev R d g (suc k)) ⊖ sum_to (λ i. s i ⊗ rev R d g (suc k - i)) k
+    unfoldable pub newton_step : Seq R → ℕ → Seq R → Car
+    newton_step g zero s = # (2 * d)
+    newton_step g (suc k) s = neg (# (2 * suc k) ⊗ rev R d g (suc k)) ⊖ sum_to (λ i. s i ⊗ rev R d g (suc k - i)) k
 
-    unfoldable pub power-sums : Seq R → Seq R
-    power-sums g = fix Car 𝟘 (newton-step g)
+    unfoldable pub power_sums_of : Seq R → Seq R
+    power_sums_of g = fix Car 𝟘 (newton_step g)
 
   -- ── the conditions on h that stand for R3
 

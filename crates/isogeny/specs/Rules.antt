@@ -61,18 +61,18 @@ module _ (R : CRing) (q : Question R) where
 
   -- its three terms, signs included. With D = g² they are those of source document 001's formula (13), N/D = ℓx − σ − (3x² + A)(D'/D) − 2f(D'/D)', times D:
   -- the part of ℓx − σ, that of the first logarithmic derivative D'/D, and that of the second one, (D'/D)'
-  unfoldable pub linear-part : Seq R → Seq R
-  linear-part g = (# ℓ ⊗ x ⊖ κ σ) ⊗ g ^ 2
+  unfoldable pub linear_part_of : Seq R → Seq R
+  linear_part_of g = (# ℓ ⊗ x ⊖ κ σ) ⊗ g ^ 2
 
-  unfoldable pub first-logarithmic-part : Seq R → Seq R
-  first-logarithmic-part g = neg (# 2 ⊗ (# 3 ⊗ x ^ 2 ⊕ κ A) ⊗ g ⊗ ∂ R g)
+  unfoldable pub first_logarithmic_part_of : Seq R → Seq R
+  first_logarithmic_part_of g = neg (# 2 ⊗ (# 3 ⊗ x ^ 2 ⊕ κ A) ⊗ g ⊗ ∂ R g)
 
-  unfoldable pub second-logarithmic-part : Seq R → Seq R
-  second-logarithmic-part g = neg (# 4 ⊗ f ⊗ (g ⊗ ∂ R (∂ R g) ⊖ ∂ R g ^ 2))
+  unfoldable pub second_logarithmic_part_of : Seq R → Seq R
+  second_logarithmic_part_of g = neg (# 4 ⊗ f ⊗ (g ⊗ ∂ R (∂ R g) ⊖ ∂ R g ^ 2))
 
-  pub N-parts : (g : Seq R) → N g ≡ linear-part g ⊕ first-logarithmic-part g ⊕ second-logarithmic-part g
-  unfolding N linear-part first-logarithmic-part second-logarithmic-part
-  N-parts g = refl
+  pub N_parts : (g : Seq R) → N g ≡ linear_part_of g ⊕ first_logarithmic_part_of g ⊕ second_logarithmic_part_of g
+  unfolding N linear_part_of first_logarithmic_part_of second_logarithmic_part_of
+  N_parts g = refl
 
   -- R3: f(N'g − 2Ng')² = N³ + ÃNg⁴ + B̃g⁶, each coefficient on the left equal to the one on the right
   unfoldable pub W : Seq R → Seq R → Seq R
@@ -94,16 +94,16 @@ module _ (R : CRing) (q : Question R) where
 
   -- where the point (u, v) goes if g(u) is not 0: u' = N(u)/g(u)² and v' = v (N'g − 2Ng')(u)/g(u)³, both without the division. First the three values
   -- g(u), N(u) and (N'g − 2Ng')(u)
-  abbrev pub g-at : Seq R → R.Car → R.Car
-  g-at g u = value R (suc d) g u
+  abbrev pub g_at : Seq R → R.Car → R.Car
+  g_at g u = value R (suc d) g u
 
-  abbrev pub N-at : Seq R → R.Car → R.Car
-  N-at n u = value R (suc ℓ) n u
+  abbrev pub N_at : Seq R → R.Car → R.Car
+  N_at n u = value R (suc ℓ) n u
 
-  abbrev pub W-at : Seq R → Seq R → R.Car → R.Car
-  W-at g n u = value R (suc (3 * d)) (W g n) u
+  abbrev pub W_at : Seq R → Seq R → R.Car → R.Car
+  W_at g n u = value R (suc (3 * d)) (W g n) u
 
   pub record Image (g n : Seq R) (u v u' v' : R.Car) : Type 0 where
-    pub defined : g-at g u ≢ R.𝟘
-    pub abscissa : R.mul u' (pow R (g-at g u) 2) ≡ N-at n u
-    pub ordinate : R.mul v' (pow R (g-at g u) 3) ≡ R.mul v (W-at g n u)
+    pub defined : g_at g u ≢ R.𝟘
+    pub abscissa : R.mul u' (pow R (g_at g u) 2) ≡ N_at n u
+    pub ordinate : R.mul v' (pow R (g_at g u) 3) ≡ R.mul v (W_at g n u)

@@ -7,18 +7,18 @@ use Rattle.std.proofs.Common.{◌∙◌}
 use Rattle.ring.specs.Ring.{CRing, cast, pow}
 use Rattle.ring.specs.Identity.{solve1, solve2, solve3, solve4, solve6}
 use Rattle.ring.specs.Identity.Ex.{num, :1, ◌:+◌, ◌:-◌, ◌:*◌, :-◌, ◌:^◌}
-use Rattle.ring.specs.Derivation.{d-quotient}
-use Rattle.series.specs.Series.{Series, Seq, const, ∂, ∂-leibniz, ∂-leibniz-twice, Formal}
-use Rattle.series.specs.Degree.{Poly, Monic, leading, leading-regular, monic-mul, monic-poly, regular-cancel}
+use Rattle.ring.specs.Derivation.{d_quotient}
+use Rattle.series.specs.Series.{Series, Seq, const, ∂, ∂-leibniz, ∂-leibniz_twice, Formal}
+use Rattle.series.specs.Degree.{Poly, Monic, leading, leading_regular, monic_mul, monic_poly, regular_cancel}
 use Rattle.series.specs.Indeterminate.{ind}
-use Rattle.series.specs.Reversal.{rev-sub}
-use Rattle.isogeny.specs.Rules.{Question, ℓ, f, N, linear-part, first-logarithmic-part, second-logarithmic-part, N-parts, R1, R3}
-use Rattle.isogeny.specs.Expansion.{PowerSums, power-sums}
-use Rattle.isogeny.specs.Kernel.{codomain-A, codomain-B}
-use Rattle.isogeny.specs.Velu.{sigma, velu-A, velu-B}
+use Rattle.series.specs.Reversal.{rev_sub}
+use Rattle.isogeny.specs.Rules.{Question, ℓ, f, N, linear_part_of, first_logarithmic_part_of, second_logarithmic_part_of, N_parts, R1, R3}
+use Rattle.isogeny.specs.Expansion.{PowerSums, power_sums_of}
+use Rattle.isogeny.specs.Kernel.{codomain_A, codomain_B}
+use Rattle.isogeny.specs.Velu.{sigma, velu_A, velu_B}
 use Rattle.isogeny.specs.Proof.Codomain.{codomain}
-use Rattle.isogeny.specs.Proof.Quotient.{N-monic}
-use Rattle.isogeny.specs.Proof.Sums.{sums-exist}
+use Rattle.isogeny.specs.Proof.Quotient.{N_monic}
+use Rattle.isogeny.specs.Proof.Sums.{sums_exist}
 use Rattle.isogeny.specs.Proof.Velu as Velu
 
 module _ (R : CRing) (q : Question R) where
@@ -45,24 +45,24 @@ module _ (R : CRing) (q : Question R) where
   x = ind R
 
   -- The σ of R1 is that of (12).
-  pub source-sigma : 1 ≤ d → (g : Seq R) → R1 R q g → σ ≡ sigma R d (g ⊗ g)
+  pub source_sigma : 1 ≤ d → (g : Seq R) → R1 R q g → σ ≡ sigma R d (g ⊗ g)
   unfolding sigma
-  source-sigma d≥1 g r1 =
-      r1.sigma ∙ ap (λ y. R.neg (R.mul (cast R 2) y)) (sym (rev-sub R d 1 g d≥1)) ∙ ap R.neg (sym (Velu.square-one R d g r1.degree r1.leading))
+  source_sigma d≥1 g r1 =
+      r1.sigma ∙ ap (λ y. R.neg (R.mul (cast R 2) y)) (sym (rev_sub R d 1 g d≥1)) ∙ ap R.neg (sym (Velu.square_one R d g r1.degree r1.leading))
 
   -- Source 001's codomain and document 01's, by power sums s of g, are one: t is h₁ and w is h₂.
-  pub same-codomain : (g : Seq R) → R1 R q g → (s : Seq R) → PowerSums R d g 3 s
-      → (velu-A R A B d (g ⊗ g) ≡ codomain-A R A B s) × (velu-B R A B d (g ⊗ g) ≡ codomain-B R A B s)
-  same-codomain g r1 s sums = Velu.same-codomain R d g r1.degree r1.leading A B s sums
+  pub same_codomain : (g : Seq R) → R1 R q g → (s : Seq R) → PowerSums R d g 3 s
+      → (velu_A R A B d (g ⊗ g) ≡ codomain_A R A B s) × (velu_B R A B d (g ⊗ g) ≡ codomain_B R A B s)
+  same_codomain g r1 s sums = Velu.same_codomain R d g r1.degree r1.leading A B s sums
 
   -- For every g with R1 and R3 the codomain is Vélu's, as source 001 computes it from D.
-  pub velu : 1 ≤ d → (g : Seq R) → R1 R q g → R3 R q g (N R q g) → (Ã ≡ velu-A R A B d (g ⊗ g)) × (B̃ ≡ velu-B R A B d (g ⊗ g))
+  pub velu : 1 ≤ d → (g : Seq R) → R1 R q g → R3 R q g (N R q g) → (Ã ≡ velu_A R A B d (g ⊗ g)) × (B̃ ≡ velu_B R A B d (g ⊗ g))
   velu d≥1 g r1 r3 =
-      let s : Seq R = power-sums R d g in
-      let sums : PowerSums R d g 3 s = sums-exist R d g r1.leading 3 in
-      let by-sums : (Ã ≡ codomain-A R A B s) × (B̃ ≡ codomain-B R A B s) = codomain R q d≥1 g r1 r3 s sums in
-      let same : (velu-A R A B d (g ⊗ g) ≡ codomain-A R A B s) × (velu-B R A B d (g ⊗ g) ≡ codomain-B R A B s) = same-codomain g r1 s sums in
-      (by-sums.0 ∙ sym same.0, by-sums.1 ∙ sym same.1)
+      let s : Seq R = power_sums_of R d g in
+      let sums : PowerSums R d g 3 s = sums_exist R d g r1.leading 3 in
+      let by_sums : (Ã ≡ codomain_A R A B s) × (B̃ ≡ codomain_B R A B s) = codomain R q d≥1 g r1 r3 s sums in
+      let same : (velu_A R A B d (g ⊗ g) ≡ codomain_A R A B s) × (velu_B R A B d (g ⊗ g) ≡ codomain_B R A B s) = same_codomain g r1 s sums in
+      (by_sums.0 ∙ sym same.0, by_sums.1 ∙ sym same.1)
 
   -- ── (13)
 
@@ -88,19 +88,19 @@ module _ (R : CRing) (q : Question R) where
     abbrev h : Seq R
     h = ∂ R D ⊗ i
 
-    times-D : h ⊗ D ≡ ∂ R D
-    times-D =
+    times_D : h ⊗ D ≡ ∂ R D
+    times_D =
         solve3 (Series R) (λ D i s. s :* i :* D) (λ D i s. s :* (D :* i)) tt D i (∂ R D) ∙ ap (λ y. ∂ R D ⊗ y) inverse ∙ (Series R).mul-one (∂ R D)
 
-    slope-times-D² : ∂ R h ⊗ (D ⊗ D) ≡ ∂ R (∂ R D) ⊗ D ⊖ ∂ R D ⊗ ∂ R D
-    slope-times-D² = d-quotient (Series R) (Formal R) (∂ R D) D h times-D
+    slope_times_D² : ∂ R h ⊗ (D ⊗ D) ≡ ∂ R (∂ R D) ⊗ D ⊖ ∂ R D ⊗ ∂ R D
+    slope_times_D² = d_quotient (Series R) (Formal R) (∂ R D) D h times_D
 
     cleared : (line ⊖ quadratic ⊗ h ⊖ # 2 ⊗ f R q ⊗ ∂ R h) ⊗ (D ⊗ D)
         ≡ line ⊗ D ⊗ D ⊖ quadratic ⊗ ∂ R D ⊗ D ⊖ # 2 ⊗ f R q ⊗ (∂ R (∂ R D) ⊗ D ⊖ ∂ R D ⊗ ∂ R D)
     cleared =
         solve6 (Series R) (λ l s f h h' D. (l :- s :* h :- num 2 :* f :* h') :* (D :* D))
         (λ l s f h h' D. l :* D :* D :- s :* (h :* D) :* D :- num 2 :* f :* (h' :* (D :* D))) tt line quadratic (f R q) h (∂ R h) D
-        ∙ ap₂ (λ a b. line ⊗ D ⊗ D ⊖ quadratic ⊗ a ⊗ D ⊖ # 2 ⊗ f R q ⊗ b) times-D slope-times-D²
+        ∙ ap₂ (λ a b. line ⊗ D ⊗ D ⊖ quadratic ⊗ a ⊗ D ⊖ # 2 ⊗ f R q ⊗ b) times_D slope_times_D²
 
     -- m D² i² = m
     divided : (m : Seq R) → m ⊗ (D ⊗ D) ⊗ (i ⊗ i) ≡ m
@@ -108,70 +108,70 @@ module _ (R : CRing) (q : Question R) where
         solve3 (Series R) (λ m D i. m :* (D :* D) :* (i :* i)) (λ m D i. m :* ((D :* i) :* (D :* i))) tt m D i ∙ ap (λ y. m ⊗ (y ⊗ y)) inverse
         ∙ solve1 (Series R) (λ m. m :* (:1 :* :1)) (λ m. m) tt m
 
-    quotient-times-D² : n ⊗ i ⊗ (D ⊗ D) ≡ n ⊗ D
-    quotient-times-D² =
+    quotient_times_D² : n ⊗ i ⊗ (D ⊗ D) ≡ n ⊗ D
+    quotient_times_D² =
         solve3 (Series R) (λ n D i. n :* i :* (D :* D)) (λ n D i. n :* D :* (D :* i)) tt n D i ∙ ap (λ y. n ⊗ D ⊗ y) inverse ∙ (Series R).mul-one (n ⊗ D)
 
-    pub printed-13 : Printed13 (n ⊗ i) h ↔ Formula13 D n
+    pub printed_13 : Printed13 (n ⊗ i) h ↔ Formula13 D n
     unfolding Printed13 Formula13
-    printed-13 = (
-      λ e. sym quotient-times-D² ∙ ap (λ m. m ⊗ (D ⊗ D)) e ∙ cleared,
-      λ e. sym (divided (n ⊗ i)) ∙ ap (λ m. m ⊗ (i ⊗ i)) (quotient-times-D² ∙ e ∙ sym cleared) ∙ divided _,
+    printed_13 = (
+      λ e. sym quotient_times_D² ∙ ap (λ m. m ⊗ (D ⊗ D)) e ∙ cleared,
+      λ e. sym (divided (n ⊗ i)) ∙ ap (λ m. m ⊗ (i ⊗ i)) (quotient_times_D² ∙ e ∙ sym cleared) ∙ divided _,
     )
 
   -- R2's parts times D are the terms on the right, with D = g², each part its own:
   module _ (g : Seq R) where
-    pub linear-13 : linear-part R q g ⊗ (g ⊗ g) ≡ line ⊗ (g ⊗ g) ⊗ (g ⊗ g)
-    unfolding linear-part
-    linear-13 = solve2 (Series R) (λ l g. l :* g :^ 2 :* (g :* g)) (λ l g. l :* (g :* g) :* (g :* g)) tt line g
+    pub linear_13 : linear_part_of R q g ⊗ (g ⊗ g) ≡ line ⊗ (g ⊗ g) ⊗ (g ⊗ g)
+    unfolding linear_part_of
+    linear_13 = solve2 (Series R) (λ l g. l :* g :^ 2 :* (g :* g)) (λ l g. l :* (g :* g) :* (g :* g)) tt line g
 
-    pub first-logarithmic-13 : first-logarithmic-part R q g ⊗ (g ⊗ g) ≡ neg (quadratic ⊗ ∂ R (g ⊗ g) ⊗ (g ⊗ g))
-    unfolding first-logarithmic-part
-    first-logarithmic-13 =
+    pub first_logarithmic_13 : first_logarithmic_part_of R q g ⊗ (g ⊗ g) ≡ neg (quadratic ⊗ ∂ R (g ⊗ g) ⊗ (g ⊗ g))
+    unfolding first_logarithmic_part_of
+    first_logarithmic_13 =
         solve3 (Series R) (λ s g g'. :- (num 2 :* s :* g :* g') :* (g :* g)) (λ s g g'. :- (s :* (g' :* g :+ g :* g') :* (g :* g))) tt quadratic g (∂ R g)
         ∙ sym (ap (λ s. neg (quadratic ⊗ s ⊗ (g ⊗ g))) (∂-leibniz R g g))
 
-    pub second-logarithmic-13 : second-logarithmic-part R q g ⊗ (g ⊗ g)
+    pub second_logarithmic_13 : second_logarithmic_part_of R q g ⊗ (g ⊗ g)
         ≡ neg (# 2 ⊗ f R q ⊗ (∂ R (∂ R (g ⊗ g)) ⊗ (g ⊗ g) ⊖ ∂ R (g ⊗ g) ⊗ ∂ R (g ⊗ g)))
-    unfolding second-logarithmic-part
-    second-logarithmic-13 =
+    unfolding second_logarithmic_part_of
+    second_logarithmic_13 =
         solve4 (Series R) (λ f g g' g''. :- (num 4 :* f :* (g :* g'' :- g' :^ 2)) :* (g :* g))
         (λ f g g' g''. :- (num 2 :* f :* ((g'' :* g :+ g' :* g' :+ (g' :* g' :+ g :* g'')) :* (g :* g) :- (g' :* g :+ g :* g') :* (g' :* g :+ g :* g')))) tt
         (f R q) g (∂ R g) (∂ R (∂ R g))
-        ∙ sym (ap₂ (λ s t. neg (# 2 ⊗ f R q ⊗ (t ⊗ (g ⊗ g) ⊖ s ⊗ s))) (∂-leibniz R g g) (∂-leibniz-twice R g g))
+        ∙ sym (ap₂ (λ s t. neg (# 2 ⊗ f R q ⊗ (t ⊗ (g ⊗ g) ⊖ s ⊗ s))) (∂-leibniz R g g) (∂-leibniz_twice R g g))
 
   -- so R2's N satisfies it, whatever g is,
-  pub formula-13 : (g : Seq R) → Formula13 (g ⊗ g) (N R q g)
+  pub formula_13 : (g : Seq R) → Formula13 (g ⊗ g) (N R q g)
   unfolding Formula13
-  formula-13 g =
-      ap (λ n. n ⊗ (g ⊗ g)) (N-parts R q g)
+  formula_13 g =
+      ap (λ n. n ⊗ (g ⊗ g)) (N_parts R q g)
       ∙ solve4 (Series R) (λ a b c D. (a :+ b :+ c) :* D) (λ a b c D. a :* D :+ b :* D :+ c :* D) tt
-      (linear-part R q g) (first-logarithmic-part R q g) (second-logarithmic-part R q g) (g ⊗ g)
-      ∙ ap₂ ◌⊕◌ (ap₂ ◌⊕◌ (linear-13 g) (first-logarithmic-13 g)) (second-logarithmic-13 g)
+      (linear_part_of R q g) (first_logarithmic_part_of R q g) (second_logarithmic_part_of R q g) (g ⊗ g)
+      ∙ ap₂ ◌⊕◌ (ap₂ ◌⊕◌ (linear_13 g) (first_logarithmic_13 g)) (second_logarithmic_13 g)
 
   -- and, for a g with R1, no other polynomial does: (13) is R2.
-  pub formula-13-is : 1 ≤ d → (g : Seq R) → R1 R q g → (n : Seq R) → Poly R n → Formula13 (g ⊗ g) n ↔ (n ≡ N R q g)
+  pub formula_13_is : 1 ≤ d → (g : Seq R) → R1 R q g → (n : Seq R) → Poly R n → Formula13 (g ⊗ g) n ↔ (n ≡ N R q g)
   unfolding Formula13
-  formula-13-is d≥1 g r1 n polynomial = (there, λ e. ap (λ m. m ⊗ (g ⊗ g)) e ∙ formula-13 g)
+  formula_13_is d≥1 g r1 n polynomial = (there, λ e. ap (λ m. m ⊗ (g ⊗ g)) e ∙ formula_13 g)
     where
       monic : Monic R d g
       monic = record { below = r1.degree; one = r1.leading }
 
       square : Monic R (d + d) (g ⊗ g)
-      square = monic-mul R d d g g monic monic
+      square = monic_mul R d d g g monic monic
 
       there : Formula13 (g ⊗ g) n → n ≡ N R q g
       there h =
-          regular-cancel R (g ⊗ g) n (N R q g) (leading-regular R (d + d) (g ⊗ g) (leading R (d + d) (g ⊗ g) square)) polynomial
-          (monic-poly R (ℓ R q) (N R q g) (N-monic R q d≥1 g r1))
-          ((Series R).mul_comm (g ⊗ g) n ∙ h ∙ sym (formula-13 g) ∙ (Series R).mul_comm (N R q g) (g ⊗ g))
+          regular_cancel R (g ⊗ g) n (N R q g) (leading_regular R (d + d) (g ⊗ g) (leading R (d + d) (g ⊗ g) square)) polynomial
+          (monic_poly R (ℓ R q) (N R q g) (N_monic R q d≥1 g r1))
+          ((Series R).mul_comm (g ⊗ g) n ∙ h ∙ sym (formula_13 g) ∙ (Series R).mul_comm (N R q g) (g ⊗ g))
 
   -- The same of (13) as printed, where D has an inverse, among all series.
-  pub printed-13-is : (g i n : Seq R) → g ⊗ g ⊗ i ≡ (Series R).𝟙 → Printed13 (n ⊗ i) (∂ R (g ⊗ g) ⊗ i) ↔ (n ≡ N R q g)
+  pub printed_13_is : (g i n : Seq R) → g ⊗ g ⊗ i ≡ (Series R).𝟙 → Printed13 (n ⊗ i) (∂ R (g ⊗ g) ⊗ i) ↔ (n ≡ N R q g)
   unfolding Formula13
-  printed-13-is g i n inverse = (
-    λ e. sym (back n) ∙ ap (λ m. m ⊗ i) ((printed-13 (g ⊗ g) i n inverse).0 e ∙ sym (formula-13 g)) ∙ back (N R q g),
-    λ e. (printed-13 (g ⊗ g) i n inverse).1 (ap (λ m. m ⊗ (g ⊗ g)) e ∙ formula-13 g),
+  printed_13_is g i n inverse = (
+    λ e. sym (back n) ∙ ap (λ m. m ⊗ i) ((printed_13 (g ⊗ g) i n inverse).0 e ∙ sym (formula_13 g)) ∙ back (N R q g),
+    λ e. (printed_13 (g ⊗ g) i n inverse).1 (ap (λ m. m ⊗ (g ⊗ g)) e ∙ formula_13 g),
   )
     where
       back : (m : Seq R) → m ⊗ (g ⊗ g) ⊗ i ≡ m

@@ -51,8 +51,8 @@ module _ (R : CRing) where
     w = # 3 ⊗ A ⊗ σ ⊕ # 2 ⊗ B ⊗ # (2 * d) ⊕ # 5 ⊗ (σ ^ 3 ⊖ # 3 ⊗ σ ⊗ σ₂ ⊕ # 3 ⊗ σ₃)
 
     -- Ã = A − 5t and B̃ = B − 7w
-    abbrev pub velu-A : Car
-    velu-A = A ⊖ # 5 ⊗ t
+    abbrev pub velu_A : Car
+    velu_A = A ⊖ # 5 ⊗ t
 
-    abbrev pub velu-B : Car
-    velu-B = B ⊖ # 7 ⊗ w
+    abbrev pub velu_B : Car
+    velu_B = B ⊖ # 7 ⊗ w

@@ -9,11 +9,11 @@ use Rattle.ring.specs.Ring
 use Rattle.ring.specs.Ring.{CRing, cast, pow}
 use Rattle.ring.specs.Identity.{solve1, solve2, solve3}
 use Rattle.ring.specs.Identity.Ex.{num, :0, ◌:+◌, ◌:-◌, ◌:*◌, :-◌, ◌:^◌}
-use Rattle.series.specs.Series.{Series, Seq, const, zeros, sum, head-then, conv-const}
-use Rattle.series.specs.Degree.{poly-const, poly-mul, poly-neg, poly-pow}
-use Rattle.series.specs.Indeterminate.{ind, conv-ind, conv-cast}
-use Rattle.series.specs.Reversal.{rev, r-ind, r-pow}
-use Rattle.isogeny.specs.Examples.{q, N-is}
+use Rattle.series.specs.Series.{Series, Seq, const, zeros, sum, head_then, conv_const}
+use Rattle.series.specs.Degree.{poly_const, poly_mul, poly_neg, poly_pow}
+use Rattle.series.specs.Indeterminate.{ind, conv_ind, conv_cast}
+use Rattle.series.specs.Reversal.{rev, r_ind, r_pow}
+use Rattle.isogeny.specs.Examples.{q, N_is}
 use Rattle.isogeny.specs.Expansion.{Recurs}
 use Rattle.isogeny.specs.Rules.{N}
 use Rattle.divisibility.specs.Coprime.{Coprime}
@@ -44,7 +44,7 @@ module _ (R : CRing) (B : R.Car) where
 
   -- 0, 0, 4 B, 0, 0, ..
   abbrev h : Seq R
-  h = head-then R R.𝟘 (head-then R R.𝟘 (const R c))
+  h = head_then R R.𝟘 (head_then R R.𝟘 (const R c))
 
   computed : Expands R R.𝟘 B R.𝟘 B̃ 4 h
   unfolding sum
@@ -71,10 +71,10 @@ module _ (R : CRing) (B : R.Car) where
   reversed : rev R 4 h ≡ const R c ⊗ x ^ 2
   unfolding rev
   reversed =
-      fun_ext go ∙ sym (conv-ind R (head-then R R.𝟘 (const R c))) ∙ ap (λ y. x ⊗ y) (sym (conv-ind R (const R c)))
+      fun_ext go ∙ sym (conv_ind R (head_then R R.𝟘 (const R c))) ∙ ap (λ y. x ⊗ y) (sym (conv_ind R (const R c)))
       ∙ solve2 (Series R) (λ x c. x :* (x :* c)) (λ x c. c :* x :^ 2) tt x (const R c)
     where
-      go : (i : ℕ) → rev R 4 h i ≡ head-then R R.𝟘 (head-then R R.𝟘 (const R c)) i
+      go : (i : ℕ) → rev R 4 h i ≡ head_then R R.𝟘 (head_then R R.𝟘 (const R c)) i
       go zero = refl
       go (suc zero) = refl
       go (suc (suc zero)) = refl
@@ -85,30 +85,30 @@ module _ (R : CRing) (B : R.Car) where
   found : Found R 1 h (zeros R) (x ^ 2)
   found = record {
     s = neg (const R c);
-    poly-s = poly-neg R _ (poly-const R c);
+    poly_s = poly_neg R _ (poly_const R c);
     is =
         solve2 (Series R) (λ x c. :0) (λ x c. x :^ 2 :* (c :* x :^ 2) :+ :- c :* x :^ 4) tt x (const R c)
         ∙ ap (λ y. x ^ 2 ⊗ y ⊕ neg (const R c) ⊗ x ^ 4) (sym reversed);
-    r-below = λ i l. refl;
-    t-below = (r-pow R (r-ind R) 2).below;
+    r_below = λ i l. refl;
+    t_below = (r_pow R (r_ind R) 2).below;
   }
 
   lowest : (i : R.Car) → R.mul c i ≡ R.𝟙 → Coprime R x (N R (q R B) x)
   lowest i e = record {
     u = neg (const R i ⊗ x ^ 2);
     v = const R i;
-    poly-u = poly-neg R _ (poly-mul R _ _ (poly-const R i) (poly-pow R x (2, (r-ind R).below) 2));
-    poly-v = poly-const R i;
+    poly_u = poly_neg R _ (poly_mul R _ _ (poly_const R i) (poly_pow R x (2, (r_ind R).below) 2));
+    poly_v = poly_const R i;
     is =
-        ap (λ n. neg (const R i ⊗ x ^ 2) ⊗ x ⊕ const R i ⊗ n) (N-is R B)
+        ap (λ n. neg (const R i ⊗ x ^ 2) ⊗ x ⊕ const R i ⊗ n) (N_is R B)
         ∙ solve3 (Series R) (λ i x b. :- (i :* x :^ 2) :* x :+ i :* (x :^ 3 :+ num 4 :* b)) (λ i x b. num 4 :* b :* i) tt (const R i) x (const R B)
         ∙ fun_ext one;
   }
     where
       one : (j : ℕ) → (# 4 ⊗ const R B ⊗ const R i) j ≡ const R R.𝟙 j
       one j =
-          ap (λ f. f j) (CRing.mul_assoc (Series R) (# 4) (const R B) (const R i)) ∙ conv-cast R 4 (const R B ⊗ const R i) j
-          ∙ ap (R.mul (cast R 4)) (conv-const R B (const R i) j) ∙ sym (R.mul_assoc (cast R 4) B (const R i j)) ∙ at j
+          ap (λ f. f j) (CRing.mul_assoc (Series R) (# 4) (const R B) (const R i)) ∙ conv_cast R 4 (const R B ⊗ const R i) j
+          ∙ ap (R.mul (cast R 4)) (conv_const R B (const R i) j) ∙ sym (R.mul_assoc (cast R 4) B (const R i j)) ∙ at j
         where
           at : (j : ℕ) → R.mul c (const R i j) ≡ const R R.𝟙 j
           at zero = e

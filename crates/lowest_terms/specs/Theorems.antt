@@ -13,18 +13,18 @@ use Rattle.ring.specs.Field.{Field}
 use Rattle.ring.specs.Identity.{solve1}
 use Rattle.ring.specs.Identity.Ex.{:0, ◌:^◌}
 use Rattle.series.specs.Series.{Series, Seq, conv, zeros, ∂}
-use Rattle.series.specs.Degree.{Below, Poly, Leading, Monic, leading, leading-poly, leading-regular, monic-mul, monic-poly, poly-∂, ∂-below}
+use Rattle.series.specs.Degree.{Below, Poly, Leading, Monic, leading, leading_poly, leading_regular, monic_mul, monic_poly, poly_∂, ∂-below}
 use Rattle.series.specs.Value.{value}
 use Rattle.zmod.specs.Zmod.{Zmod}
-use Rattle.zmod.specs.Prime.{Prime, Zmod-field, cast-nonzero, cast-inverse}
+use Rattle.zmod.specs.Prime.{Prime, Zmod_field, cast_nonzero, cast_inverse}
 use Rattle.isogeny.specs.Curve.{Nonsingular, OnCurve}
-use Rattle.isogeny.specs.Rules.{Question, Meets, ℓ, f, N, g-at}
-use Rattle.isogeny.specs.Theorems.{N-degree, N-monic}
-use Rattle.isogeny.specs.Proof.Cubic.{poly-f, f-at}
-use Rattle.divisibility.specs.Divides.{Divides, NoCommonFactor, SquareFree, divides-degree}
-use Rattle.divisibility.specs.Coprime.{Coprime, bezout-sym, coprime-pow, coprime-at, coprime-no-common-factor, coprime-square-free}
+use Rattle.isogeny.specs.Rules.{Question, Meets, ℓ, f, N, g_at}
+use Rattle.isogeny.specs.Theorems.{N_degree, N_monic}
+use Rattle.isogeny.specs.Proof.Cubic.{poly_f, f_at}
+use Rattle.divisibility.specs.Divides.{Divides, NoCommonFactor, SquareFree, divides_degree}
+use Rattle.divisibility.specs.Coprime.{Coprime, bezout_sym, coprime_pow, coprime_at, coprime_no_common_factor, coprime_square_free}
 use Rattle.divisibility.specs.Fraction as Fraction
-use Rattle.divisibility.specs.Irreducible.{coprime-by-irreducibles}
+use Rattle.divisibility.specs.Irreducible.{coprime_by_irreducibles}
 use Rattle.lowest_terms.specs.Proof.Cases as Cases
 use Rattle.lowest_terms.specs.Proof.Numerator as Numerator
 
@@ -33,62 +33,62 @@ module _ {p : ℕ} (P : Prime p) where
   R = Zmod p
 
   abbrev F : Field R
-  F = Zmod-field P
+  F = Zmod_field P
 
   module _ (q : Question R) (d≥1 : 1 ≤ q.d) (nonsingular : Nonsingular R q.A q.B) (small : ℓ R q ≤ p) (g : Seq R) (meets : Meets R q g) where
     open q use {A, B, d}
 
     units : (j : ℕ) → 1 ≤ j → j < ℓ R q → cast R j ≢ R.𝟘
-    units j h l = cast-nonzero P j h (omega arith)
+    units j h l = cast_nonzero P j h (omega arith)
 
-    g-monic : Monic R d g
-    g-monic = record { below = meets.r1.degree; one = meets.r1.leading }
+    g_monic : Monic R d g
+    g_monic = record { below = meets.r1.degree; one = meets.r1.leading }
 
-    g-leading : Leading R d g
-    g-leading = leading R d g g-monic
+    g_leading : Leading R d g
+    g_leading = leading R d g g_monic
 
     -- ── 1. Bezout's equations: there are polynomials u and v over ℤ/p
 
     -- with u g + v g' = 1,
-    pub coprime-derivative : Coprime R g (∂ R g)
-    coprime-derivative =
-        coprime-by-irreducibles R F g (∂ R g) (Cases.not-derivative R F q nonsingular units g meets) d g-leading
-        (poly-∂ R g (monic-poly R d g g-monic))
+    pub coprime_derivative : Coprime R g (∂ R g)
+    coprime_derivative =
+        coprime_by_irreducibles R F g (∂ R g) (Cases.not_derivative R F q nonsingular units g meets) d g_leading
+        (poly_∂ R g (monic_poly R d g g_monic))
 
     -- with u g + v f = 1,
-    pub coprime-f : Coprime R g (f R q)
-    coprime-f = coprime-by-irreducibles R F g (f R q) (Cases.not_f R F q nonsingular units g meets) d g-leading (poly-f R q)
+    pub coprime_f : Coprime R g (f R q)
+    coprime_f = coprime_by_irreducibles R F g (f R q) (Cases.not_f R F q nonsingular units g meets) d g_leading (poly_f R q)
 
     -- and with u g + v N = 1, for the N of R2.
-    pub coprime-N : Coprime R g (N R q g)
-    coprime-N = Numerator.coprime-N R q g (monic-poly R d g g-monic) (cast-inverse P 2 (omega arith) (omega arith)) coprime-f coprime-derivative
+    pub coprime_N : Coprime R g (N R q g)
+    coprime_N = Numerator.coprime_N R q g (monic_poly R d g g_monic) (cast_inverse P 2 (omega arith) (omega arith)) coprime_f coprime_derivative
 
     -- ── 2. factors over ℤ/p
 
     -- g has no repeated factor: a polynomial over ℤ/p whose square divides g is a constant.
-    pub square-free : SquareFree R g
-    square-free = coprime-square-free R F g coprime-derivative
+    pub square_free : SquareFree R g
+    square_free = coprime_square_free R F g coprime_derivative
 
     -- g has no factor of degree 1 or more in common with f = x³ + Ax + B: a polynomial over ℤ/p that divides both is a constant.
-    pub no-factor-f : NoCommonFactor R g (f R q)
-    no-factor-f = coprime-no-common-factor R F g (f R q) coprime-f
+    pub no_factor_f : NoCommonFactor R g (f R q)
+    no_factor_f = coprime_no_common_factor R F g (f R q) coprime_f
 
     -- And none in common with N: a polynomial over ℤ/p that divides g and N is a constant.
-    pub no-factor-N : NoCommonFactor R g (N R q g)
-    no-factor-N = coprime-no-common-factor R F g (N R q g) coprime-N
+    pub no_factor_N : NoCommonFactor R g (N R q g)
+    no_factor_N = coprime_no_common_factor R F g (N R q g) coprime_N
 
     -- ── 3. roots in ℤ/p
 
     -- Every root of g is a simple one: where g(u) = 0, g'(u) is not 0.
-    pub simple-root : (u : R.Car) → g-at R q g u ≡ R.𝟘 → value R d (∂ R g) u ≢ R.𝟘
-    simple-root = coprime-at R F.apart g (∂ R g) (suc d, meets.r1.degree) (d, ∂-below R d g meets.r1.degree) coprime-derivative
+    pub simple_root : (u : R.Car) → g_at R q g u ≡ R.𝟘 → value R d (∂ R g) u ≢ R.𝟘
+    simple_root = coprime_at R F.apart g (∂ R g) (suc d, meets.r1.degree) (d, ∂-below R d g meets.r1.degree) coprime_derivative
 
     -- And it is the abscissa of no point of order 2: where g(u) = 0, a point (u, v) of the domain has a v that is not 0.
-    pub ordinate-nonzero : (u v : R.Car) → OnCurve R A B u v → g-at R q g u ≡ R.𝟘 → v ≢ R.𝟘
+    pub ordinate_nonzero : (u v : R.Car) → OnCurve R A B u v → g_at R q g u ≡ R.𝟘 → v ≢ R.𝟘
     unfolding OnCurve
-    ordinate-nonzero u v on root zero =
-        coprime-at R F.apart g (f R q) (suc d, meets.r1.degree) (poly-f R q) coprime-f u root
-        (f-at R q u ∙ sym on ∙ ap (λ y. pow R y 2) zero ∙ solve1 R (λ y. :0 :^ 2) (λ y. :0) tt R.𝟘)
+    ordinate_nonzero u v on root zero =
+        coprime_at R F.apart g (f R q) (suc d, meets.r1.degree) (poly_f R q) coprime_f u root
+        (f_at R q u ∙ sym on ∙ ap (λ y. pow R y 2) zero ∙ solve1 R (λ y. :0 :^ 2) (λ y. :0) tt R.𝟘)
 
     -- ── 4. ℓ is the degree of the map in lowest terms
 
@@ -96,42 +96,42 @@ module _ {p : ℕ} (P : Prime p) where
     g² = pow (Series R) g 2
 
     -- N is monic of degree ℓ,
-    pub monic-N : Monic R (ℓ R q) (N R q g)
-    monic-N = record { below = N-degree P q d≥1 g meets.r1; one = N-monic P q d≥1 g meets.r1 }
+    pub monic_N : Monic R (ℓ R q) (N R q g)
+    monic_N = record { below = N_degree P q d≥1 g meets.r1; one = N_monic P q d≥1 g meets.r1 }
 
     -- g² is monic of degree ℓ − 1,
-    pub monic-g² : Monic R (ℓ R q - 1) g²
-    monic-g² = subst (λ n. Monic R n g²) (omega arith) (subst (Monic R (d + d)) (squared (Series R) g) (monic-mul R d d g g g-monic g-monic))
+    pub monic_g² : Monic R (ℓ R q - 1) g²
+    monic_g² = subst (λ n. Monic R n g²) (omega arith) (subst (Monic R (d + d)) (squared (Series R) g) (monic_mul R d d g g g_monic g_monic))
 
     -- and they are coprime: u N + v g² = 1 for some polynomials u and v over ℤ/p.
-    pub coprime-N-g² : Coprime R (N R q g) g²
-    coprime-N-g² = coprime-pow R (N R q g) g (monic-poly R d g g-monic) (bezout-sym R g (N R q g) _ coprime-N) 2
+    pub coprime_N_g² : Coprime R (N R q g) g²
+    coprime_N_g² = coprime_pow R (N R q g) g (monic_poly R d g g_monic) (bezout_sym R g (N R q g) _ coprime_N) 2
 
-    N-leading : Leading R (ℓ R q) (N R q g)
-    N-leading = leading R (ℓ R q) (N R q g) monic-N
+    N_leading : Leading R (ℓ R q) (N R q g)
+    N_leading = leading R (ℓ R q) (N R q g) monic_N
 
-    g²-leading : Leading R (ℓ R q - 1) g²
-    g²-leading = leading R (ℓ R q - 1) g² monic-g²
+    g²_leading : Leading R (ℓ R q - 1) g²
+    g²_leading = leading R (ℓ R q - 1) g² monic_g²
 
     -- Let M / D be the same fraction as N / g², that is M g² = N D, with any polynomials M and D over ℤ/p.
-    module _ (M D : Seq R) (poly-M : Poly R M) (poly-D : Poly R D) (same : conv R M g² ≡ conv R (N R q g) D) where
+    module _ (M D : Seq R) (poly_M : Poly R M) (poly_D : Poly R D) (same : conv R M g² ≡ conv R (N R q g) D) where
       -- Then g² divides D,
       pub denominator : Divides R g² D
-      denominator = Fraction.denominator R (N R q g) g² M D coprime-N-g² poly-M poly-D same
+      denominator = Fraction.denominator R (N R q g) g² M D coprime_N_g² poly_M poly_D same
 
       -- and M = N k where D = g² k.
       pub numerator : conv R (N R q g) denominator.cofactor ≡ M
       unfolding denominator
       numerator =
-          Fraction.numerator R (N R q g) g² M D coprime-N-g² poly-M poly-D same (leading-poly R (ℓ R q) (N R q g) N-leading)
-          (leading-regular R (ℓ R q - 1) g² g²-leading)
+          Fraction.numerator R (N R q g) g² M D coprime_N_g² poly_M poly_D same (leading_poly R (ℓ R q) (N R q g) N_leading)
+          (leading_regular R (ℓ R q - 1) g² g²_leading)
 
       -- So, if D is not 0, its degree is ℓ − 1 or more,
-      pub denominator-degree : D ≢ zeros R → (n : ℕ) → Below R (suc n) D → ℓ R q - 1 ≤ n
-      denominator-degree = divides-degree R (ℓ R q - 1) g² D g²-leading denominator
+      pub denominator_degree : D ≢ zeros R → (n : ℕ) → Below R (suc n) D → ℓ R q - 1 ≤ n
+      denominator_degree = divides_degree R (ℓ R q - 1) g² D g²_leading denominator
 
       -- and that of M is ℓ or more.
-      pub numerator-degree : D ≢ zeros R → (n : ℕ) → Below R (suc n) M → ℓ R q ≤ n
-      numerator-degree nonzero =
-          divides-degree R (ℓ R q) (N R q g) M N-leading (record { cofactor = denominator.cofactor; poly = denominator.poly; is = numerator })
-          (λ e. nonzero (leading-regular R (ℓ R q) (N R q g) N-leading D poly-D (sym same ∙ ap (λ y. conv R y g²) e ∙ Ring.zero-mul (Series R) g²)))
+      pub numerator_degree : D ≢ zeros R → (n : ℕ) → Below R (suc n) M → ℓ R q ≤ n
+      numerator_degree nonzero =
+          divides_degree R (ℓ R q) (N R q g) M N_leading (record { cofactor = denominator.cofactor; poly = denominator.poly; is = numerator })
+          (λ e. nonzero (leading_regular R (ℓ R q) (N R q g) N_leading D poly_D (sym same ∙ ap (λ y. conv R y g²) e ∙ Ring.zero-mul (Series R) g²)))

@@ -9,18 +9,18 @@ use Rattle.ring.specs.Identity.{Ex, eval}
 use Rattle.ring.specs.Identity.Ex.{var, num, :0, :1, ◌:+◌, ◌:-◌, ◌:*◌, :-◌, ◌:^◌}
 use Rattle.series.specs.Series.{Seq, conv}
 use Rattle.series.specs.Reversal.{rev}
-use Rattle.zmod.specs.Zmod.{Elt, Zmod, mk, plus, times, minus, mk-mod, mk-add, mk-mul, mk-pow, cast-mk}
+use Rattle.zmod.specs.Zmod.{Elt, Zmod, mk, plus, times, minus, mk_mod, mk_add, mk_mul, mk_pow, cast_mk}
 use Rattle.zmod.specs.Natural.{at as numbers}
-use Rattle.zmod.specs.Residues.{poly, poly-at, poly-below}
-use Rattle.zmod.specs.Calculation.{mul, poly-mul, mk-neg}
+use Rattle.zmod.specs.Residues.{poly, poly_at, poly_below}
+use Rattle.zmod.specs.Calculation.{mul, poly_mul, mk_neg}
 use Rattle.isogeny.specs.Rules.{Question, N, R1, R3}
-use Rattle.isogeny.specs.Kernel.{kernel-question}
-use Rattle.isogeny.specs.Velu.{sigma, sigma₂, sigma₃, t, w, velu-A, velu-B}
+use Rattle.isogeny.specs.Kernel.{kernel_question}
+use Rattle.isogeny.specs.Velu.{sigma, sigma₂, sigma₃, t, w, velu_A, velu_B}
 use Rattle.isogeny.specs.Source.{velu}
 use Rattle.sheet.specs.declared.Values.{Values}
 use Rattle.sheet.specs.Values.{question, half}
 use Rattle.promises.specs.Asked.{Passing}
-use Rattle.marked.specs.Rules.{numerator, numerator-is, R3-test, R3-refuted, twice}
+use Rattle.marked.specs.Rules.{numerator, numerator_is, R3_test, R3_refuted, twice}
 
 -- ── the value of an expression modulo p
 
@@ -35,32 +35,32 @@ residue p ρ (a :* b) = (residue p ρ a * residue p ρ b) % p
 residue p ρ (:- a) = p - residue p ρ a % p
 residue p ρ (a :^ n) = residue p ρ a ^ n % p
 
-residue-is : {p : ℕ} → 0 < p → (ρ : ℕ → ℕ) (e : Ex) → mk p (residue p ρ e) ≡ eval (Zmod p) (λ i. mk p (ρ i)) e
-residue-is pos ρ (var i) = refl
-residue-is {p} pos ρ (num n) = sym (cast-mk p n)
-residue-is pos ρ :0 = refl
-residue-is pos ρ :1 = refl
-residue-is {p} pos ρ (a :+ b) = mk-mod pos _ ∙ mk-add p _ _ ∙ ap₂ (plus p) (residue-is pos ρ a) (residue-is pos ρ b)
-residue-is {p} pos ρ (a :- b) =
-    mk-mod pos _ ∙ mk-add p _ _ ∙ ap₂ (plus p) (residue-is pos ρ a) (mk-neg pos (residue p ρ b) ∙ ap (minus p) (residue-is pos ρ b))
-residue-is {p} pos ρ (a :* b) = mk-mod pos _ ∙ mk-mul p _ _ ∙ ap₂ (times p) (residue-is pos ρ a) (residue-is pos ρ b)
-residue-is {p} pos ρ (:- a) = mk-neg pos (residue p ρ a) ∙ ap (minus p) (residue-is pos ρ a)
-residue-is {p} pos ρ (a :^ n) = mk-mod pos _ ∙ mk-pow p (residue p ρ a) n ∙ ap (λ x. pow (Zmod p) x n) (residue-is pos ρ a)
+residue_is : {p : ℕ} → 0 < p → (ρ : ℕ → ℕ) (e : Ex) → mk p (residue p ρ e) ≡ eval (Zmod p) (λ i. mk p (ρ i)) e
+residue_is pos ρ (var i) = refl
+residue_is {p} pos ρ (num n) = sym (cast_mk p n)
+residue_is pos ρ :0 = refl
+residue_is pos ρ :1 = refl
+residue_is {p} pos ρ (a :+ b) = mk_mod pos _ ∙ mk_add p _ _ ∙ ap₂ (plus p) (residue_is pos ρ a) (residue_is pos ρ b)
+residue_is {p} pos ρ (a :- b) =
+    mk_mod pos _ ∙ mk_add p _ _ ∙ ap₂ (plus p) (residue_is pos ρ a) (mk_neg pos (residue p ρ b) ∙ ap (minus p) (residue_is pos ρ b))
+residue_is {p} pos ρ (a :* b) = mk_mod pos _ ∙ mk_mul p _ _ ∙ ap₂ (times p) (residue_is pos ρ a) (residue_is pos ρ b)
+residue_is {p} pos ρ (:- a) = mk_neg pos (residue p ρ a) ∙ ap (minus p) (residue_is pos ρ a)
+residue_is {p} pos ρ (a :^ n) = mk_mod pos _ ∙ mk_pow p (residue p ρ a) n ∙ ap (λ x. pow (Zmod p) x n) (residue_is pos ρ a)
 
 -- ── a coefficient counted from that of xⁿ down
 
-abbrev from-top : ℕ → List ℕ → ℕ → ℕ
-from-top zero δ zero = get_or δ 0 0
-from-top zero δ (suc k) = 0
-from-top (suc n) δ zero = get_or δ (suc n) 0
-from-top (suc n) δ (suc k) = from-top n δ k
+abbrev from_top : ℕ → List ℕ → ℕ → ℕ
+from_top zero δ zero = get_or δ 0 0
+from_top zero δ (suc k) = 0
+from_top (suc n) δ zero = get_or δ (suc n) 0
+from_top (suc n) δ (suc k) = from_top n δ k
 
-from-top-is : (p n : ℕ) (δ : List ℕ) (k : ℕ) → rev (Zmod p) n (poly p δ) k ≡ mk p (from-top n δ k)
+from_top_is : (p n : ℕ) (δ : List ℕ) (k : ℕ) → rev (Zmod p) n (poly p δ) k ≡ mk p (from_top n δ k)
 unfolding rev
-from-top-is p zero δ zero = poly-at p δ 0
-from-top-is p zero δ (suc k) = refl
-from-top-is p (suc n) δ zero = poly-at p δ (suc n)
-from-top-is p (suc n) δ (suc k) = from-top-is p n δ k
+from_top_is p zero δ zero = poly_at p δ 0
+from_top_is p zero δ (suc k) = refl
+from_top_is p (suc n) δ zero = poly_at p δ (suc n)
+from_top_is p (suc n) δ (suc k) = from_top_is p n δ k
 
 -- ── Vélu's codomain: A, B, and the coefficients of x^(ℓ−2), x^(ℓ−3) and x^(ℓ−4) in D
 
@@ -102,13 +102,13 @@ module _ (v : Values) (γ : List ℕ) where
   D = mul p γ γ
 
   abbrev coefficients : ℕ → ℕ
-  coefficients = numbers (v.a ∷ v.b ∷ from-top (2 * d) D 1 ∷ from-top (2 * d) D 2 ∷ from-top (2 * d) D 3 ∷ [])
+  coefficients = numbers (v.a ∷ v.b ∷ from_top (2 * d) D 1 ∷ from_top (2 * d) D 2 ∷ from_top (2 * d) D 3 ∷ [])
 
-  abbrev codomain-a : ℕ
-  codomain-a = residue p coefficients (:A :- num 5 :* :t d)
+  abbrev codomain_a : ℕ
+  codomain_a = residue p coefficients (:A :- num 5 :* :t d)
 
-  abbrev codomain-b : ℕ
-  codomain-b = residue p coefficients (:B :- num 7 :* :w d)
+  abbrev codomain_b : ℕ
+  codomain_b = residue p coefficients (:B :- num 7 :* :w d)
 
   -- the certificate's values: σ is −2 times the coefficient of x^(d−1) in g
   abbrev pub candidate : Values
@@ -116,44 +116,44 @@ module _ (v : Values) (γ : List ℕ) where
     p = p;
     a = v.a;
     b = v.b;
-    atilde = codomain-a;
-    btilde = codomain-b;
+    atilde = codomain_a;
+    btilde = codomain_b;
     degree = v.degree;
     sigma = p - (2 * get_or γ (d - 1) 0) % p;
   }
 
   module _ (pos : 0 < p) where
-    top : (k : ℕ) → rev R (2 * d) (conv R G G) k ≡ mk p (from-top (2 * d) D k)
-    top k = ap (λ a. rev R (2 * d) a k) (sym (poly-mul pos γ γ)) ∙ from-top-is p (2 * d) D k
+    top : (k : ℕ) → rev R (2 * d) (conv R G G) k ≡ mk p (from_top (2 * d) D k)
+    top k = ap (λ a. rev R (2 * d) a k) (sym (poly_mul pos γ γ)) ∙ from_top_is p (2 * d) D k
 
-    codomain-a-is : velu-A R (mk p v.a) (mk p v.b) d (conv R G G) ≡ mk p codomain-a
+    codomain_a_is : velu_A R (mk p v.a) (mk p v.b) d (conv R G G) ≡ mk p codomain_a
     unfolding t sigma sigma₂
-    codomain-a-is =
+    codomain_a_is =
         ap₂ (λ x y. eval R (λ i. get_or (mk p v.a ∷ mk p v.b ∷ x ∷ y ∷ []) i (mk p 0)) (:A :- num 5 :* :t d)) (top 1) (top 2)
-        ∙ sym (residue-is pos coefficients (:A :- num 5 :* :t d))
+        ∙ sym (residue_is pos coefficients (:A :- num 5 :* :t d))
 
-    codomain-b-is : velu-B R (mk p v.a) (mk p v.b) d (conv R G G) ≡ mk p codomain-b
+    codomain_b_is : velu_B R (mk p v.a) (mk p v.b) d (conv R G G) ≡ mk p codomain_b
     unfolding w sigma sigma₂ sigma₃
-    codomain-b-is =
-        ap₂ (λ x y. by x y (rev R (2 * d) (conv R G G) 3)) (top 1) (top 2) ∙ ap (by (mk p (from-top (2 * d) D 1)) (mk p (from-top (2 * d) D 2))) (top 3)
-        ∙ sym (residue-is pos coefficients (:B :- num 7 :* :w d))
+    codomain_b_is =
+        ap₂ (λ x y. by x y (rev R (2 * d) (conv R G G) 3)) (top 1) (top 2) ∙ ap (by (mk p (from_top (2 * d) D 1)) (mk p (from_top (2 * d) D 2))) (top 3)
+        ∙ sym (residue_is pos coefficients (:B :- num 7 :* :w d))
       where
         by : Elt p → Elt p → Elt p → Elt p
         by x y z = eval R (λ i. get_or (mk p v.a ∷ mk p v.b ∷ x ∷ y ∷ z ∷ []) i (mk p 0)) (:B :- num 7 :* :w d)
 
-    sigma-is : minus p (times p (cast R 2) (G (d - 1))) ≡ mk p candidate.sigma
-    sigma-is = ap (λ y. minus p (times p (cast R 2) y)) (poly-at p γ (d - 1)) ∙ sym (twice pos (get_or γ (d - 1) 0))
+    sigma_is : minus p (times p (cast R 2) (G (d - 1))) ≡ mk p candidate.sigma
+    sigma_is = ap (λ y. minus p (times p (cast R 2) y)) (poly_at p γ (d - 1)) ∙ sym (twice pos (get_or γ (d - 1) 0))
 
     abbrev to : Elt p → Elt p → Elt p → Question R
     to Ã B̃ σ = record { A = mk p v.a; B = mk p v.b; Ã = Ã; B̃ = B̃; d = d; σ = σ }
 
-    pub no-codomain : 1 ≤ d → length γ ≤ suc d → G d ≡ mk p 1 → T (not (R3-test candidate γ (numerator candidate γ))) → Passing v γ → ⊥
-    no-codomain d≥1 short leading no-R3 it =
-        let q : Question R = kernel-question R (mk p v.a) (mk p v.b) d G it.Ã it.B̃ in
-        let r1 : R1 R q G = record { degree = poly-below p γ (suc d) short; leading = leading; sigma = refl } in
+    pub no_codomain : 1 ≤ d → length γ ≤ suc d → G d ≡ mk p 1 → T (not (R3_test candidate γ (numerator candidate γ))) → Passing v γ → ⊥
+    no_codomain d≥1 short leading no_R3 it =
+        let q : Question R = kernel_question R (mk p v.a) (mk p v.b) d G it.Ã it.B̃ in
+        let r1 : R1 R q G = record { degree = poly_below p γ (suc d) short; leading = leading; sigma = refl } in
         let forced = velu R q d≥1 G r1 it.passes.1 in
         let same : q ≡ question candidate =
-        ap₂ (λ x y. to x y q.σ) (forced.0 ∙ codomain-a-is) (forced.1 ∙ codomain-b-is) ∙ ap (to (mk p codomain-a) (mk p codomain-b)) sigma-is in
-        R3-refuted candidate γ (numerator candidate γ) pos no-R3
-        (subst (R3 R (question candidate) G) (sym (numerator-is candidate γ pos))
+        ap₂ (λ x y. to x y q.σ) (forced.0 ∙ codomain_a_is) (forced.1 ∙ codomain_b_is) ∙ ap (to (mk p codomain_a) (mk p codomain_b)) sigma_is in
+        R3_refuted candidate γ (numerator candidate γ) pos no_R3
+        (subst (R3 R (question candidate) G) (sym (numerator_is candidate γ pos))
         (subst (λ (x : Question R). R3 R x G (N R x G)) same it.passes.1))

@@ -5,10 +5,10 @@ use Rattle.std.specs.Prelude.{List, [], ◌∷◌, ◌++◌, map, ◌≡◌, ℕ
 use Rattle.zmod.specs.Zmod.{Zmod}
 use Rattle.series.specs.Series.{Seq}
 use Rattle.zmod.specs.Residues.{poly}
-use Rattle.isogeny.specs.Rules.{linear-part, first-logarithmic-part, second-logarithmic-part, R3}
+use Rattle.isogeny.specs.Rules.{linear_part_of, first_logarithmic_part_of, second_logarithmic_part_of, R3}
 use Rattle.sheet.specs.declared.Values.{Values}
 use Rattle.sheet.specs.Word.{word}
-use Rattle.sheet.specs.Form.{certificateWords}
+use Rattle.sheet.specs.Form.{certificate_words}
 use Rattle.certificate.specs.Certificate.{certificate}
 use Rattle.rules.specs.Words.{Whole}
 use Rattle.sheet.specs.Values.{question, half}
@@ -43,15 +43,15 @@ pub data Row : Type 0 where
   -- kernel answers the sheet of the first p, A, B, ℓ and g with the certificate of the second values, g, N and the count
   kernel : Values → List ℕ → Values → List ℕ → List ℕ → ℕ → Row
   -- kernel refuses the sheet of p, A, B, ℓ and g with a number; of the values, no others are on the sheet
-  no-kernel : Values → List ℕ → ℕ → Row
+  no_kernel : Values → List ℕ → ℕ → Row
   -- compose answers the first two certificates with the third
   composes : Printed → Printed → Printed → Row
   -- compose refuses two certificates with a number
-  no-composite : Printed → Printed → ℕ → Row
+  no_composite : Printed → Printed → ℕ → Row
   -- check refuses the certificate of g, N and the count with a number
   refused : Values → List ℕ → List ℕ → ℕ → ℕ → Row
   -- the same, though R3 holds
-  refused-though : Values → List ℕ → List ℕ → ℕ → ℕ → Row
+  refused_though : Values → List ℕ → List ℕ → ℕ → ℕ → Row
   -- name refuses p, A and B with a number
   unnamed : ℕ → ℕ → ℕ → ℕ → Row
   -- R2's N for g has these three parts, in the order of source document 001's formula (13)
@@ -59,19 +59,19 @@ pub data Row : Type 0 where
 
 -- ── the words
 
-abbrev pub question-words : Values → List ℕ
-question-words v =
+abbrev pub question_words : Values → List ℕ
+question_words v =
     word 1 v.p ∷ word 2 v.a ∷ word 3 v.b ∷ word 4 v.atilde ∷ word 5 v.btilde ∷ word 6 v.degree ∷ word 7 v.sigma ∷ word 15 0 ∷ []
 
-abbrev pub kernel-words : Values → List ℕ → List ℕ
-kernel-words v g = word 1 v.p ∷ word 2 v.a ∷ word 3 v.b ∷ word 6 v.degree ∷ map (word 8) g ++ word 15 0 ∷ []
+abbrev pub kernel_words : Values → List ℕ → List ℕ
+kernel_words v g = word 1 v.p ∷ word 2 v.a ∷ word 3 v.b ∷ word 6 v.degree ∷ map (word 8) g ++ word 15 0 ∷ []
 
-abbrev pub printed-words : Printed → List ℕ
-printed-words s = certificate s.values s.g s.n s.abscissas
+abbrev pub printed_words : Printed → List ℕ
+printed_words s = certificate s.values s.g s.n s.abscissas
 
 -- how many words the certificate has, and a certificate in a lent buffer
 abbrev pub count : Values → ℕ
-count v = certificateWords (half v)
+count v = certificate_words (half v)
 
 abbrev pub filled : Values → List ℕ → List ℕ → ℕ → List ℕ → List ℕ
 filled v g n c before = certificate v g n c ++ drop (count v) before
@@ -84,22 +84,22 @@ Listed v a xs = (length xs ≡ 2 * half v + 2) × Whole v.p a xs
 
 unfoldable pub Claim : Row → Type 0
 Claim (solves q v g n c) =
-    (before : List ℕ) → Room (length before) → SolveRight (question-words q) before (filled v g n c before) (written.Count (count v))
-Claim (unsolved v k) = (before : List ℕ) → Room (length before) → SolveRight (question-words v) before before (written.Refused k)
+    (before : List ℕ) → Room (length before) → SolveRight (question_words q) before (filled v g n c before) (written.Count (count v))
+Claim (unsolved v k) = (before : List ℕ) → Room (length before) → SolveRight (question_words v) before before (written.Refused k)
 Claim (pushes v g n c from to) = PushRight (certificate v g n c) from to
 Claim (kernel q h v g n c) =
-    (before : List ℕ) → Room (length before) → KernelRight (kernel-words q h) before (filled v g n c before) (written.Count (count v))
-Claim (no-kernel v g k) = (before : List ℕ) → Room (length before) → KernelRight (kernel-words v g) before before (written.Refused k)
+    (before : List ℕ) → Room (length before) → KernelRight (kernel_words q h) before (filled v g n c before) (written.Count (count v))
+Claim (no_kernel v g k) = (before : List ℕ) → Room (length before) → KernelRight (kernel_words v g) before before (written.Refused k)
 Claim (composes s t u) =
     (before : List ℕ) → Room (length before)
-    → ComposeRight (printed-words s) (printed-words t) before (filled u.values u.g u.n u.abscissas before) (written.Count (count u.values))
-Claim (no-composite s t k) =
-    (before : List ℕ) → Room (length before) → ComposeRight (printed-words s) (printed-words t) before before (written.Refused k)
+    → ComposeRight (printed_words s) (printed_words t) before (filled u.values u.g u.n u.abscissas before) (written.Count (count u.values))
+Claim (no_composite s t k) =
+    (before : List ℕ) → Room (length before) → ComposeRight (printed_words s) (printed_words t) before before (written.Refused k)
 Claim (refused v g n c k) = CheckRight (certificate v g n c) (verdict.Refused k)
-Claim (refused-though v g n c k) =
+Claim (refused_though v g n c k) =
     CheckRight (certificate v g n c) (verdict.Refused k) × R3 (Zmod v.p) (question v) (poly v.p g) (poly v.p n)
 Claim (unnamed p a b k) = NameRight p a b (named.Refused k)
 Claim (parts v g l m n) =
-    Listed v (linear-part (Zmod v.p) (question v) (poly v.p g)) l
-    × Listed v (first-logarithmic-part (Zmod v.p) (question v) (poly v.p g)) m
-    × Listed v (second-logarithmic-part (Zmod v.p) (question v) (poly v.p g)) n
+    Listed v (linear_part_of (Zmod v.p) (question v) (poly v.p g)) l
+    × Listed v (first_logarithmic_part_of (Zmod v.p) (question v) (poly v.p g)) m
+    × Listed v (second_logarithmic_part_of (Zmod v.p) (question v) (poly v.p g)) n

@@ -6,11 +6,11 @@ use Rattle.std.proofs.Common.{lit<}
 use Rattle.series.specs.Series.{Seq}
 use Rattle.zmod.specs.Zmod.{Zmod}
 use Rattle.zmod.specs.Residues.{poly}
-use Rattle.zmod.specs.Calculation.{prime-yes}
+use Rattle.zmod.specs.Calculation.{prime_yes}
 use Rattle.isogeny.specs.Rules.{N, Meets}
 use Rattle.sheet.specs.declared.Values.{Values}
 use Rattle.sheet.specs.Values.{question}
-use Rattle.marked.specs.Rules.{R2-by-computing, meets-by-computing, none-by-computing}
+use Rattle.marked.specs.Rules.{R2_by_computing, meets_by_computing, none_by_computing}
 
 -- Q 1009, 1, 3, 265, 877, 3, σ
 abbrev first : ℕ → Values
@@ -23,11 +23,11 @@ g = 986 ∷ 1 ∷ []
 abbrev n : List ℕ
 n = 949 ∷ 678 ∷ 963 ∷ 1 ∷ []
 
-pub first-N : poly 1009 n ≡ N (Zmod 1009) (question (first 46)) (poly 1009 g)
-first-N = R2-by-computing (first 46) g n (lit< tt) tt
+pub first_N : poly 1009 n ≡ N (Zmod 1009) (question (first 46)) (poly 1009 g)
+first_N = R2_by_computing (first 46) g n (lit< tt) tt
 
-pub first-meets : Meets (Zmod 1009) (question (first 46)) (poly 1009 g)
-first-meets = meets-by-computing (first 46) g n (lit< tt) tt
+pub first_meets : Meets (Zmod 1009) (question (first 46)) (poly 1009 g)
+first_meets = meets_by_computing (first 46) g n (lit< tt) tt
 
 pub shifted_none : (h : Seq (Zmod 1009)) → Meets (Zmod 1009) (question (first 48)) h → ⊥
-shifted_none = none-by-computing (first 48) (prime-yes 1009 tt) (lit< tt) tt
+shifted_none = none_by_computing (first 48) (prime_yes 1009 tt) (lit< tt) tt

@@ -4,9 +4,9 @@
 use Rattle.std.specs.Prelude.{◌≡◌, List, ℕ, ◌-◌, ◌≤◌, ◌<◌, length}
 use Rattle.std.proofs.Common.{sym, subst}
 use Rattle.series.specs.Series.{Seq}
-use Rattle.series.specs.Degree.{Below, Monic, below-mono}
+use Rattle.series.specs.Degree.{Below, Monic, below_mono}
 use Rattle.zmod.specs.Zmod.{Zmod}
-use Rattle.zmod.specs.Residues.{Reduced, poly, Residues, residues-poly}
+use Rattle.zmod.specs.Residues.{Reduced, poly, Residues, residues_poly}
 use Rattle.divisibility.specs.Congruence.{Congruent}
 
 pub record Divisor (p : ℕ) (g : List ℕ) : Type 0 where
@@ -20,16 +20,16 @@ pub record RemainderOf (p n : ℕ) (g a : Seq (Zmod p)) (r : List ℕ) : Type 0 
   pub congruent : Congruent (Zmod p) g (poly p r) a
 
 -- the slice that was divided held a, and the remainder is copied to where it is wanted
-pub remainder-filled : {p n : ℕ} {g a : Seq (Zmod p)} {xs r : List ℕ} → Residues p a xs → Below (Zmod p) (length xs) a → RemainderOf p n g (poly p xs) r
+pub remainder_filled : {p n : ℕ} {g a : Seq (Zmod p)} {xs r : List ℕ} → Residues p a xs → Below (Zmod p) (length xs) a → RemainderOf p n g (poly p xs) r
     → RemainderOf p n g a r
-remainder-filled {p} {n} {g} {a} {xs} {r} h below k = subst (λ s. RemainderOf p n g s r) (residues-poly h below) k
+remainder_filled {p} {n} {g} {a} {xs} {r} h below k = subst (λ s. RemainderOf p n g s r) (residues_poly h below) k
 
-pub remainder-copied : {p n : ℕ} {g a : Seq (Zmod p)} {r s : List ℕ} → n ≤ length s → RemainderOf p n g a r → Residues p (poly p r) s → RemainderOf p n g a s
-remainder-copied {p} {n} {g} {a} {r} {s} le h k = record {
+pub remainder_copied : {p n : ℕ} {g a : Seq (Zmod p)} {r s : List ℕ} → n ≤ length s → RemainderOf p n g a r → Residues p (poly p r) s → RemainderOf p n g a s
+remainder_copied {p} {n} {g} {a} {r} {s} le h k = record {
   reduced = k.reduced;
   below = subst (Below (Zmod p) n) (sym is) h.below;
   congruent = subst (λ t. Congruent (Zmod p) g t a) (sym is) h.congruent;
 }
   where
     is : poly p s ≡ poly p r
-    is = residues-poly k (below-mono (Zmod p) n (length s) (poly p r) le h.below)
+    is = residues_poly k (below_mono (Zmod p) n (length s) (poly p r) le h.below)

@@ -12,23 +12,23 @@ use Rattle.std.proofs.lemmas.List.{length-replicate}
 use Rattle.ring.specs.Ring
 use Rattle.ring.specs.Ring.{CRing, pow, pow-zero, pow-suc, pow-add}
 use Rattle.series.specs.Series.{Series, Seq, conv}
-use Rattle.series.specs.Degree.{poly-mul, poly-pow}
-use Rattle.series.specs.Indeterminate.{ind, conv-ind}
-use Rattle.series.specs.Binomial.{ind-monic, ind-power, monic-power, poly-ind}
+use Rattle.series.specs.Degree.{poly_mul, poly_pow}
+use Rattle.series.specs.Indeterminate.{ind, conv_ind}
+use Rattle.series.specs.Binomial.{ind_monic, ind_power, monic_power, poly_ind}
 use Rattle.series.specs.Reversal.{shift}
 use Rattle.zmod.specs.Zmod.{Zmod, mk}
-use Rattle.zmod.specs.Residues.{poly, poly-at}
-use Rattle.rows.specs.Room.{zero-at}
-use Rattle.roots.specs.Power.{PowerModulo, power-congruent, power-double}
-use Rattle.divisibility.specs.Congruence.{Congruent, congruent-refl, congruent-mul}
+use Rattle.zmod.specs.Residues.{poly, poly_at}
+use Rattle.rows.specs.Room.{zero_at}
+use Rattle.roots.specs.Power.{PowerModulo, power_congruent, power_double}
+use Rattle.divisibility.specs.Congruence.{Congruent, congruent_refl, congruent_mul}
 use Rattle.modulo.specs.Modulo.{RemainderOf}
 
 -- xᵏ a is a moved up by k places
-pub shift-power : (R : CRing) (k : ℕ) (a : Seq R) → shift R k a ≡ conv R (pow (Series R) (ind R) k) a
+pub shift_power : (R : CRing) (k : ℕ) (a : Seq R) → shift R k a ≡ conv R (pow (Series R) (ind R) k) a
 unfolding shift
-shift-power R zero a = sym (ap (λ s. conv R s a) (pow-zero (Series R) (ind R)) ∙ Ring.one-mul (Series R) a)
-shift-power R (suc k) a =
-    sym (conv-ind R (shift R k a)) ∙ ap (conv R (ind R)) (shift-power R k a) ∙ sym (CRing.mul_assoc (Series R) (ind R) (pow (Series R) (ind R) k) a)
+shift_power R zero a = sym (ap (λ s. conv R s a) (pow-zero (Series R) (ind R)) ∙ Ring.one-mul (Series R) a)
+shift_power R (suc k) a =
+    sym (conv_ind R (shift R k a)) ∙ ap (conv R (ind R)) (shift_power R k a) ∙ sym (CRing.mul_assoc (Series R) (ind R) (pow (Series R) (ind R) k) a)
     ∙ ap (λ s. conv R s a) (sym (pow-suc (Series R) (ind R) k))
 
 -- ── the digits
@@ -56,8 +56,8 @@ digit e j =
     omega (arith, N.div-add-mod' (e / 2 ^ j) 2)
 
 -- x to the power e
-abbrev pub x-to : (p : ℕ) → ℕ → Seq (Zmod p)
-x-to p e = pow (Series (Zmod p)) (ind (Zmod p)) e
+abbrev pub x_to : (p : ℕ) → ℕ → Seq (Zmod p)
+x_to p e = pow (Series (Zmod p)) (ind (Zmod p)) e
 
 -- a power that is lower than the slice is long is its own remainder
 module _ (p n k : ℕ) (large : 1 < p) (inside : k < n) where
@@ -68,7 +68,7 @@ module _ (p n k : ℕ) (large : 1 < p) (inside : k < n) where
   here = get_or-set_same (replicate n 0) k 1 0 (omega (arith, length-replicate {A = ℕ} n 0))
 
   other : (i : ℕ) → (i ≡ k → ⊥) → get_or r i 0 ≡ 0
-  other i apart = get_or-set_other (replicate n 0) k i 1 0 apart ∙ zero-at n i
+  other i apart = get_or-set_other (replicate n 0) k i 1 0 apart ∙ zero_at n i
 
   words : (i : ℕ) → get_or r i 0 < p
   words i = go (ℕ_discrete i k)
@@ -77,24 +77,24 @@ module _ (p n k : ℕ) (large : 1 < p) (inside : k < n) where
       go (yes e) = omega (arith, ap (λ j. get_or r j 0) e, here)
       go (no e) = omega (arith, other i e)
 
-  is : poly p r ≡ x-to p k
-  is = fun_ext λ i. poly-at p r i ∙ go i (ℕ_discrete i k)
+  is : poly p r ≡ x_to p k
+  is = fun_ext λ i. poly_at p r i ∙ go i (ℕ_discrete i k)
     where
-      go : (i : ℕ) → Dec (i ≡ k) → mk p (get_or r i 0) ≡ x-to p k i
+      go : (i : ℕ) → Dec (i ≡ k) → mk p (get_or r i 0) ≡ x_to p k i
       go i (yes e) =
-          ap (λ j. mk p (get_or r j 0)) e ∙ ap (mk p) here ∙ sym (monic-power (Zmod p) (ind (Zmod p)) (ind-monic (Zmod p)) k).one ∙ ap (x-to p k) (sym e)
-      go i (no e) = ap (mk p) (other i e) ∙ sym (ind-power (Zmod p) k i (λ q. e (sym q)))
+          ap (λ j. mk p (get_or r j 0)) e ∙ ap (mk p) here ∙ sym (monic_power (Zmod p) (ind (Zmod p)) (ind_monic (Zmod p)) k).one ∙ ap (x_to p k) (sym e)
+      go i (no e) = ap (mk p) (other i e) ∙ sym (ind_power (Zmod p) k i (λ q. e (sym q)))
 
-  pub power-begins : (g : Seq (Zmod p)) → RemainderOf p n g (x-to p k) r
-  power-begins g = record {
+  pub power_begins : (g : Seq (Zmod p)) → RemainderOf p n g (x_to p k) r
+  power_begins g = record {
     reduced = words;
-    below = λ i l. ap (λ f. f i) is ∙ ind-power (Zmod p) k i (λ q. absurd (omega arith));
-    congruent = subst (λ s. Congruent (Zmod p) g s (x-to p k)) (sym is) (congruent-refl (Zmod p) g (x-to p k));
+    below = λ i l. ap (λ f. f i) is ∙ ind_power (Zmod p) k i (λ q. absurd (omega arith));
+    congruent = subst (λ s. Congruent (Zmod p) g s (x_to p k)) (sym is) (congruent_refl (Zmod p) g (x_to p k));
   }
 
 module _ (p n : ℕ) (g : Seq (Zmod p)) where
   -- a turn: the square, moved up by a place where the digit is 1
-  module _ (e i : ℕ) (r s : List ℕ) (pos : 0 < i) (before : RemainderOf p n g (x-to p (e / 2 ^ i)) r)
+  module _ (e i : ℕ) (r s : List ℕ) (pos : 0 < i) (before : RemainderOf p n g (x_to p (e / 2 ^ i)) r)
       (squared : RemainderOf p n g (shift (Zmod p) ((e / 2 ^ (i - 1)) % 2) (conv (Zmod p) (poly p r) (poly p r))) s) where
     abbrev k : ℕ
     k = e / 2 ^ i
@@ -107,20 +107,20 @@ module _ (p n : ℕ) (g : Seq (Zmod p)) where
 
     moved : PowerModulo (Zmod p) g (ind (Zmod p)) (b + (k + k)) (shift (Zmod p) b square)
     moved =
-        subst (λ w. Congruent (Zmod p) g w (x-to p (b + (k + k)))) (sym (shift-power (Zmod p) b square))
-        (subst (Congruent (Zmod p) g (conv (Zmod p) (x-to p b) square)) (sym (pow-add (Series (Zmod p)) (ind (Zmod p)) b (k + k)))
-        (congruent-mul (Zmod p) g (x-to p b) (x-to p b) square (x-to p (k + k)) (poly-pow (Zmod p) (ind (Zmod p)) (poly-ind (Zmod p)) b)
-        (poly-mul (Zmod p) (poly p r) (poly p r) (n, before.below) (n, before.below)) (congruent-refl (Zmod p) g (x-to p b))
-        (power-double (Zmod p) g (ind (Zmod p)) k (poly p r) before.congruent (poly-ind (Zmod p)) (n, before.below))))
+        subst (λ w. Congruent (Zmod p) g w (x_to p (b + (k + k)))) (sym (shift_power (Zmod p) b square))
+        (subst (Congruent (Zmod p) g (conv (Zmod p) (x_to p b) square)) (sym (pow-add (Series (Zmod p)) (ind (Zmod p)) b (k + k)))
+        (congruent_mul (Zmod p) g (x_to p b) (x_to p b) square (x_to p (k + k)) (poly_pow (Zmod p) (ind (Zmod p)) (poly_ind (Zmod p)) b)
+        (poly_mul (Zmod p) (poly p r) (poly p r) (n, before.below) (n, before.below)) (congruent_refl (Zmod p) g (x_to p b))
+        (power_double (Zmod p) g (ind (Zmod p)) k (poly p r) before.congruent (poly_ind (Zmod p)) (n, before.below))))
 
-    pub power-turn : RemainderOf p n g (x-to p (e / 2 ^ (i - 1))) s
-    power-turn = record {
+    pub power_turn : RemainderOf p n g (x_to p (e / 2 ^ (i - 1))) s
+    power_turn = record {
       reduced = squared.reduced;
       below = squared.below;
       congruent =
-          subst (λ m. Congruent (Zmod p) g (poly p s) (x-to p m)) (sym (digit e (i - 1) ∙ ap (λ j. b + (e / 2 ^ j + e / 2 ^ j)) (omega arith)))
-          (power-congruent (Zmod p) g (ind (Zmod p)) (b + (k + k)) (shift (Zmod p) b square) moved (poly p s) squared.congruent);
+          subst (λ m. Congruent (Zmod p) g (poly p s) (x_to p m)) (sym (digit e (i - 1) ∙ ap (λ j. b + (e / 2 ^ j + e / 2 ^ j)) (omega arith)))
+          (power_congruent (Zmod p) g (ind (Zmod p)) (b + (k + k)) (shift (Zmod p) b square) moved (poly p s) squared.congruent);
     }
 
-  pub power-ends : (e i : ℕ) (r : List ℕ) → i ≡ 0 → RemainderOf p n g (x-to p (e / 2 ^ i)) r → RemainderOf p n g (x-to p e) r
-  power-ends e i r z = subst (λ m. RemainderOf p n g (x-to p m) r) (ap (λ j. e / 2 ^ j) z ∙ N.div-one e)
+  pub power_ends : (e i : ℕ) (r : List ℕ) → i ≡ 0 → RemainderOf p n g (x_to p (e / 2 ^ i)) r → RemainderOf p n g (x_to p e) r
+  power_ends e i r z = subst (λ m. RemainderOf p n g (x_to p m) r) (ap (λ j. e / 2 ^ j) z ∙ N.div-one e)

@@ -5,7 +5,7 @@ ghost use Rattle.series.specs.Series.{Seq, negs};
 ghost use Rattle.zmod.specs.Zmod.{Zmod};
 ghost use Rattle.zmod.specs.Residues.{Reduced, poly, Residues};
 ghost use Rattle.modulo.specs.Modulo.{RemainderOf};
-ghost use Rattle.modulo.specs.Power.{x-to};
+ghost use Rattle.modulo.specs.Power.{x_to};
 
 // out = -a
 pub fn negated(a: &[u32], out: &mut [u32], p: u32)
@@ -39,7 +39,7 @@ fn leading_below(d: usize, p: u32) -> u32
 // result is the place of the last of them.
 pub fn begin(r: &mut [u32], p: u32) -> u32
     requires { (0 < length r.old) × (1 < p) × (p < 2 ^ 28) }
-    ensures { (result ≤ 28) × ((g : Seq (Zmod p)) → RemainderOf p (length r.old) g (x-to p (p / 2 ^ result)) r.new) }
+    ensures { (result ≤ 28) × ((g : Seq (Zmod p)) → RemainderOf p (length r.old) g (x_to p (p / 2 ^ result)) r.new) }
 {
     let i = leading_below(r.len(), p);
     let k = (p >> i) as usize;

@@ -3,7 +3,7 @@ ghost use Rattle.std.specs.Prelude.{◌^◌, ◌<◌, ◌≤◌};
 ghost use Rattle.zmod.specs.Zmod.{Zmod, mk};
 ghost use Rattle.zmod.specs.Prime.{Prime};
 ghost use Rattle.isogeny.specs.Curve.{Nonsingular, JValue};
-ghost use Rattle.promises.specs.Asked.{name-asks};
+ghost use Rattle.promises.specs.Asked.{name_asks};
 ghost use Rattle.promises.specs.Answer.{NameRight};
 ghost use Rattle.questions.specs.Judged.{Judged};
 
@@ -11,7 +11,7 @@ use promises::Named;
 
 // The number of the first question that the curve does not pass, or 0.
 fn name_number(p: u32, a: u32, b: u32) -> u32
-    ensures { Judged (name-asks p a b) result }
+    ensures { Judged (name_asks p a b) result }
 {
     if !reading::prime_allowed(p) {
         return 3;

@@ -7,7 +7,7 @@ ghost use Rattle.zmod.specs.Zmod.{Zmod};
 ghost use Rattle.zmod.specs.Residues.{Reduced};
 ghost use Rattle.sheet.specs.Ready.{Ready};
 ghost use Rattle.rules.specs.Products.{Products};
-ghost use Rattle.text.specs.Text.{hexLines};
+ghost use Rattle.text.specs.Text.{hex_lines};
 ghost use Rattle.parts.specs.Parts.{Parts, PartsText};
 
 use sheet::Values;
@@ -39,7 +39,7 @@ fn fill(
 // The lines of one part.
 fn lines(part: &[u32]) -> [u8; 36]
     requires { length part.now ≡ 4 }
-    ensures { result ≡ hexLines part.now }
+    ensures { result ≡ hex_lines part.now }
 {
     let mut text = [0u8; 36];
     text::word_lines(part, &mut text);

@@ -7,12 +7,12 @@ use Prim.Native.Nat.{ℕ, suc, ◌+◌, ◌-◌, ◌*◌, ◌≤◌, ◌<◌}
 use native.Mathlib.Omega.{arith}
 use Rattle.slices.specs.Stored.{part_at}
 use Rattle.ring.specs.Ring
-use Rattle.series.specs.Series.{Seq, sum, sum-suc, sum_same, sum-rest, conv, conv-sum}
+use Rattle.series.specs.Series.{Seq, sum, sum_suc, sum_same, sum_rest, conv, conv_sum}
 use Rattle.series.specs.Degree.{Below}
-use Rattle.series.specs.Reversal.{rev-sub}
-use Rattle.zmod.specs.Zmod.{Elt, Zmod, mk, plus, minus, times, mk-add, mk-mul}
-use Rattle.zmod.specs.Residues.{poly, poly-at}
-use Rattle.euclid.specs.Words.{poly-front}
+use Rattle.series.specs.Reversal.{rev_sub}
+use Rattle.zmod.specs.Zmod.{Elt, Zmod, mk, plus, minus, times, mk_add, mk_mul}
+use Rattle.zmod.specs.Residues.{poly, poly_at}
+use Rattle.euclid.specs.Words.{poly_front}
 use Rattle.poles.specs.Rows.{combination, H, Rows}
 
 -- the sum of t i · h i over the i before n
@@ -34,17 +34,17 @@ cancelling p a₁ a₀ b₁ b₀ =
 
 -- ── the sum that the loop gathers
 
-pub correlation-none : (p : ℕ) (t h : List ℕ) → mk p 0 ≡ correlation p t h 0
+pub correlation_none : (p : ℕ) (t h : List ℕ) → mk p 0 ≡ correlation p t h 0
 unfolding correlation sum
-correlation-none p t h = refl
+correlation_none p t h = refl
 
-pub correlation-more : (p : ℕ) (t h : List ℕ) (i s v : ℕ) → v ≡ get_or t i 0 * get_or h i 0 → mk p s ≡ correlation p t h i
+pub correlation_more : (p : ℕ) (t h : List ℕ) (i s v : ℕ) → v ≡ get_or t i 0 * get_or h i 0 → mk p s ≡ correlation p t h i
     → mk p (s + v) ≡ correlation p t h (i + 1)
 unfolding correlation
-correlation-more p t h i s v is e =
-    mk-add p s v
-    ∙ ap₂ (plus p) e (ap (mk p) is ∙ mk-mul p (get_or t i 0) (get_or h i 0) ∙ ap₂ (times p) (sym (poly-at p t i)) (sym (poly-at p h i)))
-    ∙ sym (sum-suc (Zmod p) (λ i. times p (poly p t i) (poly p h i)) i) ∙ ap (correlation p t h) (sym (add-one i))
+correlation_more p t h i s v is e =
+    mk_add p s v
+    ∙ ap₂ (plus p) e (ap (mk p) is ∙ mk_mul p (get_or t i 0) (get_or h i 0) ∙ ap₂ (times p) (sym (poly_at p t i)) (sym (poly_at p h i)))
+    ∙ sym (sum_suc (Zmod p) (λ i. times p (poly p t i) (poly p h i)) i) ∙ ap (correlation p t h) (sym (add-one i))
 
 -- ── it is a coefficient of the remainder: of t's words the first `len` are lent, and of h's those from `from` on
 
@@ -68,14 +68,14 @@ module _ (p : ℕ) (h t : List ℕ) (len from : ℕ) (some : 1 ≤ len) (fits : 
   same : (j : ℕ) → j < len → term j ≡ times p (poly p (take len t) j) (poly p lent j)
   same j l =
       let e : n - (i - j) ≡ from + j = omega arith in
-      ap₂ (times p) (sym (poly-front p len t j l))
-      (rev-sub (Zmod p) n (i - j) (poly p h) (omega arith) ∙ ap (poly p h) e ∙ poly-at p h (from + j)
-      ∙ ap (mk p) (sym (part_at h from (length h - from) j (omega arith))) ∙ sym (poly-at p lent j))
+      ap₂ (times p) (sym (poly_front p len t j l))
+      (rev_sub (Zmod p) n (i - j) (poly p h) (omega arith) ∙ ap (poly p h) e ∙ poly_at p h (from + j)
+      ∙ ap (mk p) (sym (part_at h from (length h - from) j (omega arith))) ∙ sym (poly_at p lent j))
 
-  pub correlation-remainder : correlation p (take len t) lent (length (take len t)) ≡ remainder p h t i
+  pub correlation_remainder : correlation p (take len t) lent (length (take len t)) ≡ remainder p h t i
   unfolding correlation
-  correlation-remainder =
+  correlation_remainder =
       let e : suc i ≡ len + (suc i - len) = omega arith in
       ap (correlation p (take len t) lent) (length-take-le len t enough)
-      ∙ sym (conv-sum (Zmod p) (poly p t) (H (Zmod p) n (poly p h)) i ∙ ap (sum (Zmod p) term) e ∙ sum-rest (Zmod p) term len (suc i - len) none
+      ∙ sym (conv_sum (Zmod p) (poly p t) (H (Zmod p) n (poly p h)) i ∙ ap (sum (Zmod p) term) e ∙ sum_rest (Zmod p) term len (suc i - len) none
       ∙ sum_same (Zmod p) term (λ j. times p (poly p (take len t) j) (poly p lent j)) len same)

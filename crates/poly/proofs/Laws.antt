@@ -12,33 +12,33 @@ use lib.ListN.{length, get_or, get_or-eq_default}
 use Rattle.ring.specs.Ring
 use Rattle.ring.specs.Ring.{cast}
 use Rattle.series.specs.Series.{Seq, conv, sums, scaled, negs, ∂, ∂-at}
-use Rattle.zmod.specs.Zmod.{Zmod, mk, plus, minus, times, plus-zero, mk-apart, cast-mk}
-use Rattle.zmod.specs.Residues.{Residue, Reduced, poly, poly-at, poly-past, residue-self, residue-same}
+use Rattle.zmod.specs.Zmod.{Zmod, mk, plus, minus, times, plus_zero, mk_apart, cast_mk}
+use Rattle.zmod.specs.Residues.{Residue, Reduced, poly, poly_at, poly_past, residue_self, residue_same}
 
 -- the largest product of two words, and a word more
-pub word-product : {x y z : ℕ} → x < 2 ^ 32 → y < 2 ^ 32 → z < 2 ^ 32 → x + y * z < 2 ^ 64
-word-product {x} {y} {z} hx hy hz =
+pub word_product : {x y z : ℕ} → x < 2 ^ 32 → y < 2 ^ 32 → z < 2 ^ 32 → x + y * z < 2 ^ 64
+word_product {x} {y} {z} hx hy hz =
     let h : y * z ≤ 4294967295 * 4294967295 = N.mul-le-mul {n₁ = y} {m₁ = z} {n₂ = 4294967295} {m₂ = 4294967295} (omega arith) (omega arith) in
     omega arith
 
 pub ∂-word : (p : ℕ) (a : List ℕ) (k : ℕ) → times p (mk p (k + 1)) (mk p (get_or a (k + 1) 0)) ≡ ∂ (Zmod p) (poly p a) k
 ∂-word p a k =
     ap (λ n. times p (mk p n) (mk p (get_or a n 0))) (add-one k)
-    ∙ sym (∂-at (Zmod p) (poly p a) k ∙ ap₂ (times p) (cast-mk p (suc k)) (poly-at p a (suc k)))
+    ∙ sym (∂-at (Zmod p) (poly p a) k ∙ ap₂ (times p) (cast_mk p (suc k)) (poly_at p a (suc k)))
 
 pub ∂-past : (p : ℕ) (a : List ℕ) (k : ℕ) → 0 < p → length a ≤ k + 1 → Residue p (∂ (Zmod p) (poly p a) k) 0
 ∂-past p a k pos h =
-    residue-same
-    (sym (∂-at (Zmod p) (poly p a) k ∙ ap (λ x. times p (cast (Zmod p) (suc k)) x) (poly-past p a (suc k) (omega arith)) ∙ Ring.mul-zero (Zmod p) _))
-    (residue-self 0 pos)
+    residue_same
+    (sym (∂-at (Zmod p) (poly p a) k ∙ ap (λ x. times p (cast (Zmod p) (suc k)) x) (poly_past p a (suc k) (omega arith)) ∙ Ring.mul-zero (Zmod p) _))
+    (residue_self 0 pos)
 
 -- (− c) a = − (c a)
-pub scaled-minus : (p c d : ℕ) (a : Seq (Zmod p)) → mk p d ≡ minus p (mk p c) → scaled (Zmod p) (mk p d) a ≡ negs (Zmod p) (scaled (Zmod p) (mk p c) a)
-scaled-minus p c d a e = fun_ext λ i. ap (λ x. times p x (a i)) e ∙ Ring.neg-mul (Zmod p) (mk p c) (a i)
+pub scaled_minus : (p c d : ℕ) (a : Seq (Zmod p)) → mk p d ≡ minus p (mk p c) → scaled (Zmod p) (mk p d) a ≡ negs (Zmod p) (scaled (Zmod p) (mk p c) a)
+scaled_minus p c d a e = fun_ext λ i. ap (λ x. times p x (a i)) e ∙ Ring.neg-mul (Zmod p) (mk p c) (a i)
 
 -- words that are equal at every place, and a place where they differ
-pub same-words : (p : ℕ) (a b : List ℕ) (n : ℕ) → length a ≤ n → length b ≤ n → ((i : ℕ) → i < n → get_or a i 0 ≡ get_or b i 0) → poly p a ≡ poly p b
-same-words p a b n ha hb h = fun_ext λ i. poly-at p a i ∙ ap (mk p) (go i (dec_lt i n)) ∙ sym (poly-at p b i)
+pub same_words : (p : ℕ) (a b : List ℕ) (n : ℕ) → length a ≤ n → length b ≤ n → ((i : ℕ) → i < n → get_or a i 0 ≡ get_or b i 0) → poly p a ≡ poly p b
+same_words p a b n ha hb h = fun_ext λ i. poly_at p a i ∙ ap (mk p) (go i (dec_lt i n)) ∙ sym (poly_at p b i)
   where
     go : (i : ℕ) → Dec (i < n) → get_or a i 0 ≡ get_or b i 0
     go i (yes l) = h i l
@@ -46,29 +46,29 @@ same-words p a b n ha hb h = fun_ext λ i. poly-at p a i ∙ ap (mk p) (go i (de
 
 pub same_word : (p : ℕ) (a b : List ℕ) (i : ℕ) → Reduced p a → Reduced p b → poly p a ≡ poly p b → get_or a i 0 ≡ get_or b i 0
 same_word p a b i ha hb e =
-    mk-apart {p = p} (omega (arith, ha i)) _ _ (ha i) (hb i) (sym (poly-at p a i) ∙ ap (λ f. f i) e ∙ poly-at p b i)
+    mk_apart {p = p} (omega (arith, ha i)) _ _ (ha i) (hb i) (sym (poly_at p a i) ∙ ap (λ f. f i) e ∙ poly_at p b i)
 
 -- where a has ended, c a adds nothing
 pub add_nothing : (p c : ℕ) (out a : List ℕ) (i : ℕ) → length a ≤ i → poly p out i ≡ sums (Zmod p) (poly p out) (scaled (Zmod p) (mk p c) (poly p a)) i
-add_nothing p c out a i h = sym (ap (λ x. plus p (poly p out i) (times p (mk p c) x)) (poly-past p a i h) ∙ ap (plus p (poly p out i))
-    (Ring.mul-zero (Zmod p) _) ∙ plus-zero p _)
+add_nothing p c out a i h = sym (ap (λ x. plus p (poly p out i) (times p (mk p c) x)) (poly_past p a i h) ∙ ap (plus p (poly p out i))
+    (Ring.mul-zero (Zmod p) _) ∙ plus_zero p _)
 
 -- one turn of add_scaled
-pub add-scaled-turn : (p c x v : ℕ) (out a : List ℕ) (k : ℕ) → x ≡ get_or out k 0 → Residue p (plus p (mk p x) (times p (mk p c) (mk p (get_or a k 0)))) v
+pub add_scaled_turn : (p c x v : ℕ) (out a : List ℕ) (k : ℕ) → x ≡ get_or out k 0 → Residue p (plus p (mk p x) (times p (mk p c) (mk p (get_or a k 0)))) v
     → Residue p (sums (Zmod p) (poly p out) (scaled (Zmod p) (mk p c) (poly p a)) k) v
-add-scaled-turn p c x v out a k e h =
-    residue-same (ap₂ (λ y z. plus p y (times p (mk p c) z)) (ap (mk p) e ∙ sym (poly-at p out k)) (sym (poly-at p a k))) h
+add_scaled_turn p c x v out a k e h =
+    residue_same (ap₂ (λ y z. plus p y (times p (mk p c) z)) (ap (mk p) e ∙ sym (poly_at p out k)) (sym (poly_at p a k))) h
 
 -- one turn of scale
-pub scale-turn : (p c x v : ℕ) (out : List ℕ) (k : ℕ) → x ≡ get_or out k 0 → Residue p (times p (mk p c) (mk p x)) v → Residue p
+pub scale_turn : (p c x v : ℕ) (out : List ℕ) (k : ℕ) → x ≡ get_or out k 0 → Residue p (times p (mk p c) (mk p x)) v → Residue p
     (scaled (Zmod p) (mk p c) (poly p out) k) v
-scale-turn p c x v out k e h = residue-same (ap (times p (mk p c)) (ap (mk p) e ∙ sym (poly-at p out k))) h
+scale_turn p c x v out k e h = residue_same (ap (times p (mk p c)) (ap (mk p) e ∙ sym (poly_at p out k))) h
 
 -- one turn of product, and of add_product
-pub product-turn : (p v : ℕ) (a b : List ℕ) (k : ℕ) → Residue p (plus p (mk p 0) (conv (Zmod p) (poly p a) (poly p b) k)) v → Residue p
+pub product_turn : (p v : ℕ) (a b : List ℕ) (k : ℕ) → Residue p (plus p (mk p 0) (conv (Zmod p) (poly p a) (poly p b) k)) v → Residue p
     (conv (Zmod p) (poly p a) (poly p b) k) v
-product-turn p v a b k h = residue-same (Ring.zero-add (Zmod p) _) h
+product_turn p v a b k h = residue_same (Ring.zero-add (Zmod p) _) h
 
-pub add-product-turn : (p x v : ℕ) (out a b : List ℕ) (k : ℕ) → x ≡ get_or out k 0 → Residue p (plus p (mk p x) (conv (Zmod p) (poly p a) (poly p b) k)) v
+pub add_product_turn : (p x v : ℕ) (out a b : List ℕ) (k : ℕ) → x ≡ get_or out k 0 → Residue p (plus p (mk p x) (conv (Zmod p) (poly p a) (poly p b) k)) v
     → Residue p (sums (Zmod p) (poly p out) (conv (Zmod p) (poly p a) (poly p b)) k) v
-add-product-turn p x v out a b k e h = residue-same (ap (λ y. plus p y (conv (Zmod p) (poly p a) (poly p b) k)) (ap (mk p) e ∙ sym (poly-at p out k))) h
+add_product_turn p x v out a b k e h = residue_same (ap (λ y. plus p y (conv (Zmod p) (poly p a) (poly p b) k)) (ap (mk p) e ∙ sym (poly_at p out k))) h

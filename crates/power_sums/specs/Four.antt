@@ -6,15 +6,15 @@ use Rattle.std.proofs.Math.Decide.{dec_lt}
 use Rattle.std.proofs.Math.ListN.{get_or-eq_default}
 use Rattle.series.specs.Series.{Seq}
 use Rattle.zmod.specs.Zmod.{Zmod, mk}
-use Rattle.zmod.specs.Residues.{poly, poly-at}
+use Rattle.zmod.specs.Residues.{poly, poly_at}
 use Rattle.rows.specs.Rows.{Four}
 use Rattle.rows.specs.Room.{each}
 use Rattle.expansion.specs.Equations.{ReducedTo, Solved}
 use Rattle.expansion.specs.Stores.{Causal}
 
 -- four words more
-pub reduced-four : (p : ℕ) (xs ys : List ℕ) (i w x y z : ℕ) → Four xs i w x y z ys → w < p → x < p → y < p → z < p → ReducedTo p xs i → ReducedTo p ys (i + 4)
-reduced-four p xs ys i w x y z f lw lx ly lz h j l = go (dec_lt j i)
+pub reduced_four : (p : ℕ) (xs ys : List ℕ) (i w x y z : ℕ) → Four xs i w x y z ys → w < p → x < p → y < p → z < p → ReducedTo p xs i → ReducedTo p ys (i + 4)
+reduced_four p xs ys i w x y z f lw lx ly lz h j l = go (dec_lt j i)
   where
     go : Dec (j < i) → get_or ys j 0 < p
     go (yes m) = subst (λ t. t < p) (sym (f.before j m)) (h j m)
@@ -24,15 +24,15 @@ reduced-four p xs ys i w x y z f lw lx ly lz h j l = go (dec_lt j i)
         (subst (λ t. t < p) (sym (ap (λ n. get_or ys n 0) (omega arith) ∙ f.fourth)) lz) j (omega arith) (omega arith)
 
 module _ (p : ℕ) (E : Seq (Zmod p) → ℕ → Type 0) where
-  pub solved-four : Causal p E → (xs ys : List ℕ) (i w x y z : ℕ) → Four xs i w x y z ys → w < p → x < p → y < p → z < p
+  pub solved_four : Causal p E → (xs ys : List ℕ) (i w x y z : ℕ) → Four xs i w x y z ys → w < p → x < p → y < p → z < p
       → E (poly p ys) i → E (poly p ys) (1 + i) → E (poly p ys) (2 + i) → E (poly p ys) (3 + i) → Solved p E xs i → Solved p E ys (i + 4)
-  solved-four causal xs ys i w x y z f lw lx ly lz a b c d h = record {
-    reduced = reduced-four p xs ys i w x y z f lw lx ly lz h.reduced;
+  solved_four causal xs ys i w x y z f lw lx ly lz a b c d h = record {
+    reduced = reduced_four p xs ys i w x y z f lw lx ly lz h.reduced;
     equations = λ j l. go j l (dec_lt j i);
   }
     where
       before : (n : ℕ) → n < i → poly p xs n ≡ poly p ys n
-      before n m = poly-at p xs n ∙ ap (mk p) (sym (f.before n m)) ∙ sym (poly-at p ys n)
+      before n m = poly_at p xs n ∙ ap (mk p) (sym (f.before n m)) ∙ sym (poly_at p ys n)
 
       go : (j : ℕ) → j < i + 4 → Dec (j < i) → E (poly p ys) j
       go j l (yes m) = causal j (poly p xs) (poly p ys) (λ n k. before n (omega arith)) (h.equations j m)

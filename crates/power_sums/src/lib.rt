@@ -3,13 +3,13 @@ ghost use Rattle.std.specs.Prelude.{◌≡◌, ℕ, ◌+◌, ◌*◌, ◌%◌, �
 ghost use Rattle.series.specs.Series.{Seq};
 ghost use Rattle.zmod.specs.Zmod.{Zmod, mk};
 ghost use Rattle.zmod.specs.Residues.{Residue, Reduced, poly, Residues};
-ghost use Rattle.isogeny.specs.Expansion.{power-sums};
+ghost use Rattle.isogeny.specs.Expansion.{power_sums_of};
 ghost use Rattle.sheet.specs.Values.{half};
 ghost use Rattle.sheet.specs.Ready.{Ready, HoldsG};
 ghost use Rattle.rows.specs.Rows.{Four};
 ghost use Rattle.expansion.specs.Equations.{ReducedTo};
 ghost use Rattle.expansion.specs.Begun.{KnownSums};
-ghost use Rattle.power_sums.specs.Sums.{Negated, Backwards, Weights, most-due, Due, Known};
+ghost use Rattle.power_sums.specs.Sums.{Negated, Backwards, Weights, most_due, Due, Known};
 
 use sheet::Values;
 
@@ -77,8 +77,8 @@ fn put(out: &mut [u32], at: usize, w: u32, x: u32, y: u32, z: u32)
 fn sums_rows(e: &[u64], d: usize, acc: &mut [u64], s: &[u32], i: usize, from: usize, p: u32)
     requires le_i { (1 ≤ i) × (i + 4 ≤ from) × (from ≤ length acc.old) × (length acc.old ≤ 257) × (from ≤ i + 4 + d) × (d + 3 ≤ length e.now) }
     requires p_nonzero { (0 < p) × (p ≤ 2 ^ 28) × Reduced p e.now × ((t : ℕ) → d ≤ t → get_or e.now t 0 ≡ 0) × ReducedTo p s.now (i + 4) }
-    requires by_index { (k : ℕ) → get_or acc.old k 0 ≤ most-due i }
-    ensures by_index_2 { (k : ℕ) → get_or acc.new k 0 ≤ most-due (i + 4) }
+    requires by_index { (k : ℕ) → get_or acc.old k 0 ≤ most_due i }
+    ensures by_index_2 { (k : ℕ) → get_or acc.new k 0 ≤ most_due (i + 4) }
     ensures due { (g : Seq (Zmod p)) → Negated p d g e.now → Due p d g acc.old s.now from i
         → Due p d g acc.new s.now from (i + 4) }
 {
@@ -100,8 +100,8 @@ fn sums_rows(e: &[u64], d: usize, acc: &mut [u64], s: &[u32], i: usize, from: us
 fn sums_turn(e: &[u64], d: usize, acc: &mut [u64], s: &mut [u32], i: usize, p: u32)
     requires le_i { (1 ≤ i) × (i + 4 ≤ length s.old) × (length s.old ≤ 257) × (length acc.old ≡ length s.old) × (d + 3 ≤ length e.now) }
     requires p_nonzero { (0 < p) × (p ≤ 2 ^ 28) × Reduced p e.now × ((t : ℕ) → d ≤ t → get_or e.now t 0 ≡ 0) × ReducedTo p s.old i }
-    requires by_index { (k : ℕ) → get_or acc.old k 0 ≤ most-due i }
-    ensures by_index_2 { ((k : ℕ) → get_or acc.new k 0 ≤ most-due (i + 4)) × ReducedTo p s.new (i + 4) }
+    requires by_index { (k : ℕ) → get_or acc.old k 0 ≤ most_due i }
+    ensures by_index_2 { ((k : ℕ) → get_or acc.new k 0 ≤ most_due (i + 4)) × ReducedTo p s.new (i + 4) }
     ensures known { (g : Seq (Zmod p)) → Negated p d g e.now → Known p d g acc.old s.old i
         → Known p d g acc.new s.new (i + 4) }
 {
@@ -117,8 +117,8 @@ fn sums_turn(e: &[u64], d: usize, acc: &mut [u64], s: &mut [u32], i: usize, p: u
 fn known_rows(e: &[u64], d: usize, acc: &mut [u64], s: &[u32], from: usize, p: u32)
     requires from_value { (from % 4 ≡ 1) × (from ≤ d + 1) × (from ≤ length acc.old) × (length acc.old ≤ 257) × (d + 3 ≤ length e.now) }
     requires p_nonzero { (0 < p) × (p ≤ 2 ^ 28) × Reduced p e.now × ((t : ℕ) → d ≤ t → get_or e.now t 0 ≡ 0) × ReducedTo p s.now from }
-    requires by_index { (k : ℕ) → get_or acc.old k 0 ≤ most-due 1 }
-    ensures by_index_2 { (k : ℕ) → get_or acc.new k 0 ≤ most-due from }
+    requires by_index { (k : ℕ) → get_or acc.old k 0 ≤ most_due 1 }
+    ensures by_index_2 { (k : ℕ) → get_or acc.new k 0 ≤ most_due from }
     ensures due { (g : Seq (Zmod p)) → Negated p d g e.now → Due p d g acc.old s.now from 1
         → Due p d g acc.new s.now from from }
 {
@@ -133,7 +133,7 @@ fn known_rows(e: &[u64], d: usize, acc: &mut [u64], s: &[u32], from: usize, p: u
 fn sums_turns(e: &[u64], d: usize, acc: &mut [u64], s: &mut [u32], from: usize, p: u32)
     requires from_value { (from % 4 ≡ 1) × (from ≤ length s.old) × (length s.old ≤ 257) × (length s.old % 4 ≡ 1) × (length acc.old ≡ length s.old) }
     requires d_in_bounds { (d + 3 ≤ length e.now) × (0 < p) × (p ≤ 2 ^ 28) × Reduced p e.now × ((t : ℕ) → d ≤ t → get_or e.now t 0 ≡ 0) }
-    requires by_index { ((k : ℕ) → get_or acc.old k 0 ≤ most-due from) × ReducedTo p s.old from }
+    requires by_index { ((k : ℕ) → get_or acc.old k 0 ≤ most_due from) × ReducedTo p s.old from }
     ensures { (g : Seq (Zmod p)) → Negated p d g e.now → Known p d g acc.old s.old from
         → Known p d g acc.new s.new (length s.old) }
 {
@@ -149,7 +149,7 @@ pub fn power_sums(v: Values, g: &[u32], e: &mut [u64], acc: &mut [u64], s: &mut 
     requires ready { (Ready v) × HoldsG v g.now }
     requires s_len_bound { (length s.old ≤ 257) × (length s.old % 4 ≡ 1) × (length acc.old ≡ length s.old) × (half v + 3 ≤ length e.old) }
     requires known_bound { (known ≤ half v) × (known < length s.old) × KnownSums v g.now s.old known }
-    ensures { Residues v.p (power-sums (Zmod v.p) (half v) (poly v.p g.now)) s.new }
+    ensures { Residues v.p (power_sums_of (Zmod v.p) (half v) (poly v.p g.now)) s.new }
 {
     let d = g.len() - 1;
     let p = v.p;

@@ -11,9 +11,9 @@ use Rattle.promises.specs.contracts.Image as declared
 use Rattle.promises.specs.declared.Image.{Image}
 use Rattle.promises.specs.declared.Image.TheVariants.{Affine, Infinity, Refused}
 
-pub is-infinity : (i : Image) → OneOf (1 ∷ 2 ∷ []) (tag_of declared.the_type i) → OneOf (0 ∷ 1 ∷ []) (tag_of declared.the_type i) → Infinity ≡ i
-is-infinity (Affine u v) (inl e) h = absurd (omega (arith, e))
-is-infinity (Affine u v) (inr e) h = absurd (omega (arith, e))
-is-infinity Infinity h k = refl
-is-infinity (Refused n) h (inl e) = absurd (omega (arith, e))
-is-infinity (Refused n) h (inr e) = absurd (omega (arith, e))
+pub is_infinity : (i : Image) → OneOf (1 ∷ 2 ∷ []) (tag_of declared.the_type i) → OneOf (0 ∷ 1 ∷ []) (tag_of declared.the_type i) → Infinity ≡ i
+is_infinity (Affine u v) (inl e) h = absurd (omega (arith, e))
+is_infinity (Affine u v) (inr e) h = absurd (omega (arith, e))
+is_infinity Infinity h k = refl
+is_infinity (Refused n) h (inl e) = absurd (omega (arith, e))
+is_infinity (Refused n) h (inr e) = absurd (omega (arith, e))

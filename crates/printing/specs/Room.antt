@@ -3,14 +3,14 @@
 use Rattle.std.specs.Prelude.{List, ℕ, ◌*◌, ◌≤◌}
 use Rattle.promises.specs.declared.Written.{Written}
 use Rattle.promises.specs.declared.Written.TheVariants as written
-use Rattle.sheet.specs.Form.{mostWords}
+use Rattle.sheet.specs.Form.{most_words}
 use Rattle.sheet.specs.Word.{words_of}
 use Rattle.sagepliers.specs.Entry.{SolveAnswer, KernelAnswer}
-use Rattle.sagepliers.specs.Numbers.{solve-count, kernel-count}
+use Rattle.sagepliers.specs.Numbers.{solve_count, kernel_count}
 
 -- nine characters for each word of the largest certificate
 abbrev pub room : ℕ
-room = 9 * mostWords
+room = 9 * most_words
 
 -- the count is one of words that a buffer has
 abbrev pub Within : Written → ℕ → Type 0
@@ -18,10 +18,10 @@ Within (written.Count c) room = c ≤ room
 Within (written.Refused n) room = Unit {0}
 
 module _ (bytes before after : List ℕ) where
-  pub solve-within : (w : Written) → SolveAnswer bytes before after w → Within w mostWords
-  solve-within (written.Count c) h = solve-count (words_of bytes) before after c ((h.0.0, h.0.1.1), h.1)
-  solve-within (written.Refused n) h = tt
+  pub solve_within : (w : Written) → SolveAnswer bytes before after w → Within w most_words
+  solve_within (written.Count c) h = solve_count (words_of bytes) before after c ((h.0.0, h.0.1.1), h.1)
+  solve_within (written.Refused n) h = tt
 
-  pub kernel-within : (w : Written) → KernelAnswer bytes before after w → Within w mostWords
-  kernel-within (written.Count c) h = kernel-count (words_of bytes) before after c ((h.0.0, h.0.1.1), h.1)
-  kernel-within (written.Refused n) h = tt
+  pub kernel_within : (w : Written) → KernelAnswer bytes before after w → Within w most_words
+  kernel_within (written.Count c) h = kernel_count (words_of bytes) before after c ((h.0.0, h.0.1.1), h.1)
+  kernel_within (written.Refused n) h = tt

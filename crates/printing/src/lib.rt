@@ -2,7 +2,7 @@
 // count of the bytes.
 ghost use Rattle.std.specs.Prelude.{◌*◌, ◌≤◌, length};
 ghost use Rattle.text.specs.Fills.{Fills};
-ghost use Rattle.printing.specs.Printing.{writtenText, verdictText, imageText, Prints, SolveText, KernelText, CheckText, PushText};
+ghost use Rattle.printing.specs.Printing.{written_text, verdict_text, image_text, Prints, SolveText, KernelText, CheckText, PushText};
 ghost use Rattle.printing.specs.Room.{room, Within};
 
 use services::{Image, Verdict, Written};
@@ -18,7 +18,7 @@ pub const PUSH_INPUT: usize = INPUT + 8;
 
 fn written_text(written: Written, words: &[u32], out: &mut [u8]) -> usize
     requires { Within written (length words.now) × (9 * length words.now ≤ length out.old) × (room ≤ length out.old) }
-    ensures { Fills (writtenText words.now written) out.old out.new result }
+    ensures { Fills (written_text words.now written) out.old out.new result }
 {
     match written {
         Written::Count(count) => {
@@ -49,7 +49,7 @@ pub fn kernel(bytes: &[u8], out: &mut [u8]) -> usize
 
 fn verdict_text(verdict: Verdict, out: &mut [u8]) -> usize
     requires { room ≤ length out.old }
-    ensures { Fills (verdictText verdict) out.old out.new result }
+    ensures { Fills (verdict_text verdict) out.old out.new result }
 {
     match verdict {
         Verdict::Passes => text::passes_line(out),
@@ -66,7 +66,7 @@ pub fn check(bytes: &[u8], out: &mut [u8]) -> usize
 
 fn image_text(image: Image, out: &mut [u8]) -> usize
     requires { room ≤ length out.old }
-    ensures { Fills (imageText image) out.old out.new result }
+    ensures { Fills (image_text image) out.old out.new result }
 {
     let Image::Affine(u, v) = image else {
         let Image::Refused(number) = image else {

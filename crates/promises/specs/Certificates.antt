@@ -5,34 +5,34 @@ use Rattle.std.proofs.Common.{sym, subst}
 use Rattle.zmod.specs.Zmod.{Zmod}
 use Rattle.isogeny.specs.Rules.{N, R3, Meets}
 use Rattle.questions.specs.Questions.{AllYes}
-use Rattle.questions.specs.Joined.{all-front}
-use Rattle.questions.specs.Numbered.{yes-to}
+use Rattle.questions.specs.Joined.{all_front}
+use Rattle.questions.specs.Numbered.{yes_to}
 use Rattle.sheet.specs.declared.Form.TheVariants.{Certificate}
 use Rattle.sheet.specs.declared.Values.{Values}
-use Rattle.sheet.specs.Values.{valuesOf}
+use Rattle.sheet.specs.Values.{values_of}
 use Rattle.sheet.specs.Asked.{asked}
 use Rattle.sheet.specs.Ready.{Ready, ready}
-use Rattle.promises.specs.Asked.{prime, put, g, n, certificate-rules, check-asks}
+use Rattle.promises.specs.Asked.{prime, put, g, n, certificate_rules, check_asks}
 
-module _ (ws : List ℕ) (passes : AllYes (check-asks ws)) where
+module _ (ws : List ℕ) (passes : AllYes (check_asks ws)) where
   abbrev p : ℕ
   p = prime Certificate ws
 
-  pub check-asked : AllYes (asked Certificate ws)
-  check-asked = all-front (asked Certificate ws) (certificate-rules ws) passes
+  pub check_asked : AllYes (asked Certificate ws)
+  check_asked = all_front (asked Certificate ws) (certificate_rules ws) passes
 
-  pub certificate-ready : Ready (valuesOf Certificate ws)
-  certificate-ready = ready Certificate ws check-asked
+  pub certificate_ready : Ready (values_of Certificate ws)
+  certificate_ready = ready Certificate ws check_asked
 
-  pub certificate-N : n Certificate ws ≡ N (Zmod p) (put Certificate ws) (g Certificate ws)
-  certificate-N = (yes-to (check-asks ws) 9 passes).0
+  pub certificate_N : n Certificate ws ≡ N (Zmod p) (put Certificate ws) (g Certificate ws)
+  certificate_N = (yes_to (check_asks ws) 9 passes).0
 
-  pub certificate-meets : Meets (Zmod p) (put Certificate ws) (g Certificate ws)
-  certificate-meets = record {
-    r1 = yes-to (check-asks ws) 8 passes;
-    r3 = subst (R3 (Zmod p) (put Certificate ws) (g Certificate ws)) certificate-N (yes-to (check-asks ws) 10 passes);
+  pub certificate_meets : Meets (Zmod p) (put Certificate ws) (g Certificate ws)
+  certificate_meets = record {
+    r1 = yes_to (check_asks ws) 8 passes;
+    r3 = subst (R3 (Zmod p) (put Certificate ws) (g Certificate ws)) certificate_N (yes_to (check_asks ws) 10 passes);
   }
 
 -- the same of values that code has read from it
-pub ready_of : (ws : List ℕ) (v : Values) → v ≡ valuesOf Certificate ws → AllYes (check-asks ws) → Ready v
-ready_of ws v e passes = subst Ready (sym e) (certificate-ready ws passes)
+pub ready_of : (ws : List ℕ) (v : Values) → v ≡ values_of Certificate ws → AllYes (check_asks ws) → Ready v
+ready_of ws v e passes = subst Ready (sym e) (certificate_ready ws passes)

@@ -7,15 +7,15 @@ use Rattle.zmod.specs.Zmod.{Zmod}
 use Rattle.zmod.specs.Prime.{Prime}
 use Rattle.zmod.specs.Residues.{poly}
 use Rattle.isogeny.specs.Rules.{R1}
-use Rattle.roots.specs.Rational.{rational-roots}
+use Rattle.roots.specs.Rational.{rational_roots}
 use Rattle.barrett.specs.declared.prepared.Modulus.{Modulus}
 use Rattle.barrett.specs.Modulus.{Prepared}
 use Rattle.sheet.specs.declared.Values.{Values}
 use Rattle.sheet.specs.Values.{question}
-use Rattle.sheet.specs.Ready.{Ready, HoldsG, half-least, half-most}
+use Rattle.sheet.specs.Ready.{Ready, HoldsG, half_least, half_most}
 use Rattle.rules.specs.Over.{Over}
 use Rattle.modulo.specs.Modulo.{Divisor}
-use Rattle.promises.specs.Abscissas.{rational-abscissas, monic}
+use Rattle.promises.specs.Abscissas.{rational_abscissas_of, monic}
 
 module _ (v : Values) (ready : Ready v) (g : List ℕ) (words : HoldsG v g) (r1 : R1 (Zmod v.p) (question v) (poly v.p g))
     (m : Modulus) (over : Over v m) where
@@ -25,9 +25,9 @@ module _ (v : Values) (ready : Ready v) (g : List ℕ) (words : HoldsG v g) (r1 
     over.prepared,
     subst (λ p. Divisor p g) (sym over.same)
         (record { reduced = words.reduced; some = omega (arith, words.count); monic = monic v ready g words r1 }),
-    omega (arith, words.count, half-least v ready),
-    omega (arith, words.count, half-most v ready),
+    omega (arith, words.count, half_least v ready),
+    omega (arith, words.count, half_most v ready),
   )
 
-  pub counted-on-sheet : (r : ℕ) → r ≡ rational-roots m.p (length g) (poly m.p g) → r ≡ rational-abscissas v g
-  counted-on-sheet r e = e ∙ ap (λ p. rational-roots p (length g) (poly p g)) over.same
+  pub counted_on_sheet : (r : ℕ) → r ≡ rational_roots m.p (length g) (poly m.p g) → r ≡ rational_abscissas_of v g
+  counted_on_sheet r e = e ∙ ap (λ p. rational_roots p (length g) (poly p g)) over.same

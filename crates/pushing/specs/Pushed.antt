@@ -11,8 +11,8 @@ use Rattle.promises.specs.declared.Image.TheVariants.{Affine, Infinity, Refused}
 use Rattle.promises.specs.Answer.{Goes}
 
 -- N'g − 2Ng' at a point, from what g and N are there
-abbrev pub slopeOf : (p : ℕ) → Jet → Jet → Elt p
-slopeOf p g n =
+abbrev pub slope_of : (p : ℕ) → Jet → Jet → Elt p
+slope_of p g n =
     plus p (times p (mk p n.slope) (mk p g.value)) (minus p (times p (times p (cast (Zmod p) 2) (mk p n.value)) (mk p g.slope)))
 
 abbrev pub Pushed : Values → List ℕ → List ℕ → ℕ → ℕ → Image → Type 0

@@ -5,11 +5,11 @@ ghost use Rattle.zmod.specs.Zmod.{Zmod, mk, plus, times};
 ghost use Rattle.zmod.specs.Residues.{Residue};
 ghost use Rattle.questions.specs.Questions.{AllYes};
 ghost use Rattle.sheet.specs.declared.Form.TheVariants.{Certificate};
-ghost use Rattle.sheet.specs.Values.{valuesOf, gOf, n_of};
+ghost use Rattle.sheet.specs.Values.{values_of, gOf, n_of};
 ghost use Rattle.sheet.specs.Ready.{Ready, HoldsG, HoldsN};
-ghost use Rattle.promises.specs.Asked.{OnDomain, check-asks};
+ghost use Rattle.promises.specs.Asked.{OnDomain, check_asks};
 ghost use Rattle.promises.specs.Answer.{PushRight};
-ghost use Rattle.pushing.specs.Pushed.{slopeOf, Pushed};
+ghost use Rattle.pushing.specs.Pushed.{slope_of, Pushed};
 
 use evaluation::Jet;
 use promises::{Image, Point};
@@ -44,7 +44,7 @@ fn within(v: Values, x: u32, y: u32) -> bool
 // N'g − 2Ng' at a point, from g, g', N and N' there.
 fn slope(g: Jet, n: Jet, p: u32) -> u32
     requires { (p ≤ 2 ^ 28) × (g.value < p) × (g.slope < p) × (n.value < p) × (n.slope < p) }
-    ensures { Residue p (slopeOf p g n) result }
+    ensures { Residue p (slope_of p g n) result }
 {
     let minus = 2 * (p - n.value);
     field::reduce(
@@ -95,7 +95,7 @@ fn image(v: Values, g: &[u32], n: &[u32], x: u32, y: u32) -> Image
 
 // Question 12 and the image, for a certificate that passes, with its coefficients.
 fn push_passed(v: Values, ws: &[u32], g: &[u32], n: &[u32], point: Point) -> Image
-    requires all_yes { (AllYes (check-asks ws.now)) × (v ≡ valuesOf Certificate ws.now) }
+    requires all_yes { (AllYes (check_asks ws.now)) × (v ≡ values_of Certificate ws.now) }
     requires g_value { (g.now ≡ gOf Certificate ws.now) × (n.now ≡ n_of Certificate ws.now) }
     ensures { PushRight ws.now point result }
 {

@@ -3,22 +3,22 @@
 use Rattle.std.specs.Prelude.{◌≡◌, ◌⊎◌, ◌++◌, ℕ}
 use Rattle.std.proofs.Common.{inl, inr}
 use Rattle.questions.specs.Questions.{Questions, AllYes, FirstNo}
-use Rattle.questions.specs.Joined.{no-before, no-after, all-all}
+use Rattle.questions.specs.Joined.{no_before, no_after, all_all}
 
 -- 0 where all are answered with yes, else the number of the first no
 abbrev pub Judged : Questions → ℕ → Type 0
 Judged qs k = ((k ≡ 0) × AllYes qs) ⊎ ((k ≡ 0 → ⊥) × FirstNo qs k)
 
 module _ (qs : Questions) (k : ℕ) (judged : Judged qs k) where
-  pub judged-yes : k ≡ 0 → AllYes qs
-  judged-yes z = go judged
+  pub judged_yes : k ≡ 0 → AllYes qs
+  judged_yes z = go judged
     where
       go : Judged qs k → AllYes qs
       go (inl h) = h.1
       go (inr h) = absurd (h.0 z)
 
-  pub judged-no : (k ≡ 0 → ⊥) → FirstNo qs k
-  judged-no nz = go judged
+  pub judged_no : (k ≡ 0 → ⊥) → FirstNo qs k
+  judged_no nz = go judged
     where
       go : Judged qs k → FirstNo qs k
       go (inl h) = absurd (nz h.0)

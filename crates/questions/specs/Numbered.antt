@@ -25,17 +25,17 @@ abbrev pub has : Questions → ℕ → Bool
 has [] n = false
 has (q ∷ qs) n = cond (eqb n q.0) true (has qs n)
 
-pub yes-to : (qs : Questions) (n : ℕ) → AllYes qs → Asks qs n
-yes-to [] n all = tt
-yes-to (q ∷ qs) n all = go (eqb n q.0) (yes-to qs n all.1)
+pub yes_to : (qs : Questions) (n : ℕ) → AllYes qs → Asks qs n
+yes_to [] n all = tt
+yes_to (q ∷ qs) n all = go (eqb n q.0) (yes_to qs n all.1)
   where
     go : (t : Bool) → Asks qs n → either t q.1 (Asks qs n)
     go true later = all.0
     go false later = later
 
-pub first-no : (qs : Questions) (n : ℕ) → T (has qs n) → YesBefore qs n → (Asks qs n → ⊥) → FirstNo qs n
-first-no [] n t before not = absurd t
-first-no (q ∷ qs) n t before not = go (eqb n q.0) refl (first-no qs n) t before not
+pub first_no : (qs : Questions) (n : ℕ) → T (has qs n) → YesBefore qs n → (Asks qs n → ⊥) → FirstNo qs n
+first_no [] n t before not = absurd t
+first_no (q ∷ qs) n t before not = go (eqb n q.0) refl (first_no qs n) t before not
   where
     go : (b : Bool) → eqb n q.0 ≡ b → (T (has qs n) → YesBefore qs n → (Asks qs n → ⊥) → FirstNo qs n)
         → T (cond b true (has qs n)) → either b (Unit {0}) (q.1 × YesBefore qs n) → (either b q.1 (Asks qs n) → ⊥) → FirstNo (q ∷ qs) n
@@ -49,28 +49,28 @@ abbrev pub once : Questions → ℕ → Bool
 once [] n = true
 once (q ∷ qs) n = cond (eqb n q.0) (not (has qs n)) (once qs n)
 
-no-has : (qs : Questions) (n : ℕ) → FirstNo qs n → T (has qs n)
-no-has [] n h = absurd h
-no-has (q ∷ qs) n (inl h) = found (eqb n q.0) (eq-eqb n q.0 h.0)
+no_has : (qs : Questions) (n : ℕ) → FirstNo qs n → T (has qs n)
+no_has [] n h = absurd h
+no_has (q ∷ qs) n (inl h) = found (eqb n q.0) (eq-eqb n q.0 h.0)
   where
     found : (b : Bool) → b ≡ true → T (cond b true (has qs n))
     found true e = tt
     found false e = absurd (false≢true e)
-no-has (q ∷ qs) n (inr h) = go (eqb n q.0) (no-has qs n h.1)
+no_has (q ∷ qs) n (inr h) = go (eqb n q.0) (no_has qs n h.1)
   where
     go : (b : Bool) → T (has qs n) → T (cond b true (has qs n))
     go true t = tt
     go false t = t
 
 -- those before it are answered with yes, and it with no
-pub no-by : (qs : Questions) (n : ℕ) → T (once qs n) → FirstNo qs n → YesBefore qs n × (Asks qs n → ⊥)
-no-by [] n t h = absurd h
-no-by (q ∷ qs) n t (inl h) = go (eqb n q.0) (eq-eqb n q.0 h.0)
+pub no_by : (qs : Questions) (n : ℕ) → T (once qs n) → FirstNo qs n → YesBefore qs n × (Asks qs n → ⊥)
+no_by [] n t h = absurd h
+no_by (q ∷ qs) n t (inl h) = go (eqb n q.0) (eq-eqb n q.0 h.0)
   where
     go : (b : Bool) → b ≡ true → either b (Unit {0}) (q.1 × YesBefore qs n) × (either b q.1 (Asks qs n) → ⊥)
     go true e = (tt, h.1)
     go false e = absurd (false≢true e)
-no-by (q ∷ qs) n t (inr h) = go (eqb n q.0) (no-has qs n h.1) t (λ u. no-by qs n u h.1)
+no_by (q ∷ qs) n t (inr h) = go (eqb n q.0) (no_has qs n h.1) t (λ u. no_by qs n u h.1)
   where
     go : (b : Bool) → T (has qs n) → T (cond b (not (has qs n)) (once qs n)) → (T (once qs n) → YesBefore qs n × (Asks qs n → ⊥))
         → either b (Unit {0}) (q.1 × YesBefore qs n) × (either b q.1 (Asks qs n) → ⊥)

@@ -23,10 +23,10 @@ not-all (q ∷ qs) n (inr h) all = not-all qs n h all.1
 
 -- ── lists after each other
 
-pub some-front : (qs rs : Questions) (n : ℕ) → SomeNo qs n → SomeNo (qs ++ rs) n
-some-front [] rs n h = absurd h
-some-front (q ∷ qs) rs n (inl h) = inl h
-some-front (q ∷ qs) rs n (inr h) = inr (some-front qs rs n h)
+pub some_front : (qs rs : Questions) (n : ℕ) → SomeNo qs n → SomeNo (qs ++ rs) n
+some_front [] rs n h = absurd h
+some_front (q ∷ qs) rs n (inl h) = inl h
+some_front (q ∷ qs) rs n (inr h) = inr (some_front qs rs n h)
 
 pub some_back : (qs rs : Questions) (n : ℕ) → SomeNo rs n → SomeNo (qs ++ rs) n
 some_back [] rs n h = h

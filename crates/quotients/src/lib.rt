@@ -9,7 +9,7 @@ ghost use Rattle.zmod.specs.Residues.{Reduced, poly, Residues};
 ghost use Rattle.barrett.specs.Modulus.{Prepared};
 ghost use Rattle.rows.specs.Product.{held, ThreeZeros};
 ghost use Rattle.modulo.specs.Modulo.{Divisor, RemainderOf};
-ghost use Rattle.modulo.specs.Power.{x-to};
+ghost use Rattle.modulo.specs.Power.{x_to};
 ghost use Rattle.quotients.specs.Quotient.{ReversedWords, InverseTo};
 ghost use Rattle.quotients.specs.Division.{QuotientTo, DividesBy};
 
@@ -167,7 +167,7 @@ pub fn power_of_x(
     requires r_len { (length r.old + 1 ≡ length g.now) × (length g.now + 3 ≤ length t.old) × (length g.now + 3 ≤ length n.old)
         × (length g.now + 6 ≤ length e.old) × (length room.old + 1 ≡ 2 * length g.now) × (length acc.old ≡ length room.old)
         × (length top.old ≡ length g.now) × (length q.old ≡ length g.now) }
-    ensures { RemainderOf m.p (length g.now - 1) (poly m.p g.now) (x-to m.p m.p) r.new }
+    ensures { RemainderOf m.p (length g.now - 1) (poly m.p g.now) (x_to m.p m.p) r.new }
 {
     prepare(g, t, n, top, q, m.p);
     let mut i = modulo::begin(r, m.p);

@@ -6,34 +6,34 @@ use Rattle.std.proofs.Math.Decide.{dec_lt}
 use Rattle.std.proofs.Math.ListN.{get_or-eq_default}
 use Rattle.zmod.specs.Residues.{Reduced}
 use Rattle.questions.specs.Questions.{AllYes}
-use Rattle.questions.specs.Numbered.{yes-to}
+use Rattle.questions.specs.Numbered.{yes_to}
 use Rattle.sheet.specs.declared.Form.{Form}
 use Rattle.sheet.specs.declared.Form.TheVariants.{Question, Certificate, Kernel}
-use Rattle.sheet.specs.Form.{header, kindsOf, certificateWords}
-use Rattle.sheet.specs.Values.{valuesOf, half, coefficientIn, gOf, n_of}
+use Rattle.sheet.specs.Form.{header, kinds_of, certificate_words}
+use Rattle.sheet.specs.Values.{values_of, half, coefficient_in, gOf, n_of}
 use Rattle.sheet.specs.Asked.{asked}
 use Rattle.sheet.specs.Ready.{HoldsG, HoldsN}
-use Rattle.sheet.specs.Kinds.{below, kind-before, kinds-rise}
-use Rattle.sheet.specs.Lengths.{certificate-words, kernel-words}
-use Rattle.sheet.specs.Places.{coefficients-end, kernel-coefficients-end}
-use Rattle.sheet.specs.Reduction.{coefficient-at, part_length}
-use Rattle.reading.specs.Body.{kinds-length, kinds-at}
+use Rattle.sheet.specs.Kinds.{below, kind_before, kinds_rise}
+use Rattle.sheet.specs.Lengths.{certificate_words_lem, kernel_words}
+use Rattle.sheet.specs.Places.{coefficients_end, kernel_coefficients_end}
+use Rattle.sheet.specs.Reduction.{coefficient_at, part_length}
+use Rattle.reading.specs.Body.{kinds_length, kinds_at}
 
 -- ── a part of the words
 
 module _ (form : Form) (p : ℕ) (ws : List ℕ) (from count : ℕ) (room : from + count ≤ length ws) where
   abbrev read : List ℕ
-  read = map (coefficientIn form p) (take count (drop from ws))
+  read = map (coefficient_in form p) (take count (drop from ws))
 
   -- coefficients below p
-  pub part-reduced : 0 < p → ((i : ℕ) → from ≤ i → i < from + count → coefficientIn form p (slice_index ws i) < p) → Reduced p read
-  part-reduced pos small i = go (dec_lt i count)
+  pub part_reduced : 0 < p → ((i : ℕ) → from ≤ i → i < from + count → coefficient_in form p (slice_index ws i) < p) → Reduced p read
+  part_reduced pos small i = go (dec_lt i count)
     where
       go : Dec (i < count) → slice_index read i < p
       go (yes l) =
-          let e : slice_index_or read i 0 ≡ coefficientIn form p (slice_index ws (from + i)) =
-          coefficient-at form p (take count (drop from ws)) i
-          ∙ ap (coefficientIn form p) (get_or-take count (drop from ws) i 0 l ∙ get_or-drop from ws i 0) in
+          let e : slice_index_or read i 0 ≡ coefficient_in form p (slice_index ws (from + i)) =
+          coefficient_at form p (take count (drop from ws)) i
+          ∙ ap (coefficient_in form p) (get_or-take count (drop from ws) i 0 l ∙ get_or-drop from ws i 0) in
           omega (arith, e, small (from + i) (omega arith) (omega arith))
       go (no l) = let z : slice_index_or read i 0 ≡ 0 = get_or-eq_default read 0 (omega (arith, part_length form p ws from count room)) in omega arith
 
@@ -41,62 +41,62 @@ module _ (form : Form) (p : ℕ) (ws : List ℕ) (from count : ℕ) (room : from
 
 module _ (form : Form) (ws : List ℕ) (all : AllYes (asked form ws)) where
   abbrev d : ℕ
-  d = half (valuesOf form ws)
+  d = half (values_of form ws)
 
-  pub words_count : length ws ≡ length (kindsOf form d)
-  words_count = kinds-length form d ws (yes-to (asked form ws) 6 all).kinds
+  pub words_count : length ws ≡ length (kinds_of form d)
+  words_count = kinds_length form d ws (yes_to (asked form ws) 6 all).kinds
 
   -- a section of coefficients: it ends before the kinds from 10 on begin
-  reduced-section : (from count : ℕ) → length (header form) ≤ from → from + count ≤ below 10 (kindsOf form d) → from + count ≤ length ws
-      → Reduced (valuesOf form ws).p (map (coefficientIn form (valuesOf form ws).p) (take count (drop from ws)))
-  reduced-section from count l m n =
-      part-reduced form (valuesOf form ws).p ws from count n (omega (arith, (yes-to (asked form ws) 3 all).least)) (λ i a b.
-      let six = yes-to (asked form ws) 6 all in
-      let few : slice_index_or (kindsOf form d) i 0 < 10 = kind-before 10 0 i (kindsOf form d) (kinds-rise form d) (omega arith) in
-      six.below i (omega arith) (omega arith) (subst (λ k. k < 10) (sym (kinds-at form d ws six.kinds i (omega arith))) few))
+  reduced_section : (from count : ℕ) → length (header form) ≤ from → from + count ≤ below 10 (kinds_of form d) → from + count ≤ length ws
+      → Reduced (values_of form ws).p (map (coefficient_in form (values_of form ws).p) (take count (drop from ws)))
+  reduced_section from count l m n =
+      part_reduced form (values_of form ws).p ws from count n (omega (arith, (yes_to (asked form ws) 3 all).least)) (λ i a b.
+      let six = yes_to (asked form ws) 6 all in
+      let few : slice_index_or (kinds_of form d) i 0 < 10 = kind_before 10 0 i (kinds_of form d) (kinds_rise form d) (omega arith) in
+      six.below i (omega arith) (omega arith) (subst (λ k. k < 10) (sym (kinds_at form d ws six.kinds i (omega arith))) few))
 
 module _ (ws : List ℕ) (all : AllYes (asked Certificate ws)) where
   abbrev e : ℕ
-  e = half (valuesOf Certificate ws)
+  e = half (values_of Certificate ws)
 
-  pub certificate-length : length ws ≡ certificateWords e
-  certificate-length = words_count Certificate ws all ∙ certificate-words e
+  pub certificate_length : length ws ≡ certificate_words e
+  certificate_length = words_count Certificate ws all ∙ certificate_words_lem e
 
-  certificate-g-length : length (gOf Certificate ws) ≡ e + 1
-  certificate-g-length = part_length Certificate (valuesOf Certificate ws).p ws 7 (e + 1) (omega (arith, certificate-length))
+  certificate_g_length : length (gOf Certificate ws) ≡ e + 1
+  certificate_g_length = part_length Certificate (values_of Certificate ws).p ws 7 (e + 1) (omega (arith, certificate_length))
 
-  certificate-g-reduced : Reduced (valuesOf Certificate ws).p (gOf Certificate ws)
-  certificate-g-reduced = reduced-section Certificate ws all 7 (e + 1) (omega arith) (omega (arith, coefficients-end e)) (omega (arith, certificate-length))
+  certificate_g_reduced : Reduced (values_of Certificate ws).p (gOf Certificate ws)
+  certificate_g_reduced = reduced_section Certificate ws all 7 (e + 1) (omega arith) (omega (arith, coefficients_end e)) (omega (arith, certificate_length))
 
-  certificate-n-length : length (n_of Certificate ws) ≡ 2 * e + 2
-  certificate-n-length = part_length Certificate (valuesOf Certificate ws).p ws (7 + (e + 1)) (2 * e + 2) (omega (arith, certificate-length))
+  certificate_n_length : length (n_of Certificate ws) ≡ 2 * e + 2
+  certificate_n_length = part_length Certificate (values_of Certificate ws).p ws (7 + (e + 1)) (2 * e + 2) (omega (arith, certificate_length))
 
-  certificate-n-reduced : Reduced (valuesOf Certificate ws).p (n_of Certificate ws)
-  certificate-n-reduced =
-      reduced-section Certificate ws all (7 + (e + 1)) (2 * e + 2) (omega arith) (omega (arith, coefficients-end e)) (omega (arith, certificate-length))
+  certificate_n_reduced : Reduced (values_of Certificate ws).p (n_of Certificate ws)
+  certificate_n_reduced =
+      reduced_section Certificate ws all (7 + (e + 1)) (2 * e + 2) (omega arith) (omega (arith, coefficients_end e)) (omega (arith, certificate_length))
 
   -- the coefficients on it
-  pub certificate-g : HoldsG (valuesOf Certificate ws) (gOf Certificate ws)
-  certificate-g = record { count = certificate-g-length; reduced = certificate-g-reduced }
+  pub certificate_g : HoldsG (values_of Certificate ws) (gOf Certificate ws)
+  certificate_g = record { count = certificate_g_length; reduced = certificate_g_reduced }
 
-  pub certificate-n : HoldsN (valuesOf Certificate ws) (n_of Certificate ws)
-  certificate-n = record { count = certificate-n-length; reduced = certificate-n-reduced }
+  pub certificate_n : HoldsN (values_of Certificate ws) (n_of Certificate ws)
+  certificate_n = record { count = certificate_n_length; reduced = certificate_n_reduced }
 
 module _ (ws : List ℕ) (all : AllYes (asked Kernel ws)) where
   abbrev k : ℕ
-  k = half (valuesOf Kernel ws)
+  k = half (values_of Kernel ws)
 
-  pub kernel-length : length ws ≡ k + 6
-  kernel-length = words_count Kernel ws all ∙ kernel-words k
+  pub kernel_length : length ws ≡ k + 6
+  kernel_length = words_count Kernel ws all ∙ kernel_words k
 
-  kernel-g-length : length (gOf Kernel ws) ≡ k + 1
-  kernel-g-length = part_length Kernel (valuesOf Kernel ws).p ws 4 (k + 1) (omega (arith, kernel-length))
+  kernel_g_length : length (gOf Kernel ws) ≡ k + 1
+  kernel_g_length = part_length Kernel (values_of Kernel ws).p ws 4 (k + 1) (omega (arith, kernel_length))
 
-  kernel-g-reduced : Reduced (valuesOf Kernel ws).p (gOf Kernel ws)
-  kernel-g-reduced = reduced-section Kernel ws all 4 (k + 1) (omega arith) (omega (arith, kernel-coefficients-end k)) (omega (arith, kernel-length))
+  kernel_g_reduced : Reduced (values_of Kernel ws).p (gOf Kernel ws)
+  kernel_g_reduced = reduced_section Kernel ws all 4 (k + 1) (omega arith) (omega (arith, kernel_coefficients_end k)) (omega (arith, kernel_length))
 
-  pub kernel-g : HoldsG (valuesOf Kernel ws) (gOf Kernel ws)
-  kernel-g = record { count = kernel-g-length; reduced = kernel-g-reduced }
+  pub kernel_g : HoldsG (values_of Kernel ws) (gOf Kernel ws)
+  kernel_g = record { count = kernel_g_length; reduced = kernel_g_reduced }
 
-pub question-length : (ws : List ℕ) → AllYes (asked Question ws) → length ws ≡ 8
-question-length ws all = words_count Question ws all
+pub question_length : (ws : List ℕ) → AllYes (asked Question ws) → length ws ≡ 8
+question_length ws all = words_count Question ws all

@@ -3,8 +3,8 @@
 use Rattle.std.specs.Prelude.{◌≡◌, ℕ, ◌^◌, ◌<◌, ◌≤◌, true, ◌↔◌, List, length, slice_index}
 use Rattle.sheet.specs.declared.Form.{Form}
 use Rattle.sheet.specs.Word.{kind_of, value_of}
-use Rattle.sheet.specs.Form.{header, kindsOf, position, holds, valueIn}
-use Rattle.sheet.specs.Values.{coefficientIn}
+use Rattle.sheet.specs.Form.{header, kinds_of, position, holds, value_in}
+use Rattle.sheet.specs.Values.{coefficient_in}
 
 -- if the header has a word of kind k, the sheet has it there
 unfoldable pub Stands : Form → ℕ → List ℕ → Type 0
@@ -13,7 +13,7 @@ Stands form k ws = holds k (header form) ≡ true → (position k (header form) 
 -- the words from `from` up to `to` are each of the kind that the form has there, and the coefficients are below p
 unfoldable pub Sections : Form → ℕ → ℕ → ℕ → ℕ → List ℕ → Type 0
 Sections form d from to p ws = (i : ℕ) → from ≤ i → i < to
-    → (kind_of (slice_index ws i) ≡ slice_index (kindsOf form d) i) × (slice_index (kindsOf form d) i < 10 → coefficientIn form p (slice_index ws i) < p)
+    → (kind_of (slice_index ws i) ≡ slice_index (kinds_of form d) i) × (slice_index (kinds_of form d) i < 10 → coefficient_in form p (slice_index ws i) < p)
 
 -- a word is of kind k, with a value below a bound
 abbrev pub Fits : ℕ → ℕ → ℕ → Type 0
@@ -25,4 +25,4 @@ Section ws from to k bound = (i : ℕ) → from ≤ i → i < to → Fits k boun
 
 -- the values of 28 bits below the bound are those that the form reads as values below p
 unfoldable pub Bounds : Form → ℕ → ℕ → Type 0
-Bounds form p bound = (x : ℕ) → x < 2 ^ 28 → (x < bound) ↔ (valueIn form p x < p)
+Bounds form p bound = (x : ℕ) → x < 2 ^ 28 → (x < bound) ↔ (value_in form p x < p)

@@ -4,7 +4,7 @@ ghost use Rattle.zmod.specs.Zmod.{Zmod, mk};
 ghost use Rattle.zmod.specs.Residues.{Residue};
 ghost use Rattle.isogeny.specs.Curve.{discriminant, Nonsingular};
 ghost use Rattle.sheet.specs.Form.{header};
-ghost use Rattle.sheet.specs.Values.{valuesOf};
+ghost use Rattle.sheet.specs.Values.{values_of};
 ghost use Rattle.sheet.specs.Lengths.{last};
 ghost use Rattle.sheet.specs.Asked.{PrimeAllowed, DegreeAllowed, ValuesBelow, Curves, Asked2, Asked6};
 ghost use Rattle.reading.specs.Reading.{Right};
@@ -147,7 +147,7 @@ fn sections(form: Form, ws: &[u32], d: usize, end: usize, p: u32) -> bool
 
 // Question 6.
 fn exact(form: Form, v: Values, ws: &[u32]) -> bool
-    requires { (v ≡ valuesOf form ws.now) × (v.degree < 2 ^ 28) × (0 < v.p) × (v.p ≤ 2 ^ 28) }
+    requires { (v ≡ values_of form ws.now) × (v.degree < 2 ^ 28) × (0 < v.p) × (v.p ≤ 2 ^ 28) }
     ensures { (result ≡ true) ↔ Asked6 form ws.now }
 {
     let d = sheet::half_degree(v);

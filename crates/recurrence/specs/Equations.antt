@@ -5,7 +5,7 @@ use Rattle.std.specs.Prelude.{◌≡◌, ℕ, ◌≤◌, ◌<◌}
 use Rattle.std.proofs.Common.{◌∙◌, ap}
 use Rattle.ring.specs.Ring.{CRing, cast}
 use Rattle.series.specs.Series.{Seq}
-use Rattle.zmod.specs.Zmod.{Zmod, mk, times, cast-mk}
+use Rattle.zmod.specs.Zmod.{Zmod, mk, times, cast_mk}
 use Rattle.isogeny.specs.Rules.{Question}
 use Rattle.isogeny.specs.Expansion.{Recurs}
 
@@ -25,5 +25,5 @@ pub record Quotient (p k y r : ℕ) : Type 0 where
   pub below : r < p
   pub product : times p (mk p k) (mk p r) ≡ mk p y
 
-pub quotient-cast : {p k y r : ℕ} → Quotient p k y r → times p (cast (Zmod p) k) (mk p r) ≡ mk p y
-quotient-cast {p} {k} {y} {r} h = ap (λ x. times p x (mk p r)) (cast-mk p k) ∙ h.product
+pub quotient_cast : {p k y r : ℕ} → Quotient p k y r → times p (cast (Zmod p) k) (mk p r) ≡ mk p y
+quotient_cast {p} {k} {y} {r} h = ap (λ x. times p x (mk p r)) (cast_mk p k) ∙ h.product

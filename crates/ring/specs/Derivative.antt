@@ -47,7 +47,7 @@ rules es i = get_or es i :0
 
 module _ (K : CRing) (δ : Derivation K) where
   open K use {Car, 𝟘, 𝟙, add as ◌⊕◌, mul as ◌⊗◌, neg}
-  open δ use {d, d-add, d-mul}
+  open δ use {d, d_add, d_mul}
 
   infixl 65 ◌⊕◌
   infixl 70 ◌⊗◌
@@ -67,26 +67,26 @@ module _ (K : CRing) (δ : Derivation K) where
     abbrev value : Ex → Car
     value = eval K (at K xs)
 
-    power-ok : (a a' : Ex) → d (value a) ≡ value a' → (n : ℕ) → d (pow K (value a) n) ≡ value (power' a a' n)
-    power-ok a a' e zero = ap d (pow-zero K _) ∙ Deriv.d-one K δ
-    power-ok a a' e (suc n) = ap d (pow-suc K _ n) ∙ d-mul _ _ ∙ ap₂ (λ x y. x ⊗ pow K (value a) n ⊕ value a ⊗ y) e (power-ok a a' e n)
+    power_ok : (a a' : Ex) → d (value a) ≡ value a' → (n : ℕ) → d (pow K (value a) n) ≡ value (power' a a' n)
+    power_ok a a' e zero = ap d (pow-zero K _) ∙ Deriv.d_one K δ
+    power_ok a a' e (suc n) = ap d (pow-suc K _ n) ∙ d_mul _ _ ∙ ap₂ (λ x y. x ⊗ pow K (value a) n ⊕ value a ⊗ y) e (power_ok a a' e n)
 
-    deriv-ok : (e : Ex) → T (known es e) → d (value e) ≡ value (deriv (rules es) e)
-    deriv-ok (var i) t = along (at K xs) xs es h i t
-    deriv-ok (num n) t = Deriv.d-cast K δ n
-    deriv-ok :0 t = Deriv.d-zero K δ
-    deriv-ok :1 t = Deriv.d-one K δ
-    deriv-ok (a :+ b) t =
-        d-add _ _ ∙ ap₂ ◌⊕◌ (deriv-ok a (both_left (known es a) (known es b) t)) (deriv-ok b (both_right (known es a) (known es b) t))
-    deriv-ok (a :- b) t =
-        d-add _ _
-        ∙ ap₂ ◌⊕◌ (deriv-ok a (both_left (known es a) (known es b) t)) (Deriv.d-neg K δ _ ∙ ap neg (deriv-ok b (both_right (known es a) (known es b) t)))
-    deriv-ok (a :* b) t =
-        d-mul _ _
-        ∙ ap₂ (λ x y. x ⊗ value b ⊕ value a ⊗ y) (deriv-ok a (both_left (known es a) (known es b) t)) (deriv-ok b (both_right (known es a) (known es b) t))
-    deriv-ok (:- a) t = Deriv.d-neg K δ _ ∙ ap neg (deriv-ok a t)
-    deriv-ok (a :^ n) t = power-ok a (deriv (rules es) a) (deriv-ok a t) n
+    deriv_ok : (e : Ex) → T (known es e) → d (value e) ≡ value (deriv (rules es) e)
+    deriv_ok (var i) t = along (at K xs) xs es h i t
+    deriv_ok (num n) t = Deriv.d_cast K δ n
+    deriv_ok :0 t = Deriv.d_zero K δ
+    deriv_ok :1 t = Deriv.d_one K δ
+    deriv_ok (a :+ b) t =
+        d_add _ _ ∙ ap₂ ◌⊕◌ (deriv_ok a (both_left (known es a) (known es b) t)) (deriv_ok b (both_right (known es a) (known es b) t))
+    deriv_ok (a :- b) t =
+        d_add _ _
+        ∙ ap₂ ◌⊕◌ (deriv_ok a (both_left (known es a) (known es b) t)) (Deriv.d_neg K δ _ ∙ ap neg (deriv_ok b (both_right (known es a) (known es b) t)))
+    deriv_ok (a :* b) t =
+        d_mul _ _
+        ∙ ap₂ (λ x y. x ⊗ value b ⊕ value a ⊗ y) (deriv_ok a (both_left (known es a) (known es b) t)) (deriv_ok b (both_right (known es a) (known es b) t))
+    deriv_ok (:- a) t = Deriv.d_neg K δ _ ∙ ap neg (deriv_ok a t)
+    deriv_ok (a :^ n) t = power_ok a (deriv (rules es) a) (deriv_ok a t) n
 
     -- For use: with xs = x ∷ y ∷ .. and es = x's rule ∷ y's rule ∷ .., `derive K δ xs es (proof of x's, (proof of y's, .. tt)) a b tt tt : d a ≡ b`.
     pub derive : (a b : Ex) → T (known es a) → T (same (deriv (rules es) a) b) → d (value a) ≡ value b
-    derive a b t s = deriv-ok a t ∙ ring K (at K xs) (deriv (rules es) a) b s
+    derive a b t s = deriv_ok a t ∙ ring K (at K xs) (deriv (rules es) a) b s

@@ -22,20 +22,20 @@ module _ (R : CRing) where
 
   infixl 70 ◌⊗◌
   -- a unit is cancelled
-  pub unit-cancel : (x y : Car) → Inverse R x → x ⊗ y ≡ 𝟘 → y ≡ 𝟘
-  unit-cancel x y u e =
+  pub unit_cancel : (x y : Car) → Inverse R x → x ⊗ y ≡ 𝟘 → y ≡ 𝟘
+  unit_cancel x y u e =
       sym (Ring.one-mul R y) ∙ ap (λ z. z ⊗ y) (sym u.1)
       ∙ solve3 R (λ x i y. x :* i :* y) (λ x i y. i :* (x :* y)) tt x u.0 y
       ∙ ap (λ z. u.0 ⊗ z) e ∙ Ring.mul-zero R u.0
 
-  pub unit-product : (x y : Car) → Inverse R x → Inverse R y → Inverse R (x ⊗ y)
-  unit-product x y (u, e) (v, f) = (
+  pub unit_product : (x y : Car) → Inverse R x → Inverse R y → Inverse R (x ⊗ y)
+  unit_product x y (u, e) (v, f) = (
     u ⊗ v,
     solve4 R (λ x y u v. x :* y :* (u :* v)) (λ x y u v. x :* u :* (y :* v)) tt x y u v ∙ ap₂ ◌⊗◌ e f ∙ R.mul-one 𝟙,
   )
 
   pub product : Field R → (x y : Car) → x ≢ 𝟘 → y ≢ 𝟘 → x ⊗ y ≢ 𝟘
-  product F x y hx hy e = hy (unit-cancel x y (F.invert x hx) e)
+  product F x y hx hy e = hy (unit_cancel x y (F.invert x hx) e)
 
   -- inverses as a function, of which the value at zero does not matter
   module _ (F : Field R) where

@@ -126,18 +126,18 @@ module _ (R : CRing) where
   ev ρ (con c d) = coef c d
   ev ρ (hor a p) = ev (next ρ) a ⊕ ρ 0 ⊗ ev ρ p
 
-  coef-same : (c d : ℕ) → T (eqb c d) → coef c d ≡ 𝟘
-  coef-same c d t = ap (λ x. Ring.cast R x ⊕ neg (Ring.cast R d)) (eqb→eq c d t) ∙ add-neg (Ring.cast R d)
+  coef_same : (c d : ℕ) → T (eqb c d) → coef c d ≡ 𝟘
+  coef_same c d t = ap (λ x. Ring.cast R x ⊕ neg (Ring.cast R d)) (eqb→eq c d t) ∙ add-neg (Ring.cast R d)
 
-  coef-zero : coef 0 0 ≡ 𝟘
-  coef-zero = coef-same 0 0 tt
+  coef_zero : coef 0 0 ≡ 𝟘
+  coef_zero = coef_same 0 0 tt
 
   swap4 : (a b c d : Car) → (a ⊕ b) ⊕ (c ⊕ d) ≡ (a ⊕ c) ⊕ (b ⊕ d)
   swap4 a b c d = add_assoc a b (c ⊕ d) ∙ ap (λ x. a ⊕ x) (Ring.add_left_comm R b c d) ∙ sym (add_assoc a c (b ⊕ d))
 
-  coef-add : (c d a b : ℕ) → coef (c + a) (d + b) ≡ coef c d ⊕ coef a b
-  coef-add c d a b =
-      ap₂ ◌⊕◌ (Ring.cast-add R c a) (ap neg (Ring.cast-add R d b) ∙ Ring.neg-add R (Ring.cast R d) (Ring.cast R b))
+  coef_add : (c d a b : ℕ) → coef (c + a) (d + b) ≡ coef c d ⊕ coef a b
+  coef_add c d a b =
+      ap₂ ◌⊕◌ (Ring.cast_add R c a) (ap neg (Ring.cast_add R d b) ∙ Ring.neg-add R (Ring.cast R d) (Ring.cast R b))
       ∙ swap4 _ _ _ _
 
   -- (c − d)(a − b)
@@ -146,44 +146,44 @@ module _ (R : CRing) where
       simp (Ring.add-mul R, mul-add, Ring.mul-neg R, Ring.neg-mul R, Ring.neg-neg R, Ring.neg-add R)
       (add_assoc _ _ _ ∙ ap (λ x. c ⊗ a ⊕ x) (ap (λ x. neg (c ⊗ b) ⊕ x) (add_comm _ _) ∙ Ring.add_left_comm R _ _ _) ∙ sym (add_assoc _ _ _))
 
-  coef-mul : (c d a b : ℕ) → coef (c * a + d * b) (c * b + d * a) ≡ coef c d ⊗ coef a b
-  coef-mul c d a b = ap₂ (λ x y. x ⊕ neg y) (go c a d b) (go c b d a) ∙ sym (four _ _ _ _)
+  coef_mul : (c d a b : ℕ) → coef (c * a + d * b) (c * b + d * a) ≡ coef c d ⊗ coef a b
+  coef_mul c d a b = ap₂ (λ x y. x ⊕ neg y) (go c a d b) (go c b d a) ∙ sym (four _ _ _ _)
     where
       go : (m n k l : ℕ) → Ring.cast R (m * n + k * l) ≡ Ring.cast R m ⊗ Ring.cast R n ⊕ Ring.cast R k ⊗ Ring.cast R l
-      go m n k l = Ring.cast-add R (m * n) (k * l) ∙ ap₂ ◌⊕◌ (Ring.cast-mul R m n) (Ring.cast-mul R k l)
+      go m n k l = Ring.cast_add R (m * n) (k * l) ∙ ap₂ ◌⊕◌ (Ring.cast_mul R m n) (Ring.cast_mul R k l)
 
   flat_ok : (ρ : ℕ → Car) (a : Pol) → ev ρ (flat a) ≡ ev (next ρ) a
   flat_ok ρ (con c d) = refl
-  flat_ok ρ (hor a p) = ap (λ x. ev (next ρ) (hor a p) ⊕ x) (ap (λ x. ρ 0 ⊗ x) coef-zero ∙ Ring.mul-zero R (ρ 0)) ∙ add-zero _
+  flat_ok ρ (hor a p) = ap (λ x. ev (next ρ) (hor a p) ⊕ x) (ap (λ x. ρ 0 ⊗ x) coef_zero ∙ Ring.mul-zero R (ρ 0)) ∙ add-zero _
 
-  mk-ok : (ρ : ℕ → Car) (a p : Pol) → ev ρ (mk a p) ≡ ev (next ρ) a ⊕ ρ 0 ⊗ ev ρ p
-  mk-ok ρ a (con c d) = go (eqb c d) refl
+  mk_ok : (ρ : ℕ → Car) (a p : Pol) → ev ρ (mk a p) ≡ ev (next ρ) a ⊕ ρ 0 ⊗ ev ρ p
+  mk_ok ρ a (con c d) = go (eqb c d) refl
     where
       go : (b : Bool) → eqb c d ≡ b → ev ρ (elim b [ true ↦ flat a | false ↦ hor a (con c d) ]) ≡ ev (next ρ) a ⊕ ρ 0 ⊗ coef c d
       go true e =
           flat_ok ρ a
-          ∙ sym (ap (λ x. ev (next ρ) a ⊕ x) (ap (λ x. ρ 0 ⊗ x) (coef-same c d (rw e tt)) ∙ Ring.mul-zero R (ρ 0)) ∙ add-zero _)
+          ∙ sym (ap (λ x. ev (next ρ) a ⊕ x) (ap (λ x. ρ 0 ⊗ x) (coef_same c d (rw e tt)) ∙ Ring.mul-zero R (ρ 0)) ∙ add-zero _)
       go false e = refl
-  mk-ok ρ a (hor b q) = refl
+  mk_ok ρ a (hor b q) = refl
 
-  addc-ok : (ρ : ℕ → Car) (c d : ℕ) (p : Pol) → ev ρ (addc c d p) ≡ coef c d ⊕ ev ρ p
-  addc-ok ρ c d (con a b) = coef-add c d a b
-  addc-ok ρ c d (hor a p) = ap (λ x. x ⊕ ρ 0 ⊗ ev ρ p) (addc-ok (next ρ) c d a) ∙ add_assoc _ _ _
+  addc_ok : (ρ : ℕ → Car) (c d : ℕ) (p : Pol) → ev ρ (addc c d p) ≡ coef c d ⊕ ev ρ p
+  addc_ok ρ c d (con a b) = coef_add c d a b
+  addc_ok ρ c d (hor a p) = ap (λ x. x ⊕ ρ 0 ⊗ ev ρ p) (addc_ok (next ρ) c d a) ∙ add_assoc _ _ _
 
-  plus-ok : (ρ : ℕ → Car) (p q : Pol) → ev ρ (plus p q) ≡ ev ρ p ⊕ ev ρ q
-  plus-ok ρ (con c d) q = addc-ok ρ c d q
-  plus-ok ρ (hor a p) (con c d) =
-      ap (λ x. x ⊕ ρ 0 ⊗ ev ρ p) (addc-ok (next ρ) c d a) ∙ add_assoc _ _ _ ∙ add_comm _ _
-  plus-ok ρ (hor a p) (hor b q) =
-      mk-ok ρ (plus a b) (plus p q)
-      ∙ ap₂ (λ x y. x ⊕ ρ 0 ⊗ y) (plus-ok (next ρ) a b) (plus-ok ρ p q)
+  plus_ok : (ρ : ℕ → Car) (p q : Pol) → ev ρ (plus p q) ≡ ev ρ p ⊕ ev ρ q
+  plus_ok ρ (con c d) q = addc_ok ρ c d q
+  plus_ok ρ (hor a p) (con c d) =
+      ap (λ x. x ⊕ ρ 0 ⊗ ev ρ p) (addc_ok (next ρ) c d a) ∙ add_assoc _ _ _ ∙ add_comm _ _
+  plus_ok ρ (hor a p) (hor b q) =
+      mk_ok ρ (plus a b) (plus p q)
+      ∙ ap₂ (λ x y. x ⊕ ρ 0 ⊗ y) (plus_ok (next ρ) a b) (plus_ok ρ p q)
       ∙ ap (λ x. ev (next ρ) a ⊕ ev (next ρ) b ⊕ x) (mul-add (ρ 0) (ev ρ p) (ev ρ q))
       ∙ swap4 _ _ _ _
 
-  mapc-ok : (ρ : ℕ → Car) (c d : ℕ) (p : Pol) → ev ρ (mapc c d p) ≡ coef c d ⊗ ev ρ p
-  mapc-ok ρ c d (con a b) = coef-mul c d a b
-  mapc-ok ρ c d (hor a p) =
-      ap₂ (λ x y. x ⊕ ρ 0 ⊗ y) (mapc-ok (next ρ) c d a) (mapc-ok ρ c d p)
+  mapc_ok : (ρ : ℕ → Car) (c d : ℕ) (p : Pol) → ev ρ (mapc c d p) ≡ coef c d ⊗ ev ρ p
+  mapc_ok ρ c d (con a b) = coef_mul c d a b
+  mapc_ok ρ c d (hor a p) =
+      ap₂ (λ x y. x ⊕ ρ 0 ⊗ y) (mapc_ok (next ρ) c d a) (mapc_ok ρ c d p)
       ∙ ap (λ x. coef c d ⊗ ev (next ρ) a ⊕ x) (Ring.mul_left_comm R (ρ 0) (coef c d) (ev ρ p))
       ∙ sym (mul-add (coef c d) _ _)
 
@@ -191,65 +191,65 @@ module _ (R : CRing) where
   scale_ok ρ c d p = go (eqb c d) refl
     where
       go : (b : Bool) → eqb c d ≡ b → ev ρ (elim b [ true ↦ con 0 0 | false ↦ mapc c d p ]) ≡ coef c d ⊗ ev ρ p
-      go true e = coef-zero ∙ sym (ap (λ x. x ⊗ ev ρ p) (coef-same c d (rw e tt)) ∙ Ring.zero-mul R (ev ρ p))
-      go false e = mapc-ok ρ c d p
+      go true e = coef_zero ∙ sym (ap (λ x. x ⊗ ev ρ p) (coef_same c d (rw e tt)) ∙ Ring.zero-mul R (ev ρ p))
+      go false e = mapc_ok ρ c d p
 
-  down-ok : (ρ : ℕ → Car) (f : Pol → Pol) (a : Pol) → ((b : Pol) → ev (next ρ) (f b) ≡ ev (next ρ) a ⊗ ev (next ρ) b)
+  down_ok : (ρ : ℕ → Car) (f : Pol → Pol) (a : Pol) → ((b : Pol) → ev (next ρ) (f b) ≡ ev (next ρ) a ⊗ ev (next ρ) b)
       → (q : Pol) → ev ρ (down f a q) ≡ ev (next ρ) a ⊗ ev ρ q
-  down-ok ρ f a h (con c d) = flat_ok ρ (scale c d a) ∙ scale_ok (next ρ) c d a ∙ mul_comm _ _
-  down-ok ρ f a h (hor b r) =
-      mk-ok ρ (f b) (down f a r)
-      ∙ ap₂ (λ x y. x ⊕ ρ 0 ⊗ y) (h b) (down-ok ρ f a h r)
+  down_ok ρ f a h (con c d) = flat_ok ρ (scale c d a) ∙ scale_ok (next ρ) c d a ∙ mul_comm _ _
+  down_ok ρ f a h (hor b r) =
+      mk_ok ρ (f b) (down f a r)
+      ∙ ap₂ (λ x y. x ⊕ ρ 0 ⊗ y) (h b) (down_ok ρ f a h r)
       ∙ ap (λ x. ev (next ρ) a ⊗ ev (next ρ) b ⊕ x) (Ring.mul_left_comm R (ρ 0) _ _)
       ∙ sym (mul-add _ _ _)
 
-  times-ok : (ρ : ℕ → Car) (p q : Pol) → ev ρ (times p q) ≡ ev ρ p ⊗ ev ρ q
-  times-ok ρ (con c d) q = scale_ok ρ c d q
-  times-ok ρ (hor a p) q =
-      plus-ok ρ (down (times a) a q) (mk (con 0 0) (times p q))
-      ∙ ap₂ ◌⊕◌ (down-ok ρ (times a) a (times-ok (next ρ) a) q)
-      (mk-ok ρ (con 0 0) (times p q) ∙ ap₂ (λ x y. x ⊕ ρ 0 ⊗ y) coef-zero (times-ok ρ p q) ∙ Ring.zero-add R _ ∙ sym (mul_assoc _ _ _))
+  times_ok : (ρ : ℕ → Car) (p q : Pol) → ev ρ (times p q) ≡ ev ρ p ⊗ ev ρ q
+  times_ok ρ (con c d) q = scale_ok ρ c d q
+  times_ok ρ (hor a p) q =
+      plus_ok ρ (down (times a) a q) (mk (con 0 0) (times p q))
+      ∙ ap₂ ◌⊕◌ (down_ok ρ (times a) a (times_ok (next ρ) a) q)
+      (mk_ok ρ (con 0 0) (times p q) ∙ ap₂ (λ x y. x ⊕ ρ 0 ⊗ y) coef_zero (times_ok ρ p q) ∙ Ring.zero-add R _ ∙ sym (mul_assoc _ _ _))
       ∙ sym (Ring.add-mul R _ _ _)
 
-  minus-ok : (ρ : ℕ → Car) (p : Pol) → ev ρ (minus p) ≡ neg (ev ρ p)
-  minus-ok ρ (con c d) = add_comm _ _ ∙ ap (λ x. neg (Ring.cast R c) ⊕ x) (sym (Ring.neg-neg R _)) ∙ sym (Ring.neg-add R _ _)
-  minus-ok ρ (hor a p) =
-      ap₂ (λ x y. x ⊕ ρ 0 ⊗ y) (minus-ok (next ρ) a) (minus-ok ρ p)
+  minus_ok : (ρ : ℕ → Car) (p : Pol) → ev ρ (minus p) ≡ neg (ev ρ p)
+  minus_ok ρ (con c d) = add_comm _ _ ∙ ap (λ x. neg (Ring.cast R c) ⊕ x) (sym (Ring.neg-neg R _)) ∙ sym (Ring.neg-add R _ _)
+  minus_ok ρ (hor a p) =
+      ap₂ (λ x y. x ⊕ ρ 0 ⊗ y) (minus_ok (next ρ) a) (minus_ok ρ p)
       ∙ ap (λ x. neg (ev (next ρ) a) ⊕ x) (Ring.mul-neg R _ _)
       ∙ sym (Ring.neg-add R _ _)
 
   one_ok : (n : ℕ) → coef n 0 ≡ Ring.cast R n
-  one_ok n = ap (λ x. Ring.cast R n ⊕ x) (ap neg (Ring.cast-zero R) ∙ Ring.neg-zero R) ∙ add-zero _
+  one_ok n = ap (λ x. Ring.cast R n ⊕ x) (ap neg (Ring.cast_zero R) ∙ Ring.neg-zero R) ∙ add-zero _
 
-  power-ok : (ρ : ℕ → Car) (p : Pol) (n : ℕ) → ev ρ (power p n) ≡ Ring.pow R (ev ρ p) n
-  power-ok ρ p zero = one_ok 1 ∙ Ring.cast-one R ∙ sym (Ring.pow-zero R _)
-  power-ok ρ p (suc n) = times-ok ρ p (power p n) ∙ ap (λ x. ev ρ p ⊗ x) (power-ok ρ p n) ∙ sym (Ring.pow-suc R _ n)
+  power_ok : (ρ : ℕ → Car) (p : Pol) (n : ℕ) → ev ρ (power p n) ≡ Ring.pow R (ev ρ p) n
+  power_ok ρ p zero = one_ok 1 ∙ Ring.cast_one R ∙ sym (Ring.pow-zero R _)
+  power_ok ρ p (suc n) = times_ok ρ p (power p n) ∙ ap (λ x. ev ρ p ⊗ x) (power_ok ρ p n) ∙ sym (Ring.pow-suc R _ n)
 
-  variable-ok : (ρ : ℕ → Car) (i : ℕ) → ev ρ (variable i) ≡ ρ i
-  variable-ok ρ zero = ap₂ (λ x y. x ⊕ ρ 0 ⊗ y) coef-zero (one_ok 1 ∙ Ring.cast-one R) ∙ Ring.zero-add R _ ∙ mul-one _
-  variable-ok ρ (suc i) =
-      ap₂ ◌⊕◌ (variable-ok (next ρ) i) (ap (λ x. ρ 0 ⊗ x) coef-zero ∙ Ring.mul-zero R (ρ 0)) ∙ add-zero _
+  variable_ok : (ρ : ℕ → Car) (i : ℕ) → ev ρ (variable i) ≡ ρ i
+  variable_ok ρ zero = ap₂ (λ x y. x ⊕ ρ 0 ⊗ y) coef_zero (one_ok 1 ∙ Ring.cast_one R) ∙ Ring.zero-add R _ ∙ mul-one _
+  variable_ok ρ (suc i) =
+      ap₂ ◌⊕◌ (variable_ok (next ρ) i) (ap (λ x. ρ 0 ⊗ x) coef_zero ∙ Ring.mul-zero R (ρ 0)) ∙ add-zero _
 
-  norm-ok : (ρ : ℕ → Car) (e : Ex) → ev ρ (norm e) ≡ eval ρ e
-  norm-ok ρ (var i) = variable-ok ρ i
-  norm-ok ρ (num n) = one_ok n
-  norm-ok ρ :0 = coef-zero
-  norm-ok ρ :1 = one_ok 1 ∙ Ring.cast-one R
-  norm-ok ρ (a :+ b) = plus-ok ρ (norm a) (norm b) ∙ ap₂ ◌⊕◌ (norm-ok ρ a) (norm-ok ρ b)
-  norm-ok ρ (a :- b) =
-      plus-ok ρ (norm a) (minus (norm b)) ∙ ap₂ ◌⊕◌ (norm-ok ρ a) (minus-ok ρ (norm b) ∙ ap neg (norm-ok ρ b))
-  norm-ok ρ (a :* b) = times-ok ρ (norm a) (norm b) ∙ ap₂ ◌⊗◌ (norm-ok ρ a) (norm-ok ρ b)
-  norm-ok ρ (:- a) = minus-ok ρ (norm a) ∙ ap neg (norm-ok ρ a)
-  norm-ok ρ (a :^ n) = power-ok ρ (norm a) n ∙ ap (λ x. Ring.pow R x n) (norm-ok ρ a)
+  norm_ok : (ρ : ℕ → Car) (e : Ex) → ev ρ (norm e) ≡ eval ρ e
+  norm_ok ρ (var i) = variable_ok ρ i
+  norm_ok ρ (num n) = one_ok n
+  norm_ok ρ :0 = coef_zero
+  norm_ok ρ :1 = one_ok 1 ∙ Ring.cast_one R
+  norm_ok ρ (a :+ b) = plus_ok ρ (norm a) (norm b) ∙ ap₂ ◌⊕◌ (norm_ok ρ a) (norm_ok ρ b)
+  norm_ok ρ (a :- b) =
+      plus_ok ρ (norm a) (minus (norm b)) ∙ ap₂ ◌⊕◌ (norm_ok ρ a) (minus_ok ρ (norm b) ∙ ap neg (norm_ok ρ b))
+  norm_ok ρ (a :* b) = times_ok ρ (norm a) (norm b) ∙ ap₂ ◌⊗◌ (norm_ok ρ a) (norm_ok ρ b)
+  norm_ok ρ (:- a) = minus_ok ρ (norm a) ∙ ap neg (norm_ok ρ a)
+  norm_ok ρ (a :^ n) = power_ok ρ (norm a) n ∙ ap (λ x. Ring.pow R x n) (norm_ok ρ a)
 
   null_ok : (ρ : ℕ → Car) (p : Pol) → T (null p) → ev ρ p ≡ 𝟘
-  null_ok ρ (con c d) t = coef-same c d t
+  null_ok ρ (con c d) t = coef_same c d t
   null_ok ρ (hor a p) t =
       ap₂ (λ x y. x ⊕ ρ 0 ⊗ y) (null_ok (next ρ) a (both_left (null a) (null p) t)) (null_ok ρ p (both_right (null a) (null p) t))
       ∙ Ring.zero-add R _ ∙ Ring.mul-zero R _
 
   pub ring : (ρ : ℕ → Car) (a b : Ex) → T (same a b) → eval ρ a ≡ eval ρ b
-  ring ρ a b t = Ring.sub-zero R _ _ (sym (norm-ok ρ (a :- b)) ∙ null_ok ρ (norm (a :- b)) t)
+  ring ρ a b t = Ring.sub-zero R _ _ (sym (norm_ok ρ (a :- b)) ∙ null_ok ρ (norm (a :- b)) t)
 
   -- what the variables 0, 1, .. stand for
   abbrev pub at : List Car → ℕ → Car

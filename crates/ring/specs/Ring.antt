@@ -84,29 +84,29 @@ module _ (R : CRing) where
   cast zero = 𝟘
   cast (suc n) = cast n ⊕ 𝟙
 
-  pub cast-zero : cast 0 ≡ 𝟘
+  pub cast_zero : cast 0 ≡ 𝟘
   unfolding cast
-  cast-zero = refl
+  cast_zero = refl
 
-  pub cast-suc : (n : ℕ) → cast (suc n) ≡ cast n ⊕ 𝟙
+  pub cast_suc : (n : ℕ) → cast (suc n) ≡ cast n ⊕ 𝟙
   unfolding cast
-  cast-suc n = refl
+  cast_suc n = refl
 
-  pub cast-one : cast 1 ≡ 𝟙
+  pub cast_one : cast 1 ≡ 𝟙
   unfolding cast
-  cast-one = zero-add 𝟙
+  cast_one = zero-add 𝟙
 
-  pub cast-add : (m n : ℕ) → cast (m + n) ≡ cast m ⊕ cast n
-  cast-add m zero = ap cast (N.add-zero m) ∙ sym (ap (λ x. cast m ⊕ x) cast-zero ∙ add-zero (cast m))
-  cast-add m (suc n) =
-      ap cast (N.add-suc m n) ∙ cast-suc (m + n) ∙ ap (λ x. x ⊕ 𝟙) (cast-add m n) ∙ add_assoc (cast m) (cast n) 𝟙
-      ∙ ap (λ x. cast m ⊕ x) (sym (cast-suc n))
+  pub cast_add : (m n : ℕ) → cast (m + n) ≡ cast m ⊕ cast n
+  cast_add m zero = ap cast (N.add-zero m) ∙ sym (ap (λ x. cast m ⊕ x) cast_zero ∙ add-zero (cast m))
+  cast_add m (suc n) =
+      ap cast (N.add-suc m n) ∙ cast_suc (m + n) ∙ ap (λ x. x ⊕ 𝟙) (cast_add m n) ∙ add_assoc (cast m) (cast n) 𝟙
+      ∙ ap (λ x. cast m ⊕ x) (sym (cast_suc n))
 
-  pub cast-mul : (m n : ℕ) → cast (m * n) ≡ cast m ⊗ cast n
-  cast-mul m zero = ap cast (N.mul-zero m) ∙ cast-zero ∙ sym (ap (λ x. cast m ⊗ x) cast-zero ∙ mul-zero (cast m))
-  cast-mul m (suc n) =
-      ap cast (N.mul-suc m n) ∙ cast-add (m * n) m ∙ ap₂ ◌⊕◌ (cast-mul m n) (sym (mul-one (cast m)))
-      ∙ sym (mul-add (cast m) (cast n) 𝟙) ∙ ap (λ x. cast m ⊗ x) (sym (cast-suc n))
+  pub cast_mul : (m n : ℕ) → cast (m * n) ≡ cast m ⊗ cast n
+  cast_mul m zero = ap cast (N.mul-zero m) ∙ cast_zero ∙ sym (ap (λ x. cast m ⊗ x) cast_zero ∙ mul-zero (cast m))
+  cast_mul m (suc n) =
+      ap cast (N.mul-suc m n) ∙ cast_add (m * n) m ∙ ap₂ ◌⊕◌ (cast_mul m n) (sym (mul-one (cast m)))
+      ∙ sym (mul-add (cast m) (cast n) 𝟙) ∙ ap (λ x. cast m ⊗ x) (sym (cast_suc n))
 
   -- a ^ n
   unfoldable pub pow : Car → ℕ → Car

@@ -9,17 +9,17 @@ use Rattle.ring.specs.Ring.{CRing, pow}
 use Rattle.ring.specs.Identity.{solve1}
 use Rattle.ring.specs.Identity.Ex.{var, :0, :1, ◌:+◌, ◌:-◌, ◌:*◌, :-◌, ◌:^◌}
 use Rattle.series.specs.Series.{Series, Seq}
-use Rattle.series.specs.Degree.{Below, Poly, Monic, leading, monic-poly, poly-add, poly-neg}
+use Rattle.series.specs.Degree.{Below, Poly, Monic, leading, monic_poly, poly_add, poly_neg}
 use Rattle.series.specs.Indeterminate.{ind}
-use Rattle.series.specs.Binomial.{ind-monic, ind-value, monic-power}
-use Rattle.series.specs.Value.{value, at, at-eval}
-use Rattle.zmod.specs.Zmod.{Zmod, val, mk, minus, mk-val, val-lt, mk-apart, same?}
-use Rattle.zmod.specs.Prime.{Prime, prime-pos, Zmod-field}
+use Rattle.series.specs.Binomial.{ind_monic, ind_value, monic_power}
+use Rattle.series.specs.Value.{value, at, at_eval}
+use Rattle.zmod.specs.Zmod.{Zmod, val, mk, minus, mk-val, val-lt, mk_apart, same?}
+use Rattle.zmod.specs.Prime.{Prime, prime_pos, Zmod_field}
 use Rattle.zmod.specs.Fermat.{fermat}
-use Rattle.divisibility.specs.Congruence.{congruent-refl, congruent-sym, congruent-add}
-use Rattle.divisibility.specs.Gcd.{Gcd, euclid, gcd-modulo}
-use Rattle.roots.specs.Count.{count-some}
-use Rattle.roots.specs.Rational.{rational-roots}
+use Rattle.divisibility.specs.Congruence.{congruent_refl, congruent_sym, congruent_add}
+use Rattle.divisibility.specs.Gcd.{Gcd, euclid, gcd_modulo}
+use Rattle.roots.specs.Count.{count_some}
+use Rattle.roots.specs.Rational.{rational_roots}
 use Rattle.roots.specs.Power.{PowerModulo}
 use Rattle.roots.specs.Roots as Roots
 
@@ -42,57 +42,57 @@ module _ {p : ℕ} (P : Prime p) where
 
   -- ── xᵖ − x has every element as a root
 
-  pub all-monic : Monic R p (x ^ p ⊖ x)
-  all-monic = record {
-    below = λ i l. ap₂ (λ y z. R.add y (R.neg z)) (power.below i l) ((ind-monic R).below i (omega arith)) ∙ R.add-neg R.𝟘;
-    one = ap₂ (λ y z. R.add y (R.neg z)) power.one ((ind-monic R).below p P.above-one) ∙ solve1 R (λ y. :1 :- :0) (λ y. :1) tt R.𝟘;
+  pub all_monic : Monic R p (x ^ p ⊖ x)
+  all_monic = record {
+    below = λ i l. ap₂ (λ y z. R.add y (R.neg z)) (power.below i l) ((ind_monic R).below i (omega arith)) ∙ R.add-neg R.𝟘;
+    one = ap₂ (λ y z. R.add y (R.neg z)) power.one ((ind_monic R).below p P.above_one) ∙ solve1 R (λ y. :1 :- :0) (λ y. :1) tt R.𝟘;
   }
     where
       power : Monic R p (x ^ p)
-      power = monic-power R x (ind-monic R) p
+      power = monic_power R x (ind_monic R) p
 
-  zero-at : (i : ℕ) → i < p → at R (x ^ p ⊖ x) (monic-poly R p (x ^ p ⊖ x) all-monic) (mk p i) ≡ R.𝟘
-  zero-at i l =
-      at-eval R (x ∷ []) ((2, (ind-monic R).below), tt) (var 0 :^ p :- var 0) (monic-poly R p (x ^ p ⊖ x) all-monic) (mk p i)
-      ∙ ap (λ y. R.add (pow R y p) (R.neg y)) (ind-value R (mk p i)) ∙ ap (λ y. R.add y (R.neg (mk p i))) (fermat P (mk p i)) ∙ R.add-neg _
+  zero_at : (i : ℕ) → i < p → at R (x ^ p ⊖ x) (monic_poly R p (x ^ p ⊖ x) all_monic) (mk p i) ≡ R.𝟘
+  zero_at i l =
+      at_eval R (x ∷ []) ((2, (ind_monic R).below), tt) (var 0 :^ p :- var 0) (monic_poly R p (x ^ p ⊖ x) all_monic) (mk p i)
+      ∙ ap (λ y. R.add (pow R y p) (R.neg y)) (ind_value R (mk p i)) ∙ ap (λ y. R.add y (R.neg (mk p i))) (fermat P (mk p i)) ∙ R.add-neg _
 
   distinct : (i j : ℕ) → i < j → j < p → mk p i ≢ mk p j
-  distinct i j h l e = let s : i ≡ j = mk-apart (prime-pos P) i j (omega arith) l e in absurd (omega arith)
+  distinct i j h l e = let s : i ≡ j = mk_apart (prime_pos P) i j (omega arith) l e in absurd (omega arith)
 
   -- ── the theorems, for any polynomial g of at most m coefficients
 
   module _ (m : ℕ) (g : Seq R) (below : Below R m g) where
     -- The number of u from 0 to p − 1 with g(u) = 0 is the degree of the greatest common divisor of g and xᵖ − x.
-    pub roots-gcd : (n : ℕ) (h : Seq R) → Gcd R g (x ^ p ⊖ x) n h → rational-roots p m g ≡ n
-    unfolding rational-roots
-    roots-gcd =
-        Roots.roots-gcd R (Zmod-field P) (λ y. same? p y (mk p 0)) (mk p) p distinct (x ^ p ⊖ x) all-monic zero-at g (m, below)
+    pub roots_gcd : (n : ℕ) (h : Seq R) → Gcd R g (x ^ p ⊖ x) n h → rational_roots p m g ≡ n
+    unfolding rational_roots
+    roots_gcd =
+        Roots.roots_gcd R (Zmod_field P) (λ y. same? p y (mk p 0)) (mk p) p distinct (x ^ p ⊖ x) all_monic zero_at g (m, below)
 
     -- So it is that of g and w − x, where w is xᵖ modulo g: what is computed is w, and h with the degree n.
-    pub roots-modulo : (w : Seq R) → PowerModulo R g x p w → (n : ℕ) (h : Seq R) → Gcd R g (w ⊖ x) n h → rational-roots p m g ≡ n
-    roots-modulo w is n h G =
-        roots-gcd n h
-        (gcd-modulo R g (x ^ p ⊖ x) (w ⊖ x) (congruent-add R g (x ^ p) w (neg x) (neg x) (congruent-sym R g w (x ^ p) is) (congruent-refl R g (neg x))) n h G)
+    pub roots_modulo : (w : Seq R) → PowerModulo R g x p w → (n : ℕ) (h : Seq R) → Gcd R g (w ⊖ x) n h → rational_roots p m g ≡ n
+    roots_modulo w is n h G =
+        roots_gcd n h
+        (gcd_modulo R g (x ^ p ⊖ x) (w ⊖ x) (congruent_add R g (x ^ p) w (neg x) (neg x) (congruent_sym R g w (x ^ p) is) (congruent_refl R g (neg x))) n h G)
 
   -- For a monic g there is such an h.
-  pub gcd-exists : (d : ℕ) (g : Seq R) → Monic R d g → (w : Seq R) → Poly R w → (n : ℕ) × (h : Seq R) × Gcd R g (w ⊖ x) n h
-  gcd-exists d g monic w poly =
-      let r : Poly R (w ⊖ x) = poly-add R w (neg x) poly (poly-neg R x (2, (ind-monic R).below)) in
-      euclid R (Zmod-field P) r.0 d g (w ⊖ x) (leading R d g monic) r.1
+  pub gcd_exists : (d : ℕ) (g : Seq R) → Monic R d g → (w : Seq R) → Poly R w → (n : ℕ) × (h : Seq R) × Gcd R g (w ⊖ x) n h
+  gcd_exists d g monic w poly =
+      let r : Poly R (w ⊖ x) = poly_add R w (neg x) poly (poly_neg R x (2, (ind_monic R).below)) in
+      euclid R (Zmod_field P) r.0 d g (w ⊖ x) (leading R d g monic) r.1
 
   -- A monic g of degree d has at most d roots.
-  pub roots-most : (d : ℕ) (g : Seq R) → Monic R d g → rational-roots p (suc d) g ≤ d
-  unfolding rational-roots
-  roots-most d g monic =
-      Roots.roots-most R (Zmod-field P) (λ y. same? p y (mk p 0)) (mk p) p distinct p d g (suc d, monic.below) (N.le_refl p) (leading R d g monic)
+  pub roots_most : (d : ℕ) (g : Seq R) → Monic R d g → rational_roots p (suc d) g ≤ d
+  unfolding rational_roots
+  roots_most d g monic =
+      Roots.roots_most R (Zmod_field P) (λ y. same? p y (mk p 0)) (mk p) p distinct p d g (suc d, monic.below) (N.le_refl p) (leading R d g monic)
 
   -- One of degree 1 has one root.
-  pub roots-linear : (g : Seq R) → Monic R 1 g → rational-roots p 2 g ≡ 1
-  unfolding rational-roots value
-  roots-linear g monic =
-      let some : 0 < rational-roots p 2 g = count-some (λ u. same? p (value R 2 g (mk p u)) (mk p 0)) p (val p (minus p (g 0)))
-      (val-lt (prime-pos P) (minus p (g 0))) root in
-      omega (arith, some, roots-most 1 g monic)
+  pub roots_linear : (g : Seq R) → Monic R 1 g → rational_roots p 2 g ≡ 1
+  unfolding rational_roots value
+  roots_linear g monic =
+      let some : 0 < rational_roots p 2 g = count_some (λ u. same? p (value R 2 g (mk p u)) (mk p 0)) p (val p (minus p (g 0)))
+      (val-lt (prime_pos P) (minus p (g 0))) root in
+      omega (arith, some, roots_most 1 g monic)
     where
       root : value R 2 g (mk p (val p (minus p (g 0)))) ≡ mk p 0
       root =

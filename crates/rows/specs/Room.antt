@@ -5,7 +5,7 @@ use Rattle.std.proofs.Common.{sym, ◌∙◌, ap, subst, mul-le-mul, arith}
 use Rattle.std.proofs.Math.Decide.{dec_lt}
 use Rattle.std.proofs.lemmas.List.{get_or-replicate, length-replicate}
 use Rattle.std.proofs.Math.ListN.{get_or-eq_default}
-use Rattle.slices.specs.Stored.{part_at, back-before, back_inside, back-after}
+use Rattle.slices.specs.Stored.{part_at, back_before, back_inside, back_after}
 use Rattle.rows.specs.Rows.{Four, Twice}
 
 -- twice the words of a from i on; zeros before
@@ -51,8 +51,8 @@ above_more a e e' i h f = record {
         (ap (λ t. get_or e' t 0) (omega arith) ∙ f.fourth) j (omega arith) (omega arith)
 
 -- past a's end there is nothing
-pub held-past : (a e : List ℕ) (i : ℕ) → Held a i e → i ≤ length a → (u : ℕ) → length a + 3 ≤ u → get_or e u 0 ≡ 0
-held-past a e i h le u l = go (dec_lt (u - 3) (4 + i))
+pub held_past : (a e : List ℕ) (i : ℕ) → Held a i e → i ≤ length a → (u : ℕ) → length a + 3 ≤ u → get_or e u 0 ≡ 0
+held_past a e i h le u l = go (dec_lt (u - 3) (4 + i))
   where
     at : get_or e u 0 ≡ get_or e (3 + (u - 3)) 0
     at = ap (λ t. get_or e t 0) (omega arith)
@@ -65,8 +65,8 @@ held-past a e i h le u l = go (dec_lt (u - 3) (4 + i))
     go (no m) = at ∙ h.twice (u - 3) (omega arith) ∙ ap (λ t. 2 * t) none
 
 -- no word is above twice the largest
-pub held-le : (a e : List ℕ) (i q : ℕ) → Held a i e → ((j : ℕ) → get_or a j 0 ≤ q) → (u : ℕ) → get_or e u 0 ≤ 2 * q
-held-le a e i q h le u = go (dec_lt u (i + 3)) (dec_lt (u - 3) (4 + i))
+pub held_le : (a e : List ℕ) (i q : ℕ) → Held a i e → ((j : ℕ) → get_or a j 0 ≤ q) → (u : ℕ) → get_or e u 0 ≤ 2 * q
+held_le a e i q h le u = go (dec_lt u (i + 3)) (dec_lt (u - 3) (4 + i))
   where
     at : 3 ≤ u → get_or e u 0 ≡ get_or e (3 + (u - 3)) 0
     at l = ap (λ t. get_or e t 0) (omega arith)
@@ -80,17 +80,17 @@ held-le a e i q h le u = go (dec_lt u (i + 3)) (dec_lt (u - 3) (4 + i))
 abbrev pub blank : ℕ → List ℕ
 blank n = replicate {A = ℕ} n 0
 
-pub zero-at : (n j : ℕ) → get_or (blank n) j 0 ≡ 0
-zero-at n j = go (dec_lt j n)
+pub zero_at : (n j : ℕ) → get_or (blank n) j 0 ≡ 0
+zero_at n j = go (dec_lt j n)
   where
     go : Dec (j < n) → get_or (blank n) j 0 ≡ 0
     go (yes l) = get_or-replicate n j 0 0 l
     go (no l) = get_or-eq_default (blank n) 0 (omega (arith, length-replicate {A = ℕ} n 0))
 
-pub above-none : (a z part : List ℕ) (n m : ℕ) → z ≡ blank n → length a + 3 ≤ n → m ≡ n - 3 → length part ≡ m → Twice a (take m (drop 3 z)) part (length a)
+pub above_none : (a z part : List ℕ) (n m : ℕ) → z ≡ blank n → length a + 3 ≤ n → m ≡ n - 3 → length part ≡ m → Twice a (take m (drop 3 z)) part (length a)
     → Above a 0 (take 3 z ++ (part ++ drop m (drop 3 z)))
-above-none a z part n m e le rest size h = subst (λ l. Above a 0 (take 3 l ++ (part ++ drop m (drop 3 l)))) (sym e) (record {
-  low = λ j l. back-before (blank n) part 3 m inside size j l ∙ zero-at n j;
+above_none a z part n m e le rest size h = subst (λ l. Above a 0 (take 3 l ++ (part ++ drop m (drop 3 l)))) (sym e) (record {
+  low = λ j l. back_before (blank n) part 3 m inside size j l ∙ zero_at n j;
   high = λ j l. go j (dec_lt j m) (dec_lt j (length a));
 })
   where
@@ -103,10 +103,10 @@ above-none a z part n m e le rest size h = subst (λ l. Above a 0 (take 3 l ++ (
     go : (j : ℕ) → Dec (j < m) → Dec (j < length a) → get_or (take 3 (blank n) ++ (part ++ drop m (drop 3 (blank n)))) (3 + j) 0 ≡ 2 * get_or a j 0
     go j (yes l) (yes k) = back_inside (blank n) part 3 m inside size j l ∙ h.doubled j k
     go j (yes l) (no k) =
-        back_inside (blank n) part 3 m inside size j l ∙ kept j (omega arith) ∙ part_at (blank n) 3 m j l ∙ zero-at n (3 + j)
+        back_inside (blank n) part 3 m inside size j l ∙ kept j (omega arith) ∙ part_at (blank n) 3 m j l ∙ zero_at n (3 + j)
         ∙ sym (ap (λ t. 2 * t) (get_or-eq_default a 0 (omega arith)))
     go j (no l) _ =
-        back-after (blank n) part 3 m inside size (3 + j) (omega arith) ∙ zero-at n (3 + j)
+        back_after (blank n) part 3 m inside size (3 + j) (omega arith) ∙ zero_at n (3 + j)
         ∙ sym (ap (λ t. 2 * t) (get_or-eq_default a 0 (omega arith)))
 
 -- four words a turn, as long as the square of what is left reaches one of the m sums

@@ -4,11 +4,11 @@ use Rattle.std.specs.Prelude.{◌≡◌, refl, ◌≢◌, List, ◌++◌, ℕ, �
 use Rattle.std.proofs.Common.{sym, ◌∙◌, ap, ap₂, subst, not-suc-le-zero, mul-le-mul, arith, length-set, get_or-set_same, get_or-set_other}
 use Rattle.std.proofs.Math.Decide.{dec_lt}
 use Rattle.slices.specs.Filling.{Filled, filled_more, kept_more}
-use Rattle.slices.specs.Stored.{part_at, back-before, back_inside, back-after}
+use Rattle.slices.specs.Stored.{part_at, back_before, back_inside, back_after}
 
 -- word j of out and of each of four rows, times w, x, y and z
-abbrev pub four-more : List ℕ → List ℕ → List ℕ → List ℕ → List ℕ → ℕ → ℕ → ℕ → ℕ → ℕ → ℕ
-four-more out a b c d w x y z j = get_or out j 0 + w * get_or a j 0 + x * get_or b j 0 + y * get_or c j 0 + z * get_or d j 0
+abbrev pub four_more : List ℕ → List ℕ → List ℕ → List ℕ → List ℕ → ℕ → ℕ → ℕ → ℕ → ℕ → ℕ
+four_more out a b c d w x y z j = get_or out j 0 + w * get_or a j 0 + x * get_or b j 0 + y * get_or c j 0 + z * get_or d j 0
 
 -- a sum s and the words of e that stand before j + 4
 abbrev pub row_more : ℕ → List ℕ → ℕ → ℕ → ℕ → ℕ → ℕ → ℕ
@@ -21,8 +21,8 @@ pub record RowsAdded (acc₀ e : List ℕ) (at len w x y z : ℕ) (acc : List �
   pub after : (k : ℕ) → at + len ≤ k → get_or acc k 0 ≡ get_or acc₀ k 0
 
 -- no factor above q and no word of a row above f
-pub row-le : (q f s : ℕ) (e : List ℕ) (j w x y z : ℕ) → w ≤ q → x ≤ q → y ≤ q → z ≤ q → ((u : ℕ) → get_or e u 0 ≤ f) → row_more s e j w x y z ≤ s + 4 * (q * f)
-row-le q f s e j w x y z hw hx hy hz small =
+pub row_le : (q f s : ℕ) (e : List ℕ) (j w x y z : ℕ) → w ≤ q → x ≤ q → y ≤ q → z ≤ q → ((u : ℕ) → get_or e u 0 ≤ f) → row_more s e j w x y z ≤ s + 4 * (q * f)
+row_le q f s e j w x y z hw hx hy hz small =
     omega (
       arith,
       mul-le-mul {n₁ = w} {m₁ = get_or e (3 + j) 0} hw (small (3 + j)),
@@ -31,9 +31,9 @@ row-le q f s e j w x y z hw hx hy hz small =
       mul-le-mul {n₁ = z} {m₁ = get_or e j 0} hz (small j),
     )
 
-pub added-le : (q f : ℕ) (acc₀ e : List ℕ) (at len w x y z : ℕ) (acc : List ℕ) → RowsAdded acc₀ e at len w x y z acc
+pub added_le : (q f : ℕ) (acc₀ e : List ℕ) (at len w x y z : ℕ) (acc : List ℕ) → RowsAdded acc₀ e at len w x y z acc
     → w ≤ q → x ≤ q → y ≤ q → z ≤ q → ((u : ℕ) → get_or e u 0 ≤ f) → (k : ℕ) → get_or acc k 0 ≤ get_or acc₀ k 0 + 4 * (q * f)
-added-le q f acc₀ e at len w x y z acc h hw hx hy hz small k = go (dec_lt k at) (dec_lt k (at + len))
+added_le q f acc₀ e at len w x y z acc h hw hx hy hz small k = go (dec_lt k at) (dec_lt k (at + len))
   where
     go : Dec (k < at) → Dec (k < at + len) → get_or acc k 0 ≤ get_or acc₀ k 0 + 4 * (q * f)
     go (yes l) _ = omega (arith, h.before k l)
@@ -41,12 +41,12 @@ added-le q f acc₀ e at len w x y z acc h hw hx hy hz small k = go (dec_lt k at
     go (no l) (yes m) =
         let e' : at + (k - at) ≡ k = omega arith in
         subst (λ t. get_or acc t 0 ≤ get_or acc₀ t 0 + 4 * (q * f)) e'
-        (omega (arith, h.inside (k - at) (omega arith), row-le q f (get_or acc₀ (at + (k - at)) 0) e (k - at) w x y z hw hx hy hz small))
+        (omega (arith, h.inside (k - at) (omega arith), row_le q f (get_or acc₀ (at + (k - at)) 0) e (k - at) w x y z hw hx hy hz small))
 
 -- the four rows as parts of e, and the sums as a part of acc, m words of it
 module _ (acc e : List ℕ) (at len m w x y z : ℕ) (whole : m ≡ len) (long : len + 3 ≤ length e) where
   abbrev pub rows_at : ℕ → ℕ
-  rows_at = four-more (take m (drop at acc)) (take (length e - 3) (drop 3 e)) (take (length e - 2) (drop 2 e)) (take (length e - 1) (drop 1 e)) e w x y z
+  rows_at = four_more (take m (drop at acc)) (take (length e - 3) (drop 3 e)) (take (length e - 2) (drop 2 e)) (take (length e - 1) (drop 1 e)) e w x y z
 
   pub rows_are : (j : ℕ) → j < len → rows_at j ≡ row_more (get_or acc (at + j) 0) e j w x y z
   rows_are j l =
@@ -56,12 +56,12 @@ module _ (acc e : List ℕ) (at len m w x y z : ℕ) (whole : m ≡ len) (long :
       let third : get_or (take (length e - 1) (drop 1 e)) j 0 ≡ get_or e (1 + j) 0 = part_at e 1 (length e - 1) j (omega arith) in
       ap (λ n. n + z * get_or e j 0) (ap₂ ◌+◌ (ap₂ ◌+◌ (ap₂ ◌+◌ s (ap (◌*◌ w) first)) (ap (◌*◌ x) second)) (ap (◌*◌ y) third))
 
-  pub rows-added : (part : List ℕ) → at + len ≤ length acc → length part ≡ m → Filled (λ j v. v ≡ rows_at j) part m
+  pub rows_added : (part : List ℕ) → at + len ≤ length acc → length part ≡ m → Filled (λ j v. v ≡ rows_at j) part m
       → RowsAdded acc e at len w x y z (take at acc ++ (part ++ drop m (drop at acc)))
-  rows-added part inside size all = record {
+  rows_added part inside size all = record {
     inside = λ j l. back_inside acc part at m (omega arith) size j (omega arith) ∙ all j (omega arith) ∙ rows_are j l;
-    before = λ k l. back-before acc part at m (omega arith) size k l;
-    after = λ k l. back-after acc part at m (omega arith) size k (omega arith);
+    before = λ k l. back_before acc part at m (omega arith) size k l;
+    after = λ k l. back_after acc part at m (omega arith) size k (omega arith);
   }
 
 -- xs is xs₀ with four words put in from `at` on
@@ -105,11 +105,11 @@ pub record Twice (a xs₀ xs : List ℕ) (k : ℕ) : Type 0 where
   pub doubled : (j : ℕ) → j < k → get_or xs j 0 ≡ 2 * get_or a j 0
   pub kept : (j : ℕ) → k ≤ j → get_or xs j 0 ≡ get_or xs₀ j 0
 
-pub twice-none : (a xs : List ℕ) → Twice a xs xs 0
-twice-none a xs = record { doubled = λ j l. absurd (not-suc-le-zero l); kept = λ j l. refl }
+pub twice_none : (a xs : List ℕ) → Twice a xs xs 0
+twice_none a xs = record { doubled = λ j l. absurd (not-suc-le-zero l); kept = λ j l. refl }
 
-pub twice-more : (a xs₀ xs : List ℕ) (k v : ℕ) → k < length xs → v ≡ 2 * get_or a k 0 → Twice a xs₀ xs k → Twice a xs₀ (set xs k v) (k + 1)
-twice-more a xs₀ xs k v inside e h = record {
+pub twice_more : (a xs₀ xs : List ℕ) (k v : ℕ) → k < length xs → v ≡ 2 * get_or a k 0 → Twice a xs₀ xs k → Twice a xs₀ (set xs k v) (k + 1)
+twice_more a xs₀ xs k v inside e h = record {
   doubled = filled_more (λ j w. w ≡ 2 * get_or a j 0) xs k v inside h.doubled e;
   kept = kept_more xs₀ xs k v h.kept;
 }
@@ -123,5 +123,5 @@ module _ (a : List ℕ) (i w x y z : ℕ) (first : w ≡ get_or a i 0) (second :
   pub of_words : P w x y z → P (get_or a i 0) (get_or a (1 + i) 0) (get_or a (2 + i) 0) (get_or a (3 + i) 0)
   of_words h = subst (λ T. T) same h
 
-  pub to-words : P (get_or a i 0) (get_or a (1 + i) 0) (get_or a (2 + i) 0) (get_or a (3 + i) 0) → P w x y z
-  to-words h = subst (λ T. T) (sym same) h
+  pub to_words : P (get_or a i 0) (get_or a (1 + i) 0) (get_or a (2 + i) 0) (get_or a (3 + i) 0) → P w x y z
+  to_words h = subst (λ T. T) (sym same) h

@@ -7,14 +7,14 @@ use Rattle.std.proofs.Math.Nat as N
 use Rattle.std.proofs.Math.Decide.{dec_lt}
 use Rattle.ring.specs.Ring
 use Rattle.series.specs.Series.{Seq, conv}
-use Rattle.slices.specs.Stored.{part-below}
-use Rattle.zmod.specs.Zmod.{Zmod, mk, plus, mk-add, plus-zero, plus_assoc}
-use Rattle.zmod.specs.Residues.{poly, poly-at, poly-below, Reduced}
-use Rattle.rows.specs.Rows.{row_more, row-le, RowsAdded, added-le}
-use Rattle.rows.specs.Room.{Held, held-past, held-le, blank, zero-at, turns}
-use Rattle.rows.specs.Block.{upper, upper-low, upper-high, upper-none, upper-square, block, square-step}
+use Rattle.slices.specs.Stored.{part_below}
+use Rattle.zmod.specs.Zmod.{Zmod, mk, plus, mk_add, plus_zero, plus_assoc}
+use Rattle.zmod.specs.Residues.{poly, poly_at, poly_below, Reduced}
+use Rattle.rows.specs.Rows.{row_more, row_le, RowsAdded, added_le}
+use Rattle.rows.specs.Room.{Held, held_past, held_le, blank, zero_at, turns}
+use Rattle.rows.specs.Block.{upper, upper_low, upper_high, upper_none, upper_square, block, square_step}
 use Rattle.rows.specs.Sums.{ProductSums, products_low}
-use Rattle.rows.specs.Turn.{turn-classes}
+use Rattle.rows.specs.Turn.{turn_classes}
 
 -- the square of the terms of a from i on
 abbrev pub rest : (p : ℕ) → List ℕ → ℕ → Seq (Zmod p)
@@ -32,14 +32,14 @@ module _ (p : ℕ) (a e acc : List ℕ) (i len : ℕ) (here : i < length a) (h :
   small : (j : ℕ) → get_or a j 0 ≤ p - 1
   small j = omega (arith, low j)
 
-  part-le : (u : ℕ) → get_or part u 0 ≤ 2 * (p - 1)
-  part-le u = omega (arith, part-below e i (length e - i) (2 * (p - 1) + 1) (omega arith) (λ j. omega (arith, held-le a e i (p - 1) h small j)) u)
+  part_le : (u : ℕ) → get_or part u 0 ≤ 2 * (p - 1)
+  part_le u = omega (arith, part_below e i (length e - i) (2 * (p - 1) + 1) (omega arith) (λ j. omega (arith, held_le a e i (p - 1) h small j)) u)
 
-  pub turn-fits : (s j : ℕ) → row_more s part j (get_or a i 0) (get_or a (1 + i) 0) (get_or a (2 + i) 0) (get_or a (3 + i) 0) ≤ s + 8 * ((p - 1) * (p - 1))
-  turn-fits s j =
+  pub turn_fits : (s j : ℕ) → row_more s part j (get_or a i 0) (get_or a (1 + i) 0) (get_or a (2 + i) 0) (get_or a (3 + i) 0) ≤ s + 8 * ((p - 1) * (p - 1))
+  turn_fits s j =
       omega (
         arith,
-        row-le (p - 1) (2 * (p - 1)) s part j _ _ _ _ (small i) (small (1 + i)) (small (2 + i)) (small (3 + i)) part-le,
+        row_le (p - 1) (2 * (p - 1)) s part j _ _ _ _ (small i) (small (1 + i)) (small (2 + i)) (small (3 + i)) part_le,
         N.mul_left_comm (p - 1) 2 (p - 1),
       )
 
@@ -50,31 +50,31 @@ module _ (p : ℕ) (a e acc : List ℕ) (i len : ℕ) (here : i < length a) (h :
       go : Dec (j < i) → Dec (j < 4 + i) → mk p (get_or e (3 + j) 0) ≡ plus p (upper (Zmod p) i (poly p a) j) (upper (Zmod p) (4 + i) (poly p a) j)
       go (yes l) _ =
           ap (mk p) (h.low (3 + j) (omega arith))
-          ∙ sym (ap₂ (plus p) (upper-low (Zmod p) i (poly p a) j l) (upper-low (Zmod p) (4 + i) (poly p a) j (omega arith)) ∙ plus-zero p (mk p 0))
+          ∙ sym (ap₂ (plus p) (upper_low (Zmod p) i (poly p a) j l) (upper_low (Zmod p) (4 + i) (poly p a) j (omega arith)) ∙ plus_zero p (mk p 0))
       go (no l) (yes m) =
-          ap (mk p) (h.once j (omega arith) m) ∙ sym (poly-at p a j)
-          ∙ sym (ap₂ (plus p) (upper-high (Zmod p) i (poly p a) j (omega arith)) (upper-low (Zmod p) (4 + i) (poly p a) j m) ∙ plus-zero p _)
+          ap (mk p) (h.once j (omega arith) m) ∙ sym (poly_at p a j)
+          ∙ sym (ap₂ (plus p) (upper_high (Zmod p) i (poly p a) j (omega arith)) (upper_low (Zmod p) (4 + i) (poly p a) j m) ∙ plus_zero p _)
       go (no l) (no m) =
-          ap (mk p) (h.twice j (omega arith) ∙ omega arith) ∙ mk-add p (get_or a j 0) (get_or a j 0) ∙ ap₂ (plus p) (sym (poly-at p a j)) (sym (poly-at p a j))
-          ∙ sym (ap₂ (plus p) (upper-high (Zmod p) i (poly p a) j (omega arith)) (upper-high (Zmod p) (4 + i) (poly p a) j (omega arith)))
+          ap (mk p) (h.twice j (omega arith) ∙ omega arith) ∙ mk_add p (get_or a j 0) (get_or a j 0) ∙ ap₂ (plus p) (sym (poly_at p a j)) (sym (poly_at p a j))
+          ∙ sym (ap₂ (plus p) (upper_high (Zmod p) i (poly p a) j (omega arith)) (upper_high (Zmod p) (4 + i) (poly p a) j (omega arith)))
 
   pub turned : (acc' : List ℕ) → i + len + 3 ≤ length e → len ≡ min (length a - i + 3) (length acc - (i + i))
       → RowsAdded acc part (i + i) len (get_or a i 0) (get_or a (1 + i) 0) (get_or a (2 + i) 0) (get_or a (3 + i) 0) acc' → Turned p a i acc acc'
   turned acc' long size added = record {
     classes = λ k l.
-        ap (λ t. plus p t (rest p a (4 + i) k)) (turn-classes p a e acc acc' i i len h.low past long added k l
+        ap (λ t. plus p t (rest p a (4 + i) k)) (turn_classes p a e acc acc' i i len h.low past long added k l
         ∙ ap (λ f. plus p (poly p acc k) (conv (Zmod p) (block (Zmod p) i (poly p a)) f k)) (fun_ext holds))
-        ∙ plus_assoc p _ _ _ ∙ ap (plus p (poly p acc k)) (sym (square-step (Zmod p) i (poly p a) k));
+        ∙ plus_assoc p _ _ _ ∙ ap (plus p (poly p acc k)) (sym (square_step (Zmod p) i (poly p a) k));
     bounded = λ k.
         omega (
           arith,
-          added-le (p - 1) (2 * (p - 1)) acc part (i + i) len _ _ _ _ acc' added (small i) (small (1 + i)) (small (2 + i)) (small (3 + i)) part-le k,
+          added_le (p - 1) (2 * (p - 1)) acc part (i + i) len _ _ _ _ acc' added (small i) (small (1 + i)) (small (2 + i)) (small (3 + i)) part_le k,
           N.mul_left_comm (p - 1) 2 (p - 1),
         );
   }
     where
       past : (k : ℕ) → i + i + len ≤ k → k < length acc → (u : ℕ) → k - i ≤ u → get_or e u 0 ≡ 0
-      past k l m u g = held-past a e i h (omega arith) u (omega arith)
+      past k l m u g = held_past a e i h (omega arith) u (omega arith)
 
 -- ── all turns
 
@@ -86,12 +86,12 @@ pub record Added (p : ℕ) (a : List ℕ) (i : ℕ) (acc : List ℕ) : Type 0 wh
 module _ (p : ℕ) (a : List ℕ) where
   pub added_none : (acc : List ℕ) (n : ℕ) → acc ≡ blank n → Added p a 0 acc
   added_none acc n e = record {
-    classes = λ k l. ap (λ t. plus p t (rest p a 0 k)) (poly-at p acc k ∙ ap (mk p) (zero k)) ∙ Ring.zero-add (Zmod p) _;
+    classes = λ k l. ap (λ t. plus p t (rest p a 0 k)) (poly_at p acc k ∙ ap (mk p) (zero k)) ∙ Ring.zero-add (Zmod p) _;
     bounded = λ k. omega (arith, zero k);
   }
     where
       zero : (k : ℕ) → get_or acc k 0 ≡ 0
-      zero k = ap (λ l. get_or l k 0) e ∙ zero-at n k
+      zero k = ap (λ l. get_or l k 0) e ∙ zero_at n k
 
   pub added_more : (i : ℕ) (acc acc' : List ℕ) → length acc' ≡ length acc → Added p a i acc → Turned p a i acc acc' → Added p a (i + 4) acc'
   added_more i acc acc' size h t = record {
@@ -104,11 +104,11 @@ module _ (p : ℕ) (a : List ℕ) where
   few i c acc le h k = N.le_trans (h.bounded k) (N.mul-le-mul_right ((p - 1) * (p - 1)) le)
 
   -- there is room for one turn more
-  pub turn-counts : (i n m : ℕ) → i % 4 ≡ 0 → i < n → i + i < m → 2 * (i + 4) ≤ 8 * turns n m
-  turn-counts i n m four here below = omega arith
+  pub turn_counts : (i n m : ℕ) → i % 4 ≡ 0 → i < n → i + i < m → 2 * (i + 4) ≤ 8 * turns n m
+  turn_counts i n m four here below = omega arith
 
-  pub turn-room : (i c : ℕ) → 2 * (i + 4) ≤ c → c * p ≤ 2 ^ 36 → 2 * (i + 4) * p ≤ 2 ^ 36
-  turn-room i c le fits = N.le_trans (N.mul-le-mul_right p le) fits
+  pub turn_room : (i c : ℕ) → 2 * (i + 4) ≤ c → c * p ≤ 2 ^ 36 → 2 * (i + 4) * p ≤ 2 ^ 36
+  turn_room i c le fits = N.le_trans (N.mul-le-mul_right p le) fits
 
   pub turn_below : (i k : ℕ) (acc : List ℕ) → 0 < p → p ≤ 2 ^ 28 → 2 * (i + 4) * p ≤ 2 ^ 36 → Added p a i acc
       → get_or acc k 0 + 8 * ((p - 1) * (p - 1)) < 2 ^ 64
@@ -124,16 +124,16 @@ module _ (p : ℕ) (a : List ℕ) where
   whole k = refl
 
   -- at the end of a, and at the end of the sums: no more products than the turns have
-  pub added-all : (i c : ℕ) (acc : List ℕ) → 2 * i ≤ c → length a ≤ i → Added p a i acc → ProductSums c p (conv (Zmod p) (poly p a) (poly p a)) acc
-  added-all i c acc le end h = record {
+  pub added_all : (i c : ℕ) (acc : List ℕ) → 2 * i ≤ c → length a ≤ i → Added p a i acc → ProductSums c p (conv (Zmod p) (poly p a) (poly p a)) acc
+  added_all i c acc le end h = record {
     few = few i c acc le h;
     classes = λ k l.
-        sym (plus-zero p _) ∙ ap (plus p (poly p acc k)) (sym (upper-none (Zmod p) i (poly p a) _ (poly-below p a i end) k)) ∙ h.classes k l ∙ whole k;
+        sym (plus_zero p _) ∙ ap (plus p (poly p acc k)) (sym (upper_none (Zmod p) i (poly p a) _ (poly_below p a i end) k)) ∙ h.classes k l ∙ whole k;
   }
 
-  pub added-end : (i c : ℕ) (acc : List ℕ) → 2 * i ≤ c → length acc ≤ i + i → Added p a i acc → ProductSums c p (conv (Zmod p) (poly p a) (poly p a)) acc
-  added-end i c acc le end h = record {
+  pub added_end : (i c : ℕ) (acc : List ℕ) → 2 * i ≤ c → length acc ≤ i + i → Added p a i acc → ProductSums c p (conv (Zmod p) (poly p a) (poly p a)) acc
+  added_end i c acc le end h = record {
     few = few i c acc le h;
     classes = λ k l.
-        sym (plus-zero p _) ∙ ap (plus p (poly p acc k)) (sym (upper-square (Zmod p) i (poly p a) k (omega arith))) ∙ h.classes k l ∙ whole k;
+        sym (plus_zero p _) ∙ ap (plus p (poly p acc k)) (sym (upper_square (Zmod p) i (poly p a) k (omega arith))) ∙ h.classes k l ∙ whole k;
   }

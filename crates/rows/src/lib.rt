@@ -5,7 +5,7 @@ ghost use Rattle.slices.specs.Filling.{Filled};
 ghost use Rattle.series.specs.Series.{conv, sums};
 ghost use Rattle.zmod.specs.Zmod.{Zmod};
 ghost use Rattle.zmod.specs.Residues.{Reduced, poly};
-ghost use Rattle.rows.specs.Rows.{four-more, row_more, RowsAdded, Four, Twice};
+ghost use Rattle.rows.specs.Rows.{four_more, row_more, RowsAdded, Four, Twice};
 ghost use Rattle.rows.specs.Room.{Above, turns};
 ghost use Rattle.rows.specs.Square.{Turned};
 ghost use Rattle.rows.specs.Sums.{Sums, ProductSums};
@@ -39,8 +39,8 @@ pub fn four(
         × (length out.old ≤ length c.now) × (length out.old ≤ length d.now) }
     requires reduced { (Reduced (2 ^ 32) a.now) × (Reduced (2 ^ 32) b.now) × (Reduced (2 ^ 32) c.now) × (Reduced (2 ^ 32) d.now) }
     requires w_bound { (w < 2 ^ 32) × (x < 2 ^ 32) × (y < 2 ^ 32) × (z < 2 ^ 32) }
-    requires by_index { (j : ℕ) → j < length out.old → four-more out.old a.now b.now c.now d.now w x y z j < 2 ^ 64 }
-    ensures { Filled (λ j v. v ≡ four-more out.old a.now b.now c.now d.now w x y z j)
+    requires by_index { (j : ℕ) → j < length out.old → four_more out.old a.now b.now c.now d.now w x y z j < 2 ^ 64 }
+    ensures { Filled (λ j v. v ≡ four_more out.old a.now b.now c.now d.now w x y z j)
         out.new (length out.old) }
 {
     let mut j = 0;

@@ -15,9 +15,9 @@ pub record Over (v : Values) (m : Modulus) : Type 0 where
 
 -- residues and squares over the one are residues and squares over the other
 module _ {v : Values} {m : Modulus} (o : Over v m) where
-  pub over-reduced : (xs : List ℕ) → Reduced v.p xs → Reduced m.p xs
-  over-reduced xs = subst (λ p. Reduced p xs) (sym o.same)
+  pub over_reduced : (xs : List ℕ) → Reduced v.p xs → Reduced m.p xs
+  over_reduced xs = subst (λ p. Reduced p xs) (sym o.same)
 
-  pub over-square : (a xs : List ℕ) → Residues m.p (conv (Zmod m.p) (poly m.p a) (poly m.p a)) xs
+  pub over_square : (a xs : List ℕ) → Residues m.p (conv (Zmod m.p) (poly m.p a) (poly m.p a)) xs
       → Residues v.p (conv (Zmod v.p) (poly v.p a) (poly v.p a)) xs
-  over-square a xs = subst (λ p. Residues p (conv (Zmod p) (poly p a) (poly p a)) xs) o.same
+  over_square a xs = subst (λ p. Residues p (conv (Zmod p) (poly p a) (poly p a)) xs) o.same

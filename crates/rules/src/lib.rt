@@ -4,10 +4,10 @@ ghost use Rattle.std.specs.Prelude.{◌≡◌, ◌↔◌, true, ◌+◌, ◌-◌
 ghost use Rattle.series.specs.Series.{Seq, conv, negs, ∂};
 ghost use Rattle.zmod.specs.Zmod.{Zmod, mk, minus, times};
 ghost use Rattle.zmod.specs.Residues.{Residue, Reduced, poly, Residues};
-ghost use Rattle.isogeny.specs.Rules.{N, linear-part, first-logarithmic-part, second-logarithmic-part, R1};
+ghost use Rattle.isogeny.specs.Rules.{N, linear_part_of, first_logarithmic_part_of, second_logarithmic_part_of, R1};
 ghost use Rattle.sheet.specs.Values.{half, question};
 ghost use Rattle.sheet.specs.Ready.{Ready, HoldsG};
-ghost use Rattle.rules.specs.Numerator.{minus-slope, minus-bend, bend-from};
+ghost use Rattle.rules.specs.Numerator.{minus_slope, minus_bend, bend_from};
 ghost use Rattle.rules.specs.Products.{Products};
 
 use sheet::Values;
@@ -67,7 +67,7 @@ pub fn slope_of(s: &[u32], out: &mut [u32], p: u32)
 // The coefficient i of 2s' + 8t.
 fn bend_coefficient(s: &[u32], t: &[u32], i: usize, p: u32) -> u32
     requires { (0 < p) × (p ≤ 2 ^ 28) × (Reduced p s.now) × (Reduced p t.now) × (i < 2 ^ 16) }
-    ensures { Residue p (bend-from (Zmod p) (poly p s.now) (poly p t.now) i) result }
+    ensures { Residue p (bend_from (Zmod p) (poly p s.now) (poly p t.now) i) result }
 {
     let n = (i as u32) + 1;
     let above = poly::word(s, i + 1);
@@ -80,7 +80,7 @@ fn bend_coefficient(s: &[u32], t: &[u32], i: usize, p: u32) -> u32
 // out = 2s' + 8t
 pub fn bend_of(s: &[u32], t: &[u32], out: &mut [u32], p: u32)
     requires { (0 < p) × (p ≤ 2 ^ 28) × (Reduced p s.now) × (Reduced p t.now) × (length out.old ≤ 255) }
-    ensures { Residues p (bend-from (Zmod p) (poly p s.now) (poly p t.now)) out.new }
+    ensures { Residues p (bend_from (Zmod p) (poly p s.now) (poly p t.now)) out.new }
 {
     let mut i = 0;
     while i < out.len() {
@@ -100,7 +100,7 @@ fn back(a: &[u32], j: usize, k: usize) -> u32
 pub fn linear_part(v: Values, square: &[u32], k: usize) -> u64
     requires { (Ready v) × (Reduced v.p square.now) }
     ensures result_value { (g : Seq (Zmod v.p)) → poly v.p square.now ≡ conv (Zmod v.p) g g
-        → mk v.p result ≡ linear-part (Zmod v.p) (question v) g k }
+        → mk v.p result ≡ linear_part_of (Zmod v.p) (question v) g k }
     ensures upper_bound { result < 2 ^ 62 }
 {
     let minus_sigma = field::negate(v.sigma, v.p);
@@ -117,8 +117,8 @@ pub fn linear_part(v: Values, square: &[u32], k: usize) -> u64
 // The part of D'/D: the same of -2(3x² + A)gg', from -2gg'.
 pub fn first_logarithmic_part(v: Values, slope: &[u32], k: usize) -> u64
     requires { (Ready v) × (Reduced v.p slope.now) }
-    ensures result_value { (g : Seq (Zmod v.p)) → poly v.p slope.now ≡ minus-slope (Zmod v.p) g
-        → mk v.p result ≡ first-logarithmic-part (Zmod v.p) (question v) g k }
+    ensures result_value { (g : Seq (Zmod v.p)) → poly v.p slope.now ≡ minus_slope (Zmod v.p) g
+        → mk v.p result ≡ first_logarithmic_part_of (Zmod v.p) (question v) g k }
     ensures upper_bound { result < 2 ^ 62 }
 {
     field::combination(3, back(slope, 2, k), v.a, poly::word(slope, k), 0, 0)
@@ -127,8 +127,8 @@ pub fn first_logarithmic_part(v: Values, slope: &[u32], k: usize) -> u64
 // The part of (D'/D)': the same of -4f(gg'' - g'²), from -4(gg'' - g'²).
 pub fn second_logarithmic_part(v: Values, bend: &[u32], k: usize) -> u64
     requires { (Ready v) × (Reduced v.p bend.now) }
-    ensures result_value { (g : Seq (Zmod v.p)) → poly v.p bend.now ≡ minus-bend (Zmod v.p) g
-        → mk v.p result ≡ second-logarithmic-part (Zmod v.p) (question v) g k }
+    ensures result_value { (g : Seq (Zmod v.p)) → poly v.p bend.now ≡ minus_bend (Zmod v.p) g
+        → mk v.p result ≡ second_logarithmic_part_of (Zmod v.p) (question v) g k }
     ensures upper_bound { result < 2 ^ 62 }
 {
     field::combination(

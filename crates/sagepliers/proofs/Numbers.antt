@@ -10,11 +10,11 @@ use denote.Enum.Declared.{tag_of}
 use Rattle.promises.specs.contracts.Image as declared
 use Rattle.promises.specs.declared.Image.{Image}
 use Rattle.promises.specs.declared.Image.TheVariants.{Affine, Infinity, Refused}
-use Rattle.promises.specs.Outcome.{imageNumber}
+use Rattle.promises.specs.Outcome.{image_number}
 
-pub last-is-infinity : (i : Image) → OneOf (1 ∷ 2 ∷ []) (tag_of declared.the_type i) → OneOf (0 ∷ 1 ∷ []) (tag_of declared.the_type i) → 2 ^ 56 ≡ imageNumber i
-last-is-infinity (Affine u v) (inl e) h = absurd (omega (arith, e))
-last-is-infinity (Affine u v) (inr e) h = absurd (omega (arith, e))
-last-is-infinity Infinity h k = refl
-last-is-infinity (Refused n) h (inl e) = absurd (omega (arith, e))
-last-is-infinity (Refused n) h (inr e) = absurd (omega (arith, e))
+pub last_is_infinity : (i : Image) → OneOf (1 ∷ 2 ∷ []) (tag_of declared.the_type i) → OneOf (0 ∷ 1 ∷ []) (tag_of declared.the_type i) → 2 ^ 56 ≡ image_number i
+last_is_infinity (Affine u v) (inl e) h = absurd (omega (arith, e))
+last_is_infinity (Affine u v) (inr e) h = absurd (omega (arith, e))
+last_is_infinity Infinity h k = refl
+last_is_infinity (Refused n) h (inl e) = absurd (omega (arith, e))
+last_is_infinity (Refused n) h (inr e) = absurd (omega (arith, e))

@@ -6,15 +6,15 @@ use Rattle.questions.specs.Questions.{Questions}
 use Rattle.questions.specs.Answers.{Answers, Writes}
 use Rattle.sheet.specs.declared.Form.TheVariants.{Question, Certificate, Kernel}
 use Rattle.sheet.specs.Word.{word_at, words_of}
-use Rattle.sheet.specs.Values.{valuesOf, gOf, n_of}
+use Rattle.sheet.specs.Values.{values_of, gOf, n_of}
 use Rattle.sheet.specs.Asked.{asked}
 use Rattle.promises.specs.declared.Verdict.{Verdict}
 use Rattle.promises.specs.declared.Written.{Written}
 use Rattle.promises.specs.declared.Image.{Image}
 use Rattle.promises.specs.declared.Image.TheVariants as image
 use Rattle.promises.specs.declared.Named.{Named}
-use Rattle.promises.specs.Outcome.{verdictOutcome, writtenOutcome, imageOutcome, verdictNumber, writtenNumber, imageNumber, nameNumber}
-use Rattle.promises.specs.Asked.{Room, check-asks, Solvable, last-ask, Given}
+use Rattle.promises.specs.Outcome.{verdict_outcome, written_outcome, image_outcome, verdict_number, written_number, image_number, name_number}
+use Rattle.promises.specs.Asked.{Room, check_asks, Solvable, last_ask, Given}
 use Rattle.encoding.specs.Encoding.{point_of}
 use Rattle.promises.specs.Answer.{Goes, CertificateIn, KernelIn, SolveRight, KernelRight, ComposeRight, NameRight}
 
@@ -24,31 +24,31 @@ WholeWords bytes = length bytes % 4 ≡ 0
 
 -- ── check
 
-abbrev pub bytes-ask : List ℕ → Questions
-bytes-ask bytes = (2, WholeWords bytes) ∷ check-asks (words_of bytes)
+abbrev pub bytes_ask : List ℕ → Questions
+bytes_ask bytes = (2, WholeWords bytes) ∷ check_asks (words_of bytes)
 
 abbrev pub CheckAnswer : List ℕ → Verdict → Type 0
-CheckAnswer bytes r = Answers (bytes-ask bytes) (λ _. Unit {0}) (verdictOutcome r)
+CheckAnswer bytes r = Answers (bytes_ask bytes) (λ _. Unit {0}) (verdict_outcome r)
 
 pub record CheckNumber (bytes : List ℕ) (r : ℕ) : Type 0 where
   pub answer : Verdict
   pub right : CheckAnswer bytes answer
-  pub number : r ≡ verdictNumber answer
+  pub number : r ≡ verdict_number answer
 
 -- ── push: 12 also asks that the point's number is at most 2^56
 
-abbrev pub push-number-asks : List ℕ → ℕ → Questions
-push-number-asks bytes k = bytes-ask bytes ++ (12, ((k ≤ 2 ^ 56) × Given (valuesOf Certificate (words_of bytes)) (point_of k))) ∷ []
+abbrev pub push_number_asks : List ℕ → ℕ → Questions
+push_number_asks bytes k = bytes_ask bytes ++ (12, ((k ≤ 2 ^ 56) × Given (values_of Certificate (words_of bytes)) (point_of k))) ∷ []
 
 abbrev pub PushAnswer : List ℕ → ℕ → Image → Type 0
 PushAnswer bytes k r =
-    Answers (push-number-asks bytes k)
-    (Goes (valuesOf Certificate (words_of bytes)) (gOf Certificate (words_of bytes)) (n_of Certificate (words_of bytes)) (point_of k)) (imageOutcome r)
+    Answers (push_number_asks bytes k)
+    (Goes (values_of Certificate (words_of bytes)) (gOf Certificate (words_of bytes)) (n_of Certificate (words_of bytes)) (point_of k)) (image_outcome r)
 
 pub record PushNumber (bytes : List ℕ) (k r : ℕ) : Type 0 where
   pub answer : Image
   pub right : PushAnswer bytes k answer
-  pub number : r ≡ imageNumber answer
+  pub number : r ≡ image_number answer
 
 -- ── the input of the push program: the point's number in eight bytes, the lowest first, then the certificate; fewer bytes have no word of one
 
@@ -61,39 +61,39 @@ pub record PushInput (bytes : List ℕ) (answer : Image) : Type 0 where
 pub record SolveNumber (ws before after : List ℕ) (r : ℕ) : Type 0 where
   pub answer : Written
   pub right : SolveRight ws before after answer
-  pub number : r ≡ writtenNumber answer
+  pub number : r ≡ written_number answer
 
 pub record KernelNumber (ws before after : List ℕ) (r : ℕ) : Type 0 where
   pub answer : Written
   pub right : KernelRight ws before after answer
-  pub number : r ≡ writtenNumber answer
+  pub number : r ≡ written_number answer
 
 pub record ComposeNumber (first second before after : List ℕ) (r : ℕ) : Type 0 where
   pub answer : Written
   pub right : ComposeRight first second before after answer
-  pub number : r ≡ writtenNumber answer
+  pub number : r ≡ written_number answer
 
 pub record NameNumber (p a b r : ℕ) : Type 0 where
   pub answer : Named
   pub right : NameRight p a b answer
-  pub number : r ≡ nameNumber answer
+  pub number : r ≡ name_number answer
 
 -- ── solve and kernel on bytes: question 2 also asks for whole words
 
-abbrev pub solve-bytes-ask : List ℕ → ℕ → Questions
-solve-bytes-ask bytes room =
-    (1, Room room) ∷ (2, WholeWords bytes) ∷ asked Question (words_of bytes) ++ (11, Solvable (valuesOf Question (words_of bytes))) ∷ []
+abbrev pub solve_bytes_ask : List ℕ → ℕ → Questions
+solve_bytes_ask bytes room =
+    (1, Room room) ∷ (2, WholeWords bytes) ∷ asked Question (words_of bytes) ++ (11, Solvable (values_of Question (words_of bytes))) ∷ []
 
 abbrev pub SolveAnswer : List ℕ → List ℕ → List ℕ → Written → Type 0
 SolveAnswer bytes before after r =
-    Writes (solve-bytes-ask bytes (length before)) (λ count after. CertificateIn (valuesOf Question (words_of bytes)) before after count) before after
-    (writtenOutcome r)
+    Writes (solve_bytes_ask bytes (length before)) (λ count after. CertificateIn (values_of Question (words_of bytes)) before after count) before after
+    (written_outcome r)
 
-abbrev pub kernel-bytes-ask : List ℕ → ℕ → Questions
-kernel-bytes-ask bytes room =
-    (1, Room room) ∷ (2, WholeWords bytes) ∷ asked Kernel (words_of bytes) ++ last-ask (valuesOf Kernel (words_of bytes)) (gOf Kernel (words_of bytes))
+abbrev pub kernel_bytes_ask : List ℕ → ℕ → Questions
+kernel_bytes_ask bytes room =
+    (1, Room room) ∷ (2, WholeWords bytes) ∷ asked Kernel (words_of bytes) ++ last_ask (values_of Kernel (words_of bytes)) (gOf Kernel (words_of bytes))
 
 abbrev pub KernelAnswer : List ℕ → List ℕ → List ℕ → Written → Type 0
 KernelAnswer bytes before after r =
-    Writes (kernel-bytes-ask bytes (length before))
-    (λ count after. KernelIn (valuesOf Kernel (words_of bytes)) (gOf Kernel (words_of bytes)) before after count) before after (writtenOutcome r)
+    Writes (kernel_bytes_ask bytes (length before))
+    (λ count after. KernelIn (values_of Kernel (words_of bytes)) (gOf Kernel (words_of bytes)) before after count) before after (written_outcome r)

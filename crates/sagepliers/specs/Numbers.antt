@@ -5,9 +5,9 @@ use Rattle.std.specs.Prelude.{◌≡◌, refl, cond, List, [], ◌∷◌, ℕ, �
 use Rattle.std.proofs.Common.{sym, ◌∙◌, ap, subst, inl, inr, arith, lt-ltb, le-ltb, ne_eqb}
 use Rattle.sheet.specs.declared.Form.TheVariants.{Certificate}
 use Rattle.sheet.specs.Word.{words_of}
-use Rattle.sheet.specs.Form.{mostWords}
-use Rattle.sheet.specs.Values.{valuesOf, gOf, n_of}
-use Rattle.questions.specs.Numbered.{yes-to}
+use Rattle.sheet.specs.Form.{most_words}
+use Rattle.sheet.specs.Values.{values_of, gOf, n_of}
+use Rattle.questions.specs.Numbered.{yes_to}
 use Rattle.questions.specs.Questions.{Questions, FirstNo}
 use Rattle.promises.specs.declared.Verdict.{Verdict}
 use Rattle.promises.specs.declared.Verdict.TheVariants as verdict
@@ -19,17 +19,17 @@ use Rattle.promises.specs.declared.Image.{Image}
 use Rattle.promises.specs.declared.Image.TheVariants as image
 use Rattle.promises.specs.declared.Named.{Named}
 use Rattle.promises.specs.declared.Named.TheVariants as named
-use Rattle.promises.specs.Outcome.{verdictNumber, imageNumber, writtenNumber, nameNumber}
-use Rattle.promises.specs.Asked.{solve-asks, kernel-asks, name-asks}
+use Rattle.promises.specs.Outcome.{verdict_number, image_number, written_number, name_number}
+use Rattle.promises.specs.Asked.{solve_asks, kernel_asks, name_asks}
 use Rattle.promises.specs.Answer.{Goes, composed, SolveRight, KernelRight, ComposeRight, NameRight}
-use Rattle.sheet.specs.Ready.{half-most}
-use Rattle.guarantees.specs.Compose.{composite-ready}
+use Rattle.sheet.specs.Ready.{half_most}
+use Rattle.guarantees.specs.Compose.{composite_ready}
 use Rattle.encoding.specs.Encoding.{point_of}
 use Rattle.sagepliers.specs.Entry.{
-  bytes-ask,
+  bytes_ask,
   CheckAnswer,
   CheckNumber,
-  push-number-asks,
+  push_number_asks,
   PushAnswer,
   PushNumber,
   SolveNumber,
@@ -59,11 +59,11 @@ positive [] n p h = absurd h
 positive (q ∷ qs) n p (inl h) = subst (λ m. 1 ≤ m) (sym h.0) p.0
 positive (q ∷ qs) n p (inr h) = positive qs n p.1 h.1
 
-abbrev pub verdictOf : ℕ → Verdict
-verdictOf r = cond (eqb r 0) verdict.Passes (verdict.Refused r)
+abbrev pub verdict_of : ℕ → Verdict
+verdict_of r = cond (eqb r 0) verdict.Passes (verdict.Refused r)
 
 module _ (bytes : List ℕ) where
-  numbered : Positive (bytes-ask bytes)
+  numbered : Positive (bytes_ask bytes)
   numbered = (
     omega arith,
     (
@@ -78,79 +78,79 @@ module _ (bytes : List ℕ) where
     ),
   )
 
-  verdict-back : (v : Verdict) → CheckAnswer bytes v → verdictOf (verdictNumber v) ≡ v
-  verdict-back verdict.Passes h = refl
-  verdict-back (verdict.Refused n) h =
-      ap (λ t. cond t verdict.Passes (verdict.Refused n)) (ne_eqb n 0 (λ e. omega (arith, e, positive (bytes-ask bytes) n numbered h)))
+  verdict_back : (v : Verdict) → CheckAnswer bytes v → verdict_of (verdict_number v) ≡ v
+  verdict_back verdict.Passes h = refl
+  verdict_back (verdict.Refused n) h =
+      ap (λ t. cond t verdict.Passes (verdict.Refused n)) (ne_eqb n 0 (λ e. omega (arith, e, positive (bytes_ask bytes) n numbered h)))
 
-  pub check-read : (r : ℕ) → CheckNumber bytes r → CheckAnswer bytes (verdictOf r)
-  check-read r h = subst (CheckAnswer bytes) (sym (ap verdictOf h.number ∙ verdict-back h.answer h.right)) h.right
+  pub check_read : (r : ℕ) → CheckNumber bytes r → CheckAnswer bytes (verdict_of r)
+  check_read r h = subst (CheckAnswer bytes) (sym (ap verdict_of h.number ∙ verdict_back h.answer h.right)) h.right
 
 -- ── solve, kernel and compose: no certificate has more words than the largest
 
-written_count : (c : ℕ) → c ≤ mostWords → written_of c ≡ written.Count c
+written_count : (c : ℕ) → c ≤ most_words → written_of c ≡ written.Count c
 written_count c small = ap (λ t. cond t (written.Count c) (written.Refused (c - 2 ^ 57))) (lt-ltb c (2 ^ 57) (omega arith))
 
-written-refused : (n : ℕ) → written_of (2 ^ 57 + n) ≡ written.Refused n
-written-refused n =
+written_refused : (n : ℕ) → written_of (2 ^ 57 + n) ≡ written.Refused n
+written_refused n =
     let back : 2 ^ 57 + n - 2 ^ 57 ≡ n = omega arith in
     ap (λ t. cond t (written.Count (2 ^ 57 + n)) (written.Refused (2 ^ 57 + n - 2 ^ 57))) (le-ltb (2 ^ 57 + n) (2 ^ 57) (omega arith)) ∙ ap written.Refused back
 
 module _ (ws before after : List ℕ) where
-  pub solve-count : (c : ℕ) → SolveRight ws before after (written.Count c) → c ≤ mostWords
-  solve-count c h = omega (arith, (yes-to (solve-asks ws (length before)) 4 h.0).most, h.1.count-is)
+  pub solve_count : (c : ℕ) → SolveRight ws before after (written.Count c) → c ≤ most_words
+  solve_count c h = omega (arith, (yes_to (solve_asks ws (length before)) 4 h.0).most, h.1.count_is)
 
-  solve-back : (w : Written) → SolveRight ws before after w → written_of (writtenNumber w) ≡ w
-  solve-back (written.Count c) h = written_count c (solve-count c h)
-  solve-back (written.Refused n) h = written-refused n
+  solve_back : (w : Written) → SolveRight ws before after w → written_of (written_number w) ≡ w
+  solve_back (written.Count c) h = written_count c (solve_count c h)
+  solve_back (written.Refused n) h = written_refused n
 
-  pub solve-read : (r : ℕ) → SolveNumber ws before after r → SolveRight ws before after (written_of r)
-  solve-read r h = subst (SolveRight ws before after) (sym (ap written_of h.number ∙ solve-back h.answer h.right)) h.right
+  pub solve_read : (r : ℕ) → SolveNumber ws before after r → SolveRight ws before after (written_of r)
+  solve_read r h = subst (SolveRight ws before after) (sym (ap written_of h.number ∙ solve_back h.answer h.right)) h.right
 
-  pub kernel-count : (c : ℕ) → KernelRight ws before after (written.Count c) → c ≤ mostWords
-  kernel-count c h = omega (arith, (yes-to (kernel-asks ws (length before)) 4 h.0).most, h.1.certificate.count-is)
+  pub kernel_count : (c : ℕ) → KernelRight ws before after (written.Count c) → c ≤ most_words
+  kernel_count c h = omega (arith, (yes_to (kernel_asks ws (length before)) 4 h.0).most, h.1.certificate.count_is)
 
-  kernel-back : (w : Written) → KernelRight ws before after w → written_of (writtenNumber w) ≡ w
-  kernel-back (written.Count c) h = written_count c (kernel-count c h)
-  kernel-back (written.Refused n) h = written-refused n
+  kernel_back : (w : Written) → KernelRight ws before after w → written_of (written_number w) ≡ w
+  kernel_back (written.Count c) h = written_count c (kernel_count c h)
+  kernel_back (written.Refused n) h = written_refused n
 
-  pub kernel-read : (r : ℕ) → KernelNumber ws before after r → KernelRight ws before after (written_of r)
-  kernel-read r h = subst (KernelRight ws before after) (sym (ap written_of h.number ∙ kernel-back h.answer h.right)) h.right
+  pub kernel_read : (r : ℕ) → KernelNumber ws before after r → KernelRight ws before after (written_of r)
+  kernel_read r h = subst (KernelRight ws before after) (sym (ap written_of h.number ∙ kernel_back h.answer h.right)) h.right
 
 module _ (first second before after : List ℕ) where
-  pub compose-count : (c : ℕ) → ComposeRight first second before after (written.Count c) → c ≤ mostWords
-  compose-count c h =
+  pub compose_count : (c : ℕ) → ComposeRight first second before after (written.Count c) → c ≤ most_words
+  compose_count c h =
       omega (
         arith,
-        half-most (composed (valuesOf Certificate first) (valuesOf Certificate second)) (composite-ready first second (length before) h.0),
-        h.1.certificate.count-is,
+        half_most (composed (values_of Certificate first) (values_of Certificate second)) (composite_ready first second (length before) h.0),
+        h.1.certificate.count_is,
       )
 
-  compose-back : (w : Written) → ComposeRight first second before after w → written_of (writtenNumber w) ≡ w
-  compose-back (written.Count c) h = written_count c (compose-count c h)
-  compose-back (written.Refused n) h = written-refused n
+  compose_back : (w : Written) → ComposeRight first second before after w → written_of (written_number w) ≡ w
+  compose_back (written.Count c) h = written_count c (compose_count c h)
+  compose_back (written.Refused n) h = written_refused n
 
-  pub compose-read : (r : ℕ) → ComposeNumber first second before after r → ComposeRight first second before after (written_of r)
-  compose-read r h =
-      subst (ComposeRight first second before after) (sym (ap written_of h.number ∙ compose-back h.answer h.right)) h.right
+  pub compose_read : (r : ℕ) → ComposeNumber first second before after r → ComposeRight first second before after (written_of r)
+  compose_read r h =
+      subst (ComposeRight first second before after) (sym (ap written_of h.number ∙ compose_back h.answer h.right)) h.right
 
 -- ── name: the j-value is below p, and p below 2^28
 
 module _ (p a b : ℕ) where
-  name_back : (w : Named) → NameRight p a b w → name_of (nameNumber w) ≡ w
+  name_back : (w : Named) → NameRight p a b w → name_of (name_number w) ≡ w
   name_back (named.Value j) h =
-      ap (λ t. cond t (named.Value j) (named.Refused (j - 2 ^ 57))) (lt-ltb j (2 ^ 57) (omega (arith, (yes-to (name-asks p a b) 3 h.0).most, h.1.0)))
+      ap (λ t. cond t (named.Value j) (named.Refused (j - 2 ^ 57))) (lt-ltb j (2 ^ 57) (omega (arith, (yes_to (name_asks p a b) 3 h.0).most, h.1.0)))
   name_back (named.Refused n) h =
       let back : 2 ^ 57 + n - 2 ^ 57 ≡ n = omega arith in
       ap (λ t. cond t (named.Value (2 ^ 57 + n)) (named.Refused (2 ^ 57 + n - 2 ^ 57))) (le-ltb (2 ^ 57 + n) (2 ^ 57) (omega arith)) ∙ ap named.Refused back
 
-  pub name-read : (r : ℕ) → NameNumber p a b r → NameRight p a b (name_of r)
-  name-read r h = subst (NameRight p a b) (sym (ap name_of h.number ∙ name_back h.answer h.right)) h.right
+  pub name_read : (r : ℕ) → NameNumber p a b r → NameRight p a b (name_of r)
+  name_read r h = subst (NameRight p a b) (sym (ap name_of h.number ∙ name_back h.answer h.right)) h.right
 
 -- ── push: the coordinates are below p, and p below 2^28
 
-affine-back : (u v : ℕ) → u < 2 ^ 28 → v < 2 ^ 28 → image_of (u + 2 ^ 28 * v) ≡ image.Affine u v
-affine-back u v hu hv =
+affine_back : (u v : ℕ) → u < 2 ^ 28 → v < 2 ^ 28 → image_of (u + 2 ^ 28 * v) ≡ image.Affine u v
+affine_back u v hu hv =
     let k = u + 2 ^ 28 * v in
     let low : (u + 2 ^ 28 * v) % 2 ^ 28 ≡ u = omega arith in
     let high : (u + 2 ^ 28 * v) / 2 ^ 28 ≡ v = omega arith in
@@ -158,8 +158,8 @@ affine-back u v hu hv =
     (lt-ltb k (2 ^ 56) (omega arith))
     ∙ ap (λ x. image.Affine x (k / 2 ^ 28)) low ∙ ap (image.Affine u) high
 
-refused-back : (n : ℕ) → image_of (2 ^ 57 + n) ≡ image.Refused n
-refused-back n =
+refused_back : (n : ℕ) → image_of (2 ^ 57 + n) ≡ image.Refused n
+refused_back n =
     let k = 2 ^ 57 + n in
     let back : 2 ^ 57 + n - 2 ^ 57 ≡ n = omega arith in
     ap (λ t. cond t (image.Affine (k % 2 ^ 28) (k / 2 ^ 28)) (cond (eqb k (2 ^ 56)) image.Infinity (image.Refused (k - 2 ^ 57))))
@@ -170,17 +170,17 @@ module _ (bytes : List ℕ) (k : ℕ) where
   abbrev ws : List ℕ
   ws = words_of bytes
 
-  goes_small : (valuesOf Certificate ws).p < 2 ^ 28 → (at : Point) (u v : ℕ)
-      → Goes (valuesOf Certificate ws) (gOf Certificate ws) (n_of Certificate ws) at (point.Affine u v) → (u < 2 ^ 28) × (v < 2 ^ 28)
-  goes_small small (point.Affine x y) u v h = (omega (arith, h.u-below), omega (arith, h.w-below))
+  goes_small : (values_of Certificate ws).p < 2 ^ 28 → (at : Point) (u v : ℕ)
+      → Goes (values_of Certificate ws) (gOf Certificate ws) (n_of Certificate ws) at (point.Affine u v) → (u < 2 ^ 28) × (v < 2 ^ 28)
+  goes_small small (point.Affine x y) u v h = (omega (arith, h.u_below), omega (arith, h.w_below))
   goes_small small point.Infinity u v h = absurd h
 
-  image-back : (w : Image) → PushAnswer bytes k w → image_of (imageNumber w) ≡ w
-  image-back (image.Affine u v) h =
-      let small = goes_small (yes-to (push-number-asks bytes k) 3 h.0).most (point_of k) u v h.1 in
-      affine-back u v small.0 small.1
-  image-back image.Infinity h = refl
-  image-back (image.Refused n) h = refused-back n
+  image_back : (w : Image) → PushAnswer bytes k w → image_of (image_number w) ≡ w
+  image_back (image.Affine u v) h =
+      let small = goes_small (yes_to (push_number_asks bytes k) 3 h.0).most (point_of k) u v h.1 in
+      affine_back u v small.0 small.1
+  image_back image.Infinity h = refl
+  image_back (image.Refused n) h = refused_back n
 
-  pub push-read : (r : ℕ) → PushNumber bytes k r → PushAnswer bytes k (image_of r)
-  push-read r h = subst (PushAnswer bytes k) (sym (ap image_of h.number ∙ image-back h.answer h.right)) h.right
+  pub push_read : (r : ℕ) → PushNumber bytes k r → PushAnswer bytes k (image_of r)
+  push_read r h = subst (PushAnswer bytes k) (sym (ap image_of h.number ∙ image_back h.answer h.right)) h.right

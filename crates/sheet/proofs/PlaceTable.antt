@@ -36,11 +36,11 @@ module _ (form : Form) (table : List (List ℕ)) where
   tested : T (every starts 16) → T (every rises 16) → PlacesOf form table
   tested s r = record { start = λ k h. eqb→eq _ _ (at starts 16 s k h); rise = λ k h. eqb→eq _ _ (at rises 16 r k h) }
 
-pub question-places : PlacesOf Question question
-question-places = tested Question question tt tt
+pub question_places : PlacesOf Question question
+question_places = tested Question question tt tt
 
-pub certificate-places : PlacesOf Certificate certificate
-certificate-places = tested Certificate certificate tt tt
+pub certificate_places : PlacesOf Certificate certificate
+certificate_places = tested Certificate certificate tt tt
 
-pub kernel-places : PlacesOf Kernel kernel
-kernel-places = tested Kernel kernel tt tt
+pub kernel_places : PlacesOf Kernel kernel
+kernel_places = tested Kernel kernel tt tt

@@ -10,7 +10,7 @@ use Rattle.sheet.specs.declared.Form.{Form}
 use Rattle.sheet.specs.declared.Values.{Values}
 use Rattle.sheet.specs.Word.{kind_of, value_of}
 use Rattle.sheet.specs.Form.{header, body, holds}
-use Rattle.sheet.specs.Values.{valuesOf, half, coefficientIn}
+use Rattle.sheet.specs.Values.{values_of, half, coefficient_in}
 
 -- 2: each word of the header is there, and of its kind
 unfoldable pub Asked2 : Form → List ℕ → Type 0
@@ -39,9 +39,9 @@ pub record ValuesBelow (v : Values) : Type 0 where
 
 -- 6: the words after the header are those of the form; the coefficients, which are of the kinds 8 and 9, are read as values below p, and the end's value is 0
 pub record Asked6 (form : Form) (ws : List ℕ) : Type 0 where
-  pub kinds : map kind_of (drop (length (header form)) ws) ≡ body form (half (valuesOf form ws))
+  pub kinds : map kind_of (drop (length (header form)) ws) ≡ body form (half (values_of form ws))
   pub below : (i : ℕ) → length (header form) ≤ i → i < length ws → kind_of (get_or ws i 0) < 10
-      → coefficientIn form (valuesOf form ws).p (get_or ws i 0) < (valuesOf form ws).p
+      → coefficient_in form (values_of form ws).p (get_or ws i 0) < (values_of form ws).p
   pub end : value_of (get_or ws (length ws - 1) 0) ≡ 0
 
 -- 7: the domain is a curve, and so is the codomain, if the header has it
@@ -53,9 +53,9 @@ pub record Curves (form : Form) (v : Values) : Type 0 where
 abbrev pub asked : Form → List ℕ → Questions
 asked form ws =
     (2, Asked2 form ws)
-    ∷ (3, PrimeAllowed (valuesOf form ws).p)
-    ∷ (4, DegreeAllowed (valuesOf form ws).degree (valuesOf form ws).p)
-    ∷ (5, ValuesBelow (valuesOf form ws))
+    ∷ (3, PrimeAllowed (values_of form ws).p)
+    ∷ (4, DegreeAllowed (values_of form ws).degree (values_of form ws).p)
+    ∷ (5, ValuesBelow (values_of form ws))
     ∷ (6, Asked6 form ws)
-    ∷ (7, Curves form (valuesOf form ws))
+    ∷ (7, Curves form (values_of form ws))
     ∷ []

@@ -28,15 +28,15 @@ laid (s ∷ ss) = replicate s.1 s.0 ++ laid ss
 abbrev pub body : Form → ℕ → List ℕ
 body form d = laid (sections form d)
 
-abbrev pub kindsOf : Form → ℕ → List ℕ
-kindsOf form d = header form ++ body form d
+abbrev pub kinds_of : Form → ℕ → List ℕ
+kinds_of form d = header form ++ body form d
 
 -- how many words a certificate of degree 2 d + 1 has, and the largest one, of degree 255
-abbrev pub certificateWords : ℕ → ℕ
-certificateWords d = 3 * d + 12
+abbrev pub certificate_words : ℕ → ℕ
+certificate_words d = 3 * d + 12
 
-abbrev pub mostWords : ℕ
-mostWords = certificateWords 127
+abbrev pub most_words : ℕ
+most_words = certificate_words 127
 
 -- the place of a kind in a list of kinds: where it stands first
 abbrev pub position : ℕ → List ℕ → ℕ
@@ -50,10 +50,10 @@ holds k (j ∷ js) = cond (eqb k j) true (holds k js)
 
 -- what a value x on a sheet over p is read as, p, ℓ and the count apart: a certificate has it as it stands, on a question or a kernel sheet it is taken modulo
 -- p (document 02, E2)
-abbrev pub valueIn : Form → ℕ → ℕ → ℕ
-valueIn Question p x = x % p
-valueIn Certificate p x = x
-valueIn Kernel p x = x % p
+abbrev pub value_in : Form → ℕ → ℕ → ℕ
+value_in Question p x = x % p
+value_in Certificate p x = x
+value_in Kernel p x = x % p
 
 -- the number in the header's word of a kind; 0 where the form has no such word, or the sheet ends before it
 abbrev pub entry : Form → ℕ → List ℕ → ℕ

@@ -32,31 +32,31 @@ slope k (s ∷ ss) = cond (eqb k s.kind) 0 (s.slope + slope k ss)
 
 module _ (k j : ℕ) (xs : List ℕ) where
   -- a section of another kind is passed over; where the kind is the section's, it is found at once
-  pub holds-past : (n : ℕ) → eqb k j ≡ false → holds k (replicate n j ++ xs) ≡ holds k xs
-  holds-past zero e = refl
-  holds-past (suc n) e = rw e (holds-past n e)
+  pub holds_past : (n : ℕ) → eqb k j ≡ false → holds k (replicate n j ++ xs) ≡ holds k xs
+  holds_past zero e = refl
+  holds_past (suc n) e = rw e (holds_past n e)
 
   pub position_past : (n : ℕ) → eqb k j ≡ false → position k (replicate n j ++ xs) ≡ n + position k xs
   position_past zero e = sym (N.zero-add (position k xs))
   position_past (suc n) e = rw e (ap suc (position_past n e) ∙ omega arith)
 
-  pub holds-here : (n : ℕ) → eqb k j ≡ true → holds k (replicate (suc n) j ++ xs) ≡ true
-  holds-here n e = rw e refl
+  pub holds_here : (n : ℕ) → eqb k j ≡ true → holds k (replicate (suc n) j ++ xs) ≡ true
+  holds_here n e = rw e refl
 
   pub position_here : (n : ℕ) → eqb k j ≡ true → position k (replicate (suc n) j ++ xs) ≡ 0
   position_here n e = rw e refl
 
-pub holds-sections : (k d : ℕ) (ss : List Section) → holds k (expand d ss) ≡ has k ss
-holds-sections k d [] = refl
-holds-sections k d (s ∷ ss) = go (eqb k s.kind) refl (holds-sections k d ss)
+pub holds_sections : (k d : ℕ) (ss : List Section) → holds k (expand d ss) ≡ has k ss
+holds_sections k d [] = refl
+holds_sections k d (s ∷ ss) = go (eqb k s.kind) refl (holds_sections k d ss)
   where
     go : (t : Bool) → eqb k s.kind ≡ t → holds k (expand d ss) ≡ has k ss → holds k (expand d (s ∷ ss)) ≡ has k (s ∷ ss)
-    go true e h = holds-here k s.kind (expand d ss) (s.more + s.slope * d) e ∙ sym (rw e refl)
-    go false e h = holds-past k s.kind (expand d ss) (suc (s.more + s.slope * d)) e ∙ h ∙ sym (rw e refl)
+    go true e h = holds_here k s.kind (expand d ss) (s.more + s.slope * d) e ∙ sym (rw e refl)
+    go false e h = holds_past k s.kind (expand d ss) (suc (s.more + s.slope * d)) e ∙ h ∙ sym (rw e refl)
 
-pub position-sections : (k d : ℕ) (ss : List Section) → position k (expand d ss) ≡ base k ss + slope k ss * d
-position-sections k d [] = omega arith
-position-sections k d (s ∷ ss) = go (eqb k s.kind) refl (position-sections k d ss)
+pub position_sections : (k d : ℕ) (ss : List Section) → position k (expand d ss) ≡ base k ss + slope k ss * d
+position_sections k d [] = omega arith
+position_sections k d (s ∷ ss) = go (eqb k s.kind) refl (position_sections k d ss)
   where
     go : (t : Bool) → eqb k s.kind ≡ t → position k (expand d ss) ≡ base k ss + slope k ss * d
         → position k (expand d (s ∷ ss)) ≡ base k (s ∷ ss) + slope k (s ∷ ss) * d
@@ -70,9 +70,9 @@ abbrev pub total : List Section → ℕ
 total [] = 0
 total (s ∷ ss) = suc s.more + total ss
 
-pub base-most : (k : ℕ) (ss : List Section) → base k ss ≤ total ss
-base-most k [] = omega arith
-base-most k (s ∷ ss) = go (eqb k s.kind) (base-most k ss)
+pub base_most : (k : ℕ) (ss : List Section) → base k ss ≤ total ss
+base_most k [] = omega arith
+base_most k (s ∷ ss) = go (eqb k s.kind) (base_most k ss)
   where
     go : (t : Bool) → base k ss ≤ total ss → cond t 0 (suc s.more + base k ss) ≤ suc s.more + total ss
     go true h = omega arith

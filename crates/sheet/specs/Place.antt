@@ -2,11 +2,11 @@
 -- Assumes nothing.
 use Rattle.std.specs.Prelude.{◌≡◌, cond, List, [], ℕ, ◌-◌, ◌<◌, get_or}
 use Rattle.sheet.specs.declared.Form.{Form}
-use Rattle.sheet.specs.Form.{kindsOf, position, holds}
+use Rattle.sheet.specs.Form.{kinds_of, position, holds}
 
 -- the place of the first word of a kind; `none` where the form has no such word
 abbrev pub place_of : Form → ℕ → ℕ → ℕ → ℕ
-place_of form kind d none = cond (holds kind (kindsOf form d)) (position kind (kindsOf form d)) none
+place_of form kind d none = cond (holds kind (kinds_of form d)) (position kind (kinds_of form d)) none
 
 -- a form's part of the table: the place of each kind at d = 0, 255 for nowhere, and how far it rises from d = 0 to d = 1
 pub record PlacesOf (form : Form) (table : List (List ℕ)) : Type 0 where

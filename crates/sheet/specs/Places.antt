@@ -4,11 +4,11 @@ use Rattle.std.specs.Prelude.{◌≡◌, refl, Bool, true, false, cond, List, []
 use Rattle.std.proofs.Common.{sym, ◌∙◌, ap, ap₂, arith}
 use Rattle.sheet.specs.declared.Form.{Form}
 use Rattle.sheet.specs.declared.Form.TheVariants.{Question, Certificate, Kernel}
-use Rattle.sheet.specs.Form.{header, kindsOf, certificateWords, position, holds}
+use Rattle.sheet.specs.Form.{header, kinds_of, certificate_words, position, holds}
 use Rattle.sheet.specs.Place.{place_of}
-use Rattle.sheet.specs.Kinds.{below, absent as absent-kind, place-from}
-use Rattle.sheet.specs.Lengths.{last, certificate-words, kernel-words}
-use Rattle.sheet.specs.Linear.{Section, section, expand, has, base, slope, holds-sections, position-sections, base-most}
+use Rattle.sheet.specs.Kinds.{below, absent as absent_kind, place_from}
+use Rattle.sheet.specs.Lengths.{last, certificate_words_lem, kernel_words}
+use Rattle.sheet.specs.Linear.{Section, section, expand, has, base, slope, holds_sections, position_sections, base_most}
 
 -- ── the forms in sections
 
@@ -23,16 +23,16 @@ sections Kernel = section 1 0 0 ∷ section 2 0 0 ∷ section 3 0 0 ∷ section 
 no_more : (d : ℕ) → 0 + 0 * d ≡ 0
 no_more d = omega arith
 
-g-more : (d : ℕ) → d + 1 ≡ suc (0 + 1 * d)
-g-more d = omega arith
+g_more : (d : ℕ) → d + 1 ≡ suc (0 + 1 * d)
+g_more d = omega arith
 
-n-more : (d : ℕ) → 2 * d + 2 ≡ suc (1 + 2 * d)
-n-more d = omega arith
+n_more : (d : ℕ) → 2 * d + 2 ≡ suc (1 + 2 * d)
+n_more d = omega arith
 
-in-sections : (form : Form) (d : ℕ) → kindsOf form d ≡ expand d (sections form)
-in-sections Question d = simp no_more
-in-sections Certificate d = simp (no_more, g-more, n-more)
-in-sections Kernel d = simp (no_more, g-more)
+in_sections : (form : Form) (d : ℕ) → kinds_of form d ≡ expand d (sections form)
+in_sections Question d = simp no_more
+in_sections Certificate d = simp (no_more, g_more, n_more)
+in_sections Kernel d = simp (no_more, g_more)
 
 -- no form has a kind from 11 to 14, so the word of kind 10, or where it would stand, is the last before the end
 abbrev Lacks : Form → ℕ → Type 0
@@ -44,11 +44,11 @@ lacking Certificate = (refl, refl, refl, refl)
 lacking Kernel = (refl, refl, refl, refl)
 
 module _ (form : Form) (d : ℕ) where
-  skipped : (k : ℕ) → Lacks form k → below (suc k) (kindsOf form d) ≡ below k (kindsOf form d)
-  skipped k e = absent-kind k (kindsOf form d) (ap (holds k) (in-sections form d) ∙ holds-sections k d (sections form) ∙ e)
+  skipped : (k : ℕ) → Lacks form k → below (suc k) (kinds_of form d) ≡ below k (kinds_of form d)
+  skipped k e = absent_kind k (kinds_of form d) (ap (holds k) (in_sections form d) ∙ holds_sections k d (sections form) ∙ e)
 
-  pub count-last : below 15 (kindsOf form d) ≡ below 11 (kindsOf form d)
-  count-last =
+  pub count_last : below 15 (kinds_of form d) ≡ below 11 (kinds_of form d)
+  count_last =
       let lacks = lacking form in
       skipped 14 lacks.3 ∙ skipped 13 lacks.2 ∙ skipped 12 lacks.1 ∙ skipped 11 lacks.0
 
@@ -57,15 +57,15 @@ module _ (form : Form) (k : ℕ) where
   pub place_is : (d none : ℕ) → place_of form k d none ≡ cond (has k (sections form)) (base k (sections form) + slope k (sections form) * d) none
   place_is d none =
       ap₂ (λ (t : Bool) (n : ℕ). cond t n none)
-      (ap (holds k) (in-sections form d) ∙ holds-sections k d (sections form))
-      (ap (position k) (in-sections form d) ∙ position-sections k d (sections form))
+      (ap (holds k) (in_sections form d) ∙ holds_sections k d (sections form))
+      (ap (position k) (in_sections form d) ∙ position_sections k d (sections form))
 
 -- ── a place from the place at d = 0 and the rise
 
 early : (form : Form) (k : ℕ) → base k (sections form) < 255
-early Question k = omega (arith, base-most k (sections Question))
-early Certificate k = omega (arith, base-most k (sections Certificate))
-early Kernel k = omega (arith, base-most k (sections Kernel))
+early Question k = omega (arith, base_most k (sections Question))
+early Certificate k = omega (arith, base_most k (sections Certificate))
+early Kernel k = omega (arith, base_most k (sections Kernel))
 
 -- by whether the form has the kind
 module _ (t : Bool) (b s d none : ℕ) (small : b < 255) where
@@ -99,37 +99,37 @@ module _ (form : Form) (k d none : ℕ) where
 -- ── the places that the reader and the writer ask for
 
 module _ (d none : ℕ) where
-  pub end-place : (form : Form) → place_of form 15 d none ≡ last form d
-  end-place Question = place_is Question 15 d none ∙ omega arith
-  end-place Certificate = place_is Certificate 15 d none ∙ omega (arith, certificate-words d)
-  end-place Kernel = place_is Kernel 15 d none ∙ omega (arith, kernel-words d)
+  pub end_place : (form : Form) → place_of form 15 d none ≡ last form d
+  end_place Question = place_is Question 15 d none ∙ omega arith
+  end_place Certificate = place_is Certificate 15 d none ∙ omega (arith, certificate_words_lem d)
+  end_place Kernel = place_is Kernel 15 d none ∙ omega (arith, kernel_words d)
 
   -- where the form has no coefficients of g, they would stand at the end
-  pub g-place : (form : Form) → none ≡ last form d → place_of form 8 d none ≡ length (header form)
-  g-place Question e = place_is Question 8 d none ∙ omega arith
-  g-place Certificate e = place_is Certificate 8 d none ∙ omega arith
-  g-place Kernel e = place_is Kernel 8 d none ∙ omega arith
+  pub g_place : (form : Form) → none ≡ last form d → place_of form 8 d none ≡ length (header form)
+  g_place Question e = place_is Question 8 d none ∙ omega arith
+  g_place Certificate e = place_is Certificate 8 d none ∙ omega arith
+  g_place Kernel e = place_is Kernel 8 d none ∙ omega arith
 
-  pub n-place : place_of Certificate 9 d none ≡ d + 8
-  n-place = place_is Certificate 9 d none ∙ omega arith
+  pub n_place : place_of Certificate 9 d none ≡ d + 8
+  n_place = place_is Certificate 9 d none ∙ omega arith
 
-  pub count-place : place_of Certificate 10 d none + 2 ≡ certificateWords d
-  count-place = omega (arith, place_is Certificate 10 d none)
+  pub count_place : place_of Certificate 10 d none + 2 ≡ certificate_words d
+  count_place = omega (arith, place_is Certificate 10 d none)
 
-pub end-small : (d : ℕ) (form : Form) → last form d < certificateWords d
-end-small d Question = omega arith
-end-small d Certificate = omega (arith, certificate-words d)
-end-small d Kernel = omega (arith, kernel-words d)
+pub end_small : (d : ℕ) (form : Form) → last form d < certificate_words d
+end_small d Question = omega arith
+end_small d Certificate = omega (arith, certificate_words_lem d)
+end_small d Kernel = omega (arith, kernel_words d)
 
 -- the kinds from 10 on begin after all coefficients
 module _ (d : ℕ) where
-  pub coefficients-end : below 10 (kindsOf Certificate d) + 2 ≡ certificateWords d
-  coefficients-end =
-      let next = below 11 (kindsOf Certificate d) in
-      omega (arith, place-from Certificate d 10 next refl, count-place d next)
+  pub coefficients_end : below 10 (kinds_of Certificate d) + 2 ≡ certificate_words d
+  coefficients_end =
+      let next = below 11 (kinds_of Certificate d) in
+      omega (arith, place_from Certificate d 10 next refl, count_place d next)
 
-  pub kernel-coefficients-end : below 10 (kindsOf Kernel d) ≡ d + 5
-  kernel-coefficients-end =
-      let kinds = kindsOf Kernel d in
-      sym (skipped Kernel d 10 refl) ∙ sym (count-last Kernel d) ∙ sym (place-from Kernel d 15 (below 16 kinds) refl) ∙ end-place d (below 16 kinds) Kernel
-      ∙ omega (arith, kernel-words d)
+  pub kernel_coefficients_end : below 10 (kinds_of Kernel d) ≡ d + 5
+  kernel_coefficients_end =
+      let kinds = kinds_of Kernel d in
+      sym (skipped Kernel d 10 refl) ∙ sym (count_last Kernel d) ∙ sym (place_from Kernel d 15 (below 16 kinds) refl) ∙ end_place d (below 16 kinds) Kernel
+      ∙ omega (arith, kernel_words d)

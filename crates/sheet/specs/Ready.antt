@@ -4,10 +4,10 @@ use Rattle.std.specs.Prelude.{◌≡◌, List, ℕ, ◌+◌, ◌*◌, ◌≤◌,
 use Rattle.std.proofs.Common.{arith}
 use Rattle.zmod.specs.Residues.{Reduced}
 use Rattle.questions.specs.Questions.{AllYes}
-use Rattle.questions.specs.Numbered.{yes-to}
+use Rattle.questions.specs.Numbered.{yes_to}
 use Rattle.sheet.specs.declared.Form.{Form}
 use Rattle.sheet.specs.declared.Values.{Values}
-use Rattle.sheet.specs.Values.{valuesOf, half}
+use Rattle.sheet.specs.Values.{values_of, half}
 use Rattle.sheet.specs.Asked.{PrimeAllowed, DegreeAllowed, ValuesBelow, asked}
 
 pub record Ready (v : Values) : Type 0 where
@@ -24,19 +24,19 @@ pub record HoldsN (v : Values) (n : List ℕ) : Type 0 where
   pub count : length n ≡ 2 * half v + 2
   pub reduced : Reduced v.p n
 
-pub ready : (form : Form) (ws : List ℕ) → AllYes (asked form ws) → Ready (valuesOf form ws)
-ready form ws all = record { prime = yes-to (asked form ws) 3 all; degree = yes-to (asked form ws) 4 all; below = yes-to (asked form ws) 5 all }
+pub ready : (form : Form) (ws : List ℕ) → AllYes (asked form ws) → Ready (values_of form ws)
+ready form ws all = record { prime = yes_to (asked form ws) 3 all; degree = yes_to (asked form ws) 4 all; below = yes_to (asked form ws) 5 all }
 
 -- ℓ = 2 d + 1, with d from 1 to 127
 module _ (v : Values) (r : Ready v) where
-  pub degree-half : v.degree ≡ 2 * half v + 1
-  degree-half = omega (arith, r.degree)
+  pub degree_half : v.degree ≡ 2 * half v + 1
+  degree_half = omega (arith, r.degree)
 
-  pub half-least : 1 ≤ half v
-  half-least = omega (arith, r.degree)
+  pub half_least : 1 ≤ half v
+  half_least = omega (arith, r.degree)
 
-  pub half-most : half v ≤ 127
-  half-most = omega (arith, r.degree)
+  pub half_most : half v ≤ 127
+  half_most = omega (arith, r.degree)
 
-  pub degree-below : v.degree < v.p
-  degree-below = omega (arith, r.degree)
+  pub degree_below : v.degree < v.p
+  degree_below = omega (arith, r.degree)

@@ -2,9 +2,9 @@
 ghost use Rattle.std.specs.Prelude.{◌≡◌, ◌+◌, ◌-◌, ◌*◌, ◌^◌, ◌<◌, ◌≤◌, map, length, get_or, take, drop};
 ghost use Rattle.sheet.specs.declared.Form.TheVariants.{Certificate};
 ghost use Rattle.sheet.specs.Word.{kind_of, value_of, word_at, words_of};
-ghost use Rattle.sheet.specs.Form.{header, entry, valueIn, certificateWords};
+ghost use Rattle.sheet.specs.Form.{header, entry, value_in, certificate_words};
 ghost use Rattle.sheet.specs.Place.{place_of, PlacesOf};
-ghost use Rattle.sheet.specs.Values.{valuesOf, half, coefficientIn};
+ghost use Rattle.sheet.specs.Values.{values_of, half, coefficient_in};
 
 // The words of the largest certificate, that of degree 255.
 pub const MOST_WORDS: usize = 393;
@@ -94,7 +94,7 @@ pub fn value(w: u32) -> u32
 // What a value on a sheet over p is read as. Nothing is divided where the value is below p already.
 fn value_in(form: Form, p: u32, x: u32) -> u32
     requires { 0 < p }
-    ensures { result ≡ valueIn form p x }
+    ensures { result ≡ value_in form p x }
 {
     if x < p {
         return x;
@@ -126,7 +126,7 @@ pub fn half_degree(v: Values) -> usize
 // The value of a kind on a sheet over p.
 fn value_of(form: Form, p: u32, kind: usize, ws: &[u32]) -> u32
     requires { (0 < p) × (kind < 8) }
-    ensures { result ≡ valueIn form p (entry form kind ws.now) }
+    ensures { result ≡ value_in form p (entry form kind ws.now) }
 {
     value_in(form, p, entry_of(form, kind, ws))
 }
@@ -134,7 +134,7 @@ fn value_of(form: Form, p: u32, kind: usize, ws: &[u32]) -> u32
 // The values of a sheet whose p and ℓ have been read.
 pub fn values_of(form: Form, p: u32, degree: u32, ws: &[u32]) -> Values
     requires { (0 < p) × (p ≡ entry form 1 ws.now) × (degree ≡ entry form 6 ws.now) }
-    ensures { result ≡ valuesOf form ws.now }
+    ensures { result ≡ values_of form ws.now }
 {
     Values {
         p,
@@ -150,7 +150,7 @@ pub fn values_of(form: Form, p: u32, degree: u32, ws: &[u32]) -> Values
 // The coefficients in the words from `from` on of a sheet over p, as many as `out` has room for.
 fn coefficients(form: Form, p: u32, ws: &[u32], from: usize, out: &mut [u32])
     requires { (0 < p) × (from + length out.old ≤ length ws.now) }
-    ensures { out.new ≡ map (coefficientIn form p) (take (length out.old) (drop from ws.now)) }
+    ensures { out.new ≡ map (coefficient_in form p) (take (length out.old) (drop from ws.now)) }
 {
     for i in 0..out.len() {
         out[i] = value_in(form, p, value(ws[from + i]));
@@ -160,7 +160,7 @@ fn coefficients(form: Form, p: u32, ws: &[u32], from: usize, out: &mut [u32])
 // The coefficients of g on a sheet over p of degree 2 d + 1, as many as `out` has room for.
 pub fn g_coefficients(form: Form, p: u32, ws: &[u32], d: usize, out: &mut [u32])
     requires { (0 < p) × (d ≤ 2 ^ 28) × (length (header form) + length out.old ≤ length ws.now) }
-    ensures { out.new ≡ map (coefficientIn form p) (take (length out.old) (drop (length (header form)) ws.now)) }
+    ensures { out.new ≡ map (coefficient_in form p) (take (length out.old) (drop (length (header form)) ws.now)) }
 {
     let end = place(form, 15, d, 0);
     let from = place(form, 8, d, end);
@@ -170,7 +170,7 @@ pub fn g_coefficients(form: Form, p: u32, ws: &[u32], d: usize, out: &mut [u32])
 // The coefficients of N on a certificate of degree 2 d + 1; p changes none of them there.
 pub fn n_coefficients(p: u32, ws: &[u32], d: usize, out: &mut [u32])
     requires { (0 < p) × (d ≤ 2 ^ 28) × (d + 8 + length out.old ≤ length ws.now) }
-    ensures { out.new ≡ map (coefficientIn Certificate p) (take (length out.old) (drop (d + 8) ws.now)) }
+    ensures { out.new ≡ map (coefficient_in Certificate p) (take (length out.old) (drop (d + 8) ws.now)) }
 {
     let from = place(Form::Certificate, 9, d, 0);
     coefficients(Form::Certificate, p, ws, from, out);
@@ -178,7 +178,7 @@ pub fn n_coefficients(p: u32, ws: &[u32], d: usize, out: &mut [u32])
 
 // The count of rational abscissas on a certificate of degree 2 d + 1.
 pub fn rational_abscissas(ws: &[u32], d: usize) -> u32
-    requires { (d ≤ 2 ^ 28) × (length ws.now ≡ certificateWords d) }
+    requires { (d ≤ 2 ^ 28) × (length ws.now ≡ certificate_words d) }
     ensures { (result ≡ value_of (get_or ws.now (place_of Certificate 10 d 0) 0)) × (result < 2 ^ 28) }
 {
     value(ws[place(Form::Certificate, 10, d, 0)])

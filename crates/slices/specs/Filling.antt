@@ -23,8 +23,8 @@ filled_more P xs k v inside before here j lt = go (dec_lt j k)
         let e : k ≡ j = omega arith in
         subst (λ m. P m (get_or (set xs k v) m 0)) e (subst (P k) (sym (get_or-set_same xs k v 0 inside)) here)
 
-pub kept-all : (xs : List ℕ) → Kept xs xs 0
-kept-all xs j le = refl
+pub kept_all : (xs : List ℕ) → Kept xs xs 0
+kept_all xs j le = refl
 
 pub kept_more : (xs₀ xs : List ℕ) (k v : ℕ) → Kept xs₀ xs k → Kept xs₀ (set xs k v) (k + 1)
 kept_more xs₀ xs k v kept j le = get_or-set_other xs k j v 0 (omega arith) ∙ kept j (omega arith)
@@ -35,18 +35,18 @@ unfoldable pub tab : ℕ → (ℕ → ℕ) → List ℕ
 tab zero f = []
 tab (suc n) f = f 0 ∷ tab n (λ k. f (suc k))
 
-pub length-tab : (n : ℕ) (f : ℕ → ℕ) → length (tab n f) ≡ n
+pub length_tab : (n : ℕ) (f : ℕ → ℕ) → length (tab n f) ≡ n
 unfolding tab
-length-tab zero f = refl
-length-tab (suc n) f = ap suc (length-tab n (λ k. f (suc k)))
+length_tab zero f = refl
+length_tab (suc n) f = ap suc (length_tab n (λ k. f (suc k)))
 
-pub getD-tab : (n : ℕ) (f : ℕ → ℕ) (i : ℕ) → i < n → get_or (tab n f) i 0 ≡ f i
+pub get_d_tab : (n : ℕ) (f : ℕ → ℕ) (i : ℕ) → i < n → get_or (tab n f) i 0 ≡ f i
 unfolding tab
-getD-tab zero f i h = absurd (not-suc-le-zero h)
-getD-tab (suc n) f zero h = refl
-getD-tab (suc n) f (suc i) h = getD-tab n (λ k. f (suc k)) i (le_of_suc-le-suc h)
+get_d_tab zero f i h = absurd (not-suc-le-zero h)
+get_d_tab (suc n) f zero h = refl
+get_d_tab (suc n) f (suc i) h = get_d_tab n (λ k. f (suc k)) i (le_of_suc-le-suc h)
 
 -- a list that is filled to its end with the values of f
-pub filled-tab : (f : ℕ → ℕ) (xs : List ℕ) (n : ℕ) → length xs ≡ n → Filled (λ j v. v ≡ f j) xs n → xs ≡ tab n f
-filled-tab f xs n len all =
-    ext_get_or 0 xs (tab n f) (len ∙ sym (length-tab n f)) (λ i lt. all i (omega arith) ∙ sym (getD-tab n f i (omega arith)))
+pub filled_tab : (f : ℕ → ℕ) (xs : List ℕ) (n : ℕ) → length xs ≡ n → Filled (λ j v. v ≡ f j) xs n → xs ≡ tab n f
+filled_tab f xs n len all =
+    ext_get_or 0 xs (tab n f) (len ∙ sym (length_tab n f)) (λ i lt. all i (omega arith) ∙ sym (get_d_tab n f i (omega arith)))

@@ -8,29 +8,29 @@ use native.Mathlib.Omega.{arith}
 use lib.ListN.{length}
 use Rattle.zmod.specs.Residues.{poly}
 use Rattle.questions.specs.Questions.{AllYes, FirstNo}
-use Rattle.questions.specs.Joined.{no-before, no-after, all-all}
+use Rattle.questions.specs.Joined.{no_before, no_after, all_all}
 use Rattle.sheet.specs.declared.Form.TheVariants.{Question}
-use Rattle.sheet.specs.Form.{mostWords}
-use Rattle.sheet.specs.Values.{valuesOf}
+use Rattle.sheet.specs.Form.{most_words}
+use Rattle.sheet.specs.Values.{values_of}
 use Rattle.sheet.specs.Asked.{asked}
 use Rattle.promises.specs.declared.Written.{Written}
 use Rattle.promises.specs.declared.Written.TheVariants.{Count, Refused}
-use Rattle.promises.specs.Asked.{Room, Solvable, solve-asks}
+use Rattle.promises.specs.Asked.{Room, Solvable, solve_asks}
 use Rattle.promises.specs.Answer.{SolveRight}
 use Rattle.solution.specs.Solved.{Solved}
 
 module _ (ws before : List ℕ) where
-  pub solve-short : length before < mostWords → FirstNo (solve-asks ws (length before)) 1
-  solve-short l = inl (refl, λ room. omega arith)
+  pub solve_short : length before < most_words → FirstNo (solve_asks ws (length before)) 1
+  solve_short l = inl (refl, λ room. omega arith)
 
   module _ (room : Room (length before)) where
-    pub solve-unread : (k : ℕ) → FirstNo (asked Question ws) k → FirstNo (solve-asks ws (length before)) k
-    solve-unread k h = inr (room, no-before (asked Question ws) ((11, Solvable (valuesOf Question ws)) ∷ []) k h)
+    pub solve_unread : (k : ℕ) → FirstNo (asked Question ws) k → FirstNo (solve_asks ws (length before)) k
+    solve_unread k h = inr (room, no_before (asked Question ws) ((11, Solvable (values_of Question ws)) ∷ []) k h)
 
-    pub solve-right : AllYes (asked Question ws) → (after : List ℕ) (r : Written) → Solved (valuesOf Question ws) before after r → SolveRight ws before after r
-    solve-right all after (Count c) held = (
-      (room, all-all (asked Question ws) ((11, Solvable (valuesOf Question ws)) ∷ []) all (record { g = poly _ held.g; meets = held.meets }, tt)),
+    pub solve_right : AllYes (asked Question ws) → (after : List ℕ) (r : Written) → Solved (values_of Question ws) before after r → SolveRight ws before after r
+    solve_right all after (Count c) held = (
+      (room, all_all (asked Question ws) ((11, Solvable (values_of Question ws)) ∷ []) all (record { g = poly _ held.g; meets = held.meets }, tt)),
       held,
     )
-    solve-right all after (Refused k) unsolved =
-        (inr (room, no-after (asked Question ws) ((11, Solvable (valuesOf Question ws)) ∷ []) k all (inl (unsolved.number, unsolved.none))), unsolved.kept)
+    solve_right all after (Refused k) unsolved =
+        (inr (room, no_after (asked Question ws) ((11, Solvable (values_of Question ws)) ∷ []) k all (inl (unsolved.number, unsolved.none))), unsolved.kept)

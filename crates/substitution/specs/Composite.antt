@@ -6,18 +6,18 @@ use Rattle.ring.specs.Ring.{pow}
 use Rattle.ring.specs.Identity.{solve1}
 use Rattle.ring.specs.Identity.Ex.{◌:*◌, ◌:^◌}
 use Rattle.series.specs.Series.{Series, conv}
-use Rattle.series.specs.Degree.{below-mono, degree-mul}
+use Rattle.series.specs.Degree.{below_mono, degree_mul}
 use Rattle.zmod.specs.Zmod.{Zmod}
-use Rattle.zmod.specs.Residues.{poly, poly-past, poly-below, Residues, residues-poly, residues-same}
+use Rattle.zmod.specs.Residues.{poly, poly_past, poly_below, Residues, residues_poly, residues_same}
 use Rattle.composition.specs.Substitution.{homogenize}
-use Rattle.substitution.specs.Degree.{numerator-below}
+use Rattle.substitution.specs.Degree.{numerator_below}
 
-module _ (p : ℕ) (n g₁ g₂ square part rest out : List ℕ) (some : 2 ≤ length g₁) (size-n : length n ≡ 2 * length g₁)
+module _ (p : ℕ) (n g₁ g₂ square part rest out : List ℕ) (some : 2 ≤ length g₁) (size_n : length n ≡ 2 * length g₁)
     (size : length square + 1 ≡ 2 * length g₁) (squared : Residues p (conv (Zmod p) (poly p g₁) (poly p g₁)) square) where
-  is-square : poly p square ≡ pow (Series (Zmod p)) (poly p g₁) 2
-  is-square =
-      residues-poly squared (below-mono (Zmod p) _ _ _ (omega arith) (degree-mul (Zmod p) (length g₁ - 1) (length g₁ - 1) (poly p g₁) (poly p g₁)
-      (poly-below p g₁ _ (omega arith)) (poly-below p g₁ _ (omega arith))))
+  is_square : poly p square ≡ pow (Series (Zmod p)) (poly p g₁) 2
+  is_square =
+      residues_poly squared (below_mono (Zmod p) _ _ _ (omega arith) (degree_mul (Zmod p) (length g₁ - 1) (length g₁ - 1) (poly p g₁) (poly p g₁)
+      (poly_below p g₁ _ (omega arith)) (poly_below p g₁ _ (omega arith))))
       ∙ solve1 (Series (Zmod p)) (λ g. g :* g) (λ g. g :^ 2) tt (poly p g₁)
 
   -- `part` came back as the first k words of a longer slice
@@ -27,8 +27,8 @@ module _ (p : ℕ) (n g₁ g₂ square part rest out : List ℕ) (some : 2 ≤ l
       → Residues p (conv (Zmod p) (poly p g₁)
       (homogenize (Zmod p) (poly p n) (pow (Series (Zmod p)) (poly p g₁) 2) (length g₂ - 1) (poly p g₂))) out
   composed k long is substituted =
-      residues-same (ap (conv (Zmod p) (poly p g₁)) (ap (poly p) (take_at part rest k long)
-      ∙ residues-poly substituted (below-mono (Zmod p) _ _ _ (omega arith)
-      (numerator-below (Zmod p) (length square) (omega arith) (poly p square) (poly-past p square) (poly p n) (poly-below p n _ (omega arith))
+      residues_same (ap (conv (Zmod p) (poly p g₁)) (ap (poly p) (take_at part rest k long)
+      ∙ residues_poly substituted (below_mono (Zmod p) _ _ _ (omega arith)
+      (numerator_below (Zmod p) (length square) (omega arith) (poly p square) (poly_past p square) (poly p n) (poly_below p n _ (omega arith))
       (length g₂ - 1) (poly p g₂)))
-      ∙ ap (λ Y. homogenize (Zmod p) (poly p n) Y (length g₂ - 1) (poly p g₂)) is-square))
+      ∙ ap (λ Y. homogenize (Zmod p) (poly p n) Y (length g₂ - 1) (poly p g₂)) is_square))

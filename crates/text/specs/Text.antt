@@ -13,28 +13,28 @@ digits b zero n = []
 digits b (suc k) n = digits b k (n / b) ++ code (n % b) ∷ []
 
 -- the decimal digits of n and no more of them: those of n / 10, then the last one. More than n steps are never needed.
-unfoldable pub decimalIn : ℕ → ℕ → List ℕ
-decimalIn zero n = code n ∷ []
-decimalIn (suc steps) n = cond (ltb n 10) (code n ∷ []) (decimalIn steps (n / 10) ++ code (n % 10) ∷ [])
+unfoldable pub decimal_in : ℕ → ℕ → List ℕ
+decimal_in zero n = code n ∷ []
+decimal_in (suc steps) n = cond (ltb n 10) (code n ∷ []) (decimal_in steps (n / 10) ++ code (n % 10) ∷ [])
 
 unfoldable pub decimal : ℕ → List ℕ
-decimal n = decimalIn n n
+decimal n = decimal_in n n
 
 -- a line of k hexadecimal digits; for each word, one of eight
-unfoldable pub hexLine : ℕ → ℕ → List ℕ
-hexLine k n = digits 16 k n ++ 10 ∷ []
+unfoldable pub hex_line : ℕ → ℕ → List ℕ
+hex_line k n = digits 16 k n ++ 10 ∷ []
 
-unfoldable pub hexLines : List ℕ → List ℕ
-hexLines [] = []
-hexLines (w ∷ ws) = hexLine 8 w ++ hexLines ws
+unfoldable pub hex_lines : List ℕ → List ℕ
+hex_lines [] = []
+hex_lines (w ∷ ws) = hex_line 8 w ++ hex_lines ws
 
 -- `refused` and a space; then the number in decimal and a line feed
-abbrev pub refusedWord : List ℕ
-refusedWord = 114 ∷ 101 ∷ 102 ∷ 117 ∷ 115 ∷ 101 ∷ 100 ∷ 32 ∷ []
+abbrev pub refused_word : List ℕ
+refused_word = 114 ∷ 101 ∷ 102 ∷ 117 ∷ 115 ∷ 101 ∷ 100 ∷ 32 ∷ []
 
-unfoldable pub refusedLine : ℕ → List ℕ
-refusedLine n = refusedWord ++ decimal n ++ 10 ∷ []
+unfoldable pub refused_line : ℕ → List ℕ
+refused_line n = refused_word ++ decimal n ++ 10 ∷ []
 
 -- `passes`, a line feed
-abbrev pub passesLine : List ℕ
-passesLine = 112 ∷ 97 ∷ 115 ∷ 115 ∷ 101 ∷ 115 ∷ 10 ∷ []
+abbrev pub passes_line : List ℕ
+passes_line = 112 ∷ 97 ∷ 115 ∷ 115 ∷ 101 ∷ 115 ∷ 10 ∷ []

@@ -1,7 +1,7 @@
 // What the programs print, as bytes in a lent buffer. Each function puts a text at the front of `out` and leaves what stands behind it; the public
 // ones answer the count of the text's bytes.
 ghost use Rattle.std.specs.Prelude.{◌≡◌, ◌*◌, ◌<◌, ◌≤◌, length};
-ghost use Rattle.text.specs.Text.{code, digits, decimal, hexLine, hexLines, refusedLine, passesLine};
+ghost use Rattle.text.specs.Text.{code, digits, decimal, hex_line, hex_lines, refused_line, passes_line};
 ghost use Rattle.text.specs.Fills.{Fills};
 
 fn wide(x: u32) -> u64
@@ -68,7 +68,7 @@ fn put_bytes(bytes: &[u8], out: &mut [u8])
 
 fn hex_line(n: u64, k: usize, out: &mut [u8]) -> usize
     requires { k < length out.old }
-    ensures { Fills (hexLine k n) out.old out.new result }
+    ensures { Fills (hex_line k n) out.old out.new result }
 {
     put_digits(n, 16, k, out);
     out[k] = b'\n';
@@ -78,7 +78,7 @@ fn hex_line(n: u64, k: usize, out: &mut [u8]) -> usize
 // A line for each word: eight hexadecimal digits.
 pub fn word_lines(words: &[u32], out: &mut [u8]) -> usize
     requires { 9 * length words.now ≤ length out.old }
-    ensures { Fills (hexLines words.now) out.old out.new result }
+    ensures { Fills (hex_lines words.now) out.old out.new result }
 {
     for i in 0..words.len() {
         let at = 9 * i;
@@ -90,7 +90,7 @@ pub fn word_lines(words: &[u32], out: &mut [u8]) -> usize
 // A line: a number as sixteen hexadecimal digits.
 pub fn number_line(n: u64, out: &mut [u8]) -> usize
     requires { 17 ≤ length out.old }
-    ensures { Fills (hexLine 16 n) out.old out.new result }
+    ensures { Fills (hex_line 16 n) out.old out.new result }
 {
     hex_line(n, 16, out)
 }
@@ -98,7 +98,7 @@ pub fn number_line(n: u64, out: &mut [u8]) -> usize
 // A line: the number of the question that is answered with no.
 pub fn refused_line(n: u32, out: &mut [u8]) -> usize
     requires { 19 ≤ length out.old }
-    ensures { Fills (refusedLine n) out.old out.new result }
+    ensures { Fills (refused_line n) out.old out.new result }
 {
     put_bytes(b"refused ", out);
     let k = put_decimal(wide(n), &mut out[8..]);
@@ -110,7 +110,7 @@ pub fn refused_line(n: u32, out: &mut [u8]) -> usize
 // A line: a certificate passes.
 pub fn passes_line(out: &mut [u8]) -> usize
     requires { 7 ≤ length out.old }
-    ensures { Fills passesLine out.old out.new result }
+    ensures { Fills passes_line out.old out.new result }
 {
     put_bytes(b"passes\n", out);
     7

@@ -47,8 +47,8 @@ pairs W a b i qs is table from t =
     }
 
 -- and from any later one
-pub pairs-from : {W a b i : ℕ} {qs is : List ℕ} → Pairs W a b i qs is → (j : ℕ) → i ≤ j → Pairs W a b j qs is
-pairs-from p j le = record { as_long = p.as_long; pair = λ k h l. p.pair k (omega arith) l }
+pub pairs_from : {W a b i : ℕ} {qs is : List ℕ} → Pairs W a b i qs is → (j : ℕ) → i ≤ j → Pairs W a b j qs is
+pairs_from p j le = record { as_long = p.as_long; pair = λ k h l. p.pair k (omega arith) l }
 
 -- both tables, by one test of each
 pub whole : (qs is : List ℕ) → length qs ≡ 1899 → T (climbs 2 qs) → T (walk qs 8191 3 qs) → get_or qs 170 0 < 1024 → 1024 < get_or qs 171 0

@@ -5,30 +5,30 @@ use Rattle.std.proofs.Common.{ap, ◌∙◌, subst, arith, eqb-true, eq-eqb}
 use Rattle.std.specs.Int.{◌∣◌}
 use Rattle.std.proofs.Math.Nat as N
 use Rattle.std.proofs.Math.Decide.{dec_lt, ℕ_discrete}
-use Rattle.zmod.specs.Prime.{Prime, root-prime}
+use Rattle.zmod.specs.Prime.{Prime, root_prime}
 use Rattle.trial.specs.Divisors.{Odd, Undivided}
 
 -- an even number divides no odd one
-even-divides : (k n : ℕ) → k % 2 ≡ 0 → Odd n → k ∣ n → ⊥
-even-divides k n e h d =
+even_divides : (k n : ℕ) → k % 2 ≡ 0 → Odd n → k ∣ n → ⊥
+even_divides k n e h d =
     let z : n % 2 ≡ 0 = N.mod-eq-zero_of_dvd 2 (N.dvd_trans 2 (N.dvd_of_mod-eq-zero 2 e) d) in
     omega arith
 
 -- a prime above 2 is odd
-pub odd-prime : {q : ℕ} → Prime q → 2 < q → Odd q
-odd-prime {q} P h = go (ℕ_discrete (q % 2) 0)
+pub odd_prime : {q : ℕ} → Prime q → 2 < q → Odd q
+odd_prime {q} P h = go (ℕ_discrete (q % 2) 0)
   where
     go : Dec (q % 2 ≡ 0) → Odd q
     go (yes e) = absurd (P.undivided 2 (omega arith) h (N.dvd_of_mod-eq-zero 2 e))
     go (no ne) = omega arith
 
 -- a prime divisor of an odd number is above 2
-pub odd-divisor : {q : ℕ} (n : ℕ) → Prime q → Odd n → q ∣ n → 2 < q
-odd-divisor {q} n P h dv = go (ℕ_discrete q 2)
+pub odd_divisor : {q : ℕ} (n : ℕ) → Prime q → Odd n → q ∣ n → 2 < q
+odd_divisor {q} n P h dv = go (ℕ_discrete q 2)
   where
     go : Dec (q ≡ 2) → 2 < q
-    go (yes e) = absurd (even-divides q n (ap (λ x. x % 2) e) h dv)
-    go (no ne) = omega (arith, P.above-one)
+    go (yes e) = absurd (even_divides q n (ap (λ x. x % 2) e) h dv)
+    go (no ne) = omega (arith, P.above_one)
 
 -- ── the least divisor above 1 is a prime
 
@@ -47,17 +47,17 @@ clear_next d k below here x lo hi dv = go (ℕ_discrete x d)
     go (no ne) = below x lo (omega arith) dv
 
 least : (f d k : ℕ) → d + f ≡ k → 1 < d → Clear d k → PrimeDivisor k
-least zero d k e lo c = (k, record { above-one = omega arith; undivided = λ x l h dv. c x l (omega arith) dv }, N.dvd_refl k)
+least zero d k e lo c = (k, record { above_one = omega arith; undivided = λ x l h dv. c x l (omega arith) dv }, N.dvd_refl k)
 least (suc f) d k e lo c = go (ℕ_discrete (k % d) 0) (least f (suc d) k (omega arith) (omega arith))
   where
     go : Dec (k % d ≡ 0) → (Clear (suc d) k → PrimeDivisor k) → PrimeDivisor k
     go (yes z) rec =
         let dv : d ∣ k = N.dvd_of_mod-eq-zero d z in
-        (d, record { above-one = lo; undivided = λ x l h xd. c x l h (N.dvd_trans x xd dv) }, dv)
+        (d, record { above_one = lo; undivided = λ x l h xd. c x l h (N.dvd_trans x xd dv) }, dv)
     go (no z) rec = rec (clear_next d k c z)
 
-prime-divisor : (k : ℕ) → 1 < k → PrimeDivisor k
-prime-divisor k h = least (k - 2) 2 k (omega arith) (omega arith) (λ x l u. absurd (omega arith))
+prime_divisor : (k : ℕ) → 1 < k → PrimeDivisor k
+prime_divisor k h = least (k - 2) 2 k (omega arith) (omega arith) (λ x l u. absurd (omega arith))
 
 -- ── up to the root
 
@@ -65,20 +65,20 @@ pub square_le : (a b : ℕ) → a ≤ b → a * a ≤ b * b
 square_le a b h = N.mul-le-mul {n₁ = a} {m₁ = a} {n₂ = b} {m₂ = b} h h
 
 -- what is smaller by its square is smaller
-pub square-lt : (a b : ℕ) → a * a < b * b → a < b
-square-lt a b h = go (dec_lt a b)
+pub square_lt : (a b : ℕ) → a * a < b * b → a < b
+square_lt a b h = go (dec_lt a b)
   where
     go : Dec (a < b) → a < b
     go (yes l) = l
     go (no l) = absurd (omega (arith, h, square_le b a (omega arith)))
 
 -- a divisor above 1 whose square is at most n is below n
-pub below-square : (q n : ℕ) → 1 < q → q * q ≤ n → q < n
-below-square q n lo h = omega (arith, N.mul-le-mul_left q lo)
+pub below_square : (q n : ℕ) → 1 < q → q * q ≤ n → q < n
+below_square q n lo h = omega (arith, N.mul-le-mul_left q lo)
 
 -- a number without a prime divisor up to its root is a prime
-pub without-primes : (n : ℕ) → 1 < n → ((q : ℕ) → Prime q → q * q ≤ n → q ∣ n → ⊥) → Prime n
-without-primes n big none = root-prime n big (λ e lo sq dv. found e lo sq dv (prime-divisor e lo))
+pub without_primes : (n : ℕ) → 1 < n → ((q : ℕ) → Prime q → q * q ≤ n → q ∣ n → ⊥) → Prime n
+without_primes n big none = root_prime n big (λ e lo sq dv. found e lo sq dv (prime_divisor e lo))
   where
     found : (e : ℕ) → 1 < e → e * e ≤ n → e ∣ n → PrimeDivisor e → ⊥
     found e lo sq dv (q, Q, qe) =
@@ -86,26 +86,26 @@ without-primes n big none = root-prime n big (λ e lo sq dv. found e lo sq dv (p
 
 -- ── the ends of the runs
 
-pub prime-undivided : (a b : ℕ) {n : ℕ} → Prime n → Undivided a b n
-prime-undivided a b P q Q lo hi (dv, lt) = P.undivided q Q.above-one lt dv
+pub prime_undivided : (a b : ℕ) {n : ℕ} → Prime n → Undivided a b n
+prime_undivided a b P q Q lo hi (dv, lt) = P.undivided q Q.above_one lt dv
 
 -- the bound's square is above n
-pub undivided-prime : (b n : ℕ) → Odd n → 1 < n → n < b * b → Undivided 2 b n → Prime n
-undivided-prime b n on big root u =
-    without-primes n big
-    (λ q Q sq dv. u q Q (odd-divisor n Q on dv) (square-lt q b (omega (arith, sq, root))) (dv, below-square q n Q.above-one sq))
+pub undivided_prime : (b n : ℕ) → Odd n → 1 < n → n < b * b → Undivided 2 b n → Prime n
+undivided_prime b n on big root u =
+    without_primes n big
+    (λ q Q sq dv. u q Q (odd_divisor n Q on dv) (square_lt q b (omega (arith, sq, root))) (dv, below_square q n Q.above_one sq))
 
 -- ── the first answers
 
-pub none-below-two : {n : ℕ} → n < 2 → Prime n → ⊥
-none-below-two h P = omega (arith, P.above-one)
+pub none_below_two : {n : ℕ} → n < 2 → Prime n → ⊥
+none_below_two h P = omega (arith, P.above_one)
 
 -- 2 is the only even prime
-pub even-prime : (n : ℕ) → 2 ≤ n → n % 2 ≡ 0 → (eqb n 2 ≡ true) ↔ Prime n
-even-prime n h z = (λ e. two (eqb-true n 2 e), λ P. eq-eqb n 2 (only P (ℕ_discrete n 2)))
+pub even_prime : (n : ℕ) → 2 ≤ n → n % 2 ≡ 0 → (eqb n 2 ≡ true) ↔ Prime n
+even_prime n h z = (λ e. two (eqb-true n 2 e), λ P. eq-eqb n 2 (only P (ℕ_discrete n 2)))
   where
     two : n ≡ 2 → Prime n
-    two e = record { above-one = h; undivided = λ d lo hi dv. absurd (omega arith) }
+    two e = record { above_one = h; undivided = λ d lo hi dv. absurd (omega arith) }
 
     only : Prime n → Dec (n ≡ 2) → n ≡ 2
     only P (yes e) = e

@@ -9,20 +9,20 @@ use Rattle.zmod.specs.Prime.{Prime}
 use Rattle.trial.specs.Divisors.{Odd, Proper, Undivided, Told, Found}
 use Rattle.trial.specs.Divisors.Found.{none, hit, miss}
 use Rattle.trial.specs.Table.{PrimesBetween}
-use Rattle.trial.specs.Primes.{odd-divisor, square-lt, below-square, without-primes}
+use Rattle.trial.specs.Primes.{odd_divisor, square_lt, below_square, without_primes}
 
-pub told-most : {A : Type 0} {r : ℕ} → Told A r → r ≤ 1
-told-most (inl (a, e)) = omega arith
-told-most (inr (a, e)) = omega arith
+pub told_most : {A : Type 0} {r : ℕ} → Told A r → r ≤ 1
+told_most (inl (a, e)) = omega arith
+told_most (inr (a, e)) = omega arith
 
-pub found-more : {n : ℕ} {qs : List ℕ} {i e r s : ℕ} → Found n qs i e r → Told (Proper (get_or qs e 0) n) s → Found n qs i (e + 1) (r + s)
-found-more {n} {qs} {i} {e} {r} {s} f (inl (p, one)) = subst₂ (Found n qs i) (omega arith) (omega arith) (hit f p)
-found-more {n} {qs} {i} {e} {r} {s} f (inr (p, zero)) = subst₂ (Found n qs i) (omega arith) (omega arith) (miss f p)
+pub found_more : {n : ℕ} {qs : List ℕ} {i e r s : ℕ} → Found n qs i e r → Told (Proper (get_or qs e 0) n) s → Found n qs i (e + 1) (r + s)
+found_more {n} {qs} {i} {e} {r} {s} f (inl (p, one)) = subst₂ (Found n qs i) (omega arith) (omega arith) (hit f p)
+found_more {n} {qs} {i} {e} {r} {s} f (inr (p, zero)) = subst₂ (Found n qs i) (omega arith) (omega arith) (miss f p)
 
-pub found-most : {n : ℕ} {qs : List ℕ} {i e r : ℕ} → Found n qs i e r → i + r ≤ e
-found-most none = omega arith
-found-most (hit f p) = omega (arith, found-most f)
-found-most (miss f p) = omega (arith, found-most f)
+pub found_most : {n : ℕ} {qs : List ℕ} {i e r : ℕ} → Found n qs i e r → i + r ≤ e
+found_most none = omega arith
+found_most (hit f p) = omega (arith, found_most f)
+found_most (miss f p) = omega (arith, found_most f)
 
 -- a place among them whose number is a proper divisor
 abbrev Hit : ℕ → List ℕ → ℕ → ℕ → Type 0
@@ -30,7 +30,7 @@ Hit n qs i e = (j : ℕ) × (i ≤ j) × (j < e) × Proper (get_or qs j 0) n
 
 found_some : {n : ℕ} {qs : List ℕ} {i e r : ℕ} → Found n qs i e r → (r ≡ 0 → ⊥) → Hit n qs i e
 found_some none nz = absurd (nz refl)
-found_some (hit {e} {r} f p) nz = (e, omega (arith, found-most f), omega arith, p)
+found_some (hit {e} {r} f p) nz = (e, omega (arith, found_most f), omega arith, p)
 found_some {n} {qs} {i} (miss {e} {r} f p) nz = later (found_some f nz)
   where
     later : Hit n qs i e → Hit n qs i (suc e)
@@ -69,15 +69,15 @@ module _ {b : ℕ} {qs : List ℕ} (table : PrimesBetween 2 b qs) where
 
 module _ {b n : ℕ} {qs : List ℕ} (table : PrimesBetween 2 b qs) where
   -- a trial that succeeds shows a divisor
-  pub found-composite : {i e r : ℕ} → e ≤ length qs → Found n qs i e r → (r ≡ 0 → ⊥) → Prime n → ⊥
-  found-composite {i} {e} le f nz P = divided (found_some f nz)
+  pub found_composite : {i e r : ℕ} → e ≤ length qs → Found n qs i e r → (r ≡ 0 → ⊥) → Prime n → ⊥
+  found_composite {i} {e} le f nz P = divided (found_some f nz)
     where
       divided : Hit n qs i e → ⊥
-      divided (j, l, h, (dv, lt)) = P.undivided (get_or qs j 0) (table.prime j (omega arith)).above-one lt dv
+      divided (j, l, h, (dv, lt)) = P.undivided (get_or qs j 0) (table.prime j (omega arith)).above_one lt dv
 
   -- the first i entries are below a
-  pub undivided-missed : {a : ℕ} (i : ℕ) → i ≤ length qs → get_or qs (i - 1) 0 < a → Undivided 2 a n → Missed n qs i
-  undivided-missed i le last u j l p =
+  pub undivided_missed : {a : ℕ} (i : ℕ) → i ≤ length qs → get_or qs (i - 1) 0 < a → Undivided 2 a n → Missed n qs i
+  undivided_missed i le last u j l p =
       let inner : i - 1 < length qs = omega arith in
       let k : j < length qs = omega arith in
       u (get_or qs j 0) (table.prime j k) (table.above j k) (omega (arith, last, rises table j (i - 1) (omega arith) inner)) p
@@ -89,31 +89,31 @@ module _ {b n : ℕ} {qs : List ℕ} (table : PrimesBetween 2 b qs) where
       go (yes h) = m j h p
       go (no h) = found_none f z j (omega arith) l p
 
-  pub missed-undivided : Missed n qs (length qs) → Undivided 2 b n
-  missed-undivided m q Q lo hi p = at (table.complete q Q lo hi)
+  pub missed_undivided : Missed n qs (length qs) → Undivided 2 b n
+  missed_undivided m q Q lo hi p = at (table.complete q Q lo hi)
     where
       at : (k : ℕ) × (k < length qs) × (get_or qs k 0 ≡ q) → ⊥
       at (k, l, e) = m k l (subst (λ x. Proper x n) (sym e) p)
 
   -- the square of the entry at i is above n
-  pub missed-prime : Odd n → 1 < n → (i : ℕ) → i < length qs → n < get_or qs i 0 * get_or qs i 0 → Missed n qs i → Prime n
-  missed-prime on big i l root m = without-primes n big none
+  pub missed_prime : Odd n → 1 < n → (i : ℕ) → i < length qs → n < get_or qs i 0 * get_or qs i 0 → Missed n qs i → Prime n
+  missed_prime on big i l root m = without_primes n big none
     where
       none : (q : ℕ) → Prime q → q * q ≤ n → q ∣ n → ⊥
-      none q Q sq dv = at (table.complete q Q (odd-divisor n Q on dv) (omega (arith, small, table.below i l)))
+      none q Q sq dv = at (table.complete q Q (odd_divisor n Q on dv) (omega (arith, small, table.below i l)))
         where
           small : q < get_or qs i 0
-          small = square-lt q (get_or qs i 0) (omega (arith, sq, root))
+          small = square_lt q (get_or qs i 0) (omega (arith, sq, root))
 
           at : (k : ℕ) × (k < length qs) × (get_or qs k 0 ≡ q) → ⊥
           at (k, h, e) =
               m k (before table i k h (omega (arith, small, e)))
-              (subst (λ x. Proper x n) (sym e) (dv, below-square q n Q.above-one sq))
+              (subst (λ x. Proper x n) (sym e) (dv, below_square q n Q.above_one sq))
 
 -- a run from i to the end of the table, as its count is compared with 0
-pub run-decides : {b n i r : ℕ} {qs : List ℕ} → Found n qs i (length qs) r → PrimesBetween 2 b qs → Missed n qs i → (eqb r 0 ≡ true) ↔ Undivided 2 b n
-run-decides {b} {n} {i} {r} {qs} f table m =
-    (λ e. missed-undivided table (missed_more table m f (eqb-true r 0 e)), λ u. eq-eqb r 0 (go u (ℕ_discrete r 0)))
+pub run_decides : {b n i r : ℕ} {qs : List ℕ} → Found n qs i (length qs) r → PrimesBetween 2 b qs → Missed n qs i → (eqb r 0 ≡ true) ↔ Undivided 2 b n
+run_decides {b} {n} {i} {r} {qs} f table m =
+    (λ e. missed_undivided table (missed_more table m f (eqb-true r 0 e)), λ u. eq-eqb r 0 (go u (ℕ_discrete r 0)))
   where
     divided : Undivided 2 b n → Hit n qs i (length qs) → ⊥
     divided u (j, l, h, p) = u (get_or qs j 0) (table.prime j h) (table.above j h) (table.below j h) p
@@ -123,6 +123,6 @@ run-decides {b} {n} {i} {r} {qs} f table m =
     go u (no nz) = absurd (divided u (found_some f nz))
 
 -- the same behind a run up to a
-pub run-on-decides : {a b n i r : ℕ} {qs : List ℕ} → Found n qs i (length qs) r → PrimesBetween 2 b qs → Undivided 2 a n → i ≤ length qs
+pub run_on_decides : {a b n i r : ℕ} {qs : List ℕ} → Found n qs i (length qs) r → PrimesBetween 2 b qs → Undivided 2 a n → i ≤ length qs
     → get_or qs (i - 1) 0 < a → (eqb r 0 ≡ true) ↔ Undivided 2 b n
-run-on-decides {i = i} f table u le last = run-decides f table (undivided-missed table i le last u)
+run_on_decides {i = i} f table u le last = run_decides f table (undivided_missed table i le last u)

@@ -13,7 +13,7 @@ use Rattle.std.proofs.Math.Dec.{T, eqb_refl}
 use Rattle.zmod.specs.Prime.{Prime}
 use Rattle.trial.specs.Divisors.{Odd}
 use Rattle.trial.specs.Table.{PrimesBetween}
-use Rattle.trial.specs.Primes.{odd-prime, odd-divisor, square_le, below-square, without-primes}
+use Rattle.trial.specs.Primes.{odd_prime, odd_divisor, square_le, below_square, without_primes}
 
 -- ── a rising list
 
@@ -47,8 +47,8 @@ climbed lo (x ∷ xs) t = go (ltb lo x) (ltb→lt lo x) (climbed x xs) t
     go true h r s = first (h tt) (r s)
     go false h r s = absurd s
 
-rising-rest : (lo x : ℕ) (xs : List ℕ) → Rising lo (x ∷ xs) → Rising x xs
-rising-rest lo x xs r = record {
+rising_rest : (lo x : ℕ) (xs : List ℕ) → Rising lo (x ∷ xs) → Rising x xs
+rising_rest lo x xs r = record {
   above = λ k l. r.rising 0 (suc k) (N.zero-lt-suc k) ((N.suc-le-suc_iff).1 l);
   rising = λ j k h l. r.rising (suc j) (suc k) ((N.suc-le-suc_iff).1 h) ((N.suc-le-suc_iff).1 l);
 }
@@ -70,7 +70,7 @@ unfolding passes
 passed lo [] d r t k l sq z = N.not-suc-le-zero l
 passed lo (q ∷ qs) d r t k l sq z =
     go (ltb d (q * q)) (eqb (d % q) 0) (λ a. past (ltb→lt d (q * q) a) k l sq) (λ b u. next (nonzero (d % q) b) k l sq z
-    (λ j. passed q qs d (rising-rest lo q qs r) u j)) t
+    (λ j. passed q qs d (rising_rest lo q qs r) u j)) t
   where
     past : d < q * q → (k : ℕ) → k < length (q ∷ qs) → get_or (q ∷ qs) k 0 * get_or (q ∷ qs) k 0 ≤ d → ⊥
     past h zero l s = omega arith
@@ -135,25 +135,25 @@ module _ (all : List ℕ) (r : Rising 2 all) where
     prime : (j : ℕ) → j < length xs → Prime (get_or xs j 0)
     below : (j : ℕ) → j < length xs → get_or xs j 0 + 1 < d + 2 * k
 
-  passed-prime : (d : ℕ) → Odd d → 2 < d → Known d → T (passes all d) → Prime d
-  passed-prime d od lo known t = without-primes d (omega arith) none
+  passed_prime : (d : ℕ) → Odd d → 2 < d → Known d → T (passes all d) → Prime d
+  passed_prime d od lo known t = without_primes d (omega arith) none
     where
       none : (q : ℕ) → Prime q → q * q ≤ d → q ∣ d → ⊥
-      none q Q sq dv = entry (known q Q (odd-divisor d Q od dv) (below-square q d Q.above-one sq))
+      none q Q sq dv = entry (known q Q (odd_divisor d Q od dv) (below_square q d Q.above_one sq))
         where
           entry : (k : ℕ) × (k < length all) × (get_or all k 0 ≡ q) → ⊥
           entry (k, l, e) =
               passed 2 all d r t k l (subst (λ x. x * x ≤ d) (sym e) sq)
               (subst (λ x. d % x ≡ 0) (sym e) (N.mod-eq-zero_of_dvd q dv))
 
-  failed-composite : (d : ℕ) → T (not (passes all d)) → Prime d → ⊥
-  failed-composite d t P = factor (failed all d t)
+  failed_composite : (d : ℕ) → T (not (passes all d)) → Prime d → ⊥
+  failed_composite d t P = factor (failed all d t)
     where
       factor : Factor all d → ⊥
       factor (k, l, sq, dv) =
           let q = get_or all k 0 in
           let lo : 1 < q = omega (arith, r.above k l) in
-          P.undivided q lo (below-square q d lo sq) dv
+          P.undivided q lo (below_square q d lo sq) dv
 
   -- two numbers more: d, and an even one
   known_more : (d : ℕ) → Odd d → 2 < d → Known d → (Prime d → (k : ℕ) × (k < length all) × (get_or all k 0 ≡ d)) → Known (d + 2)
@@ -162,7 +162,7 @@ module _ (all : List ℕ) (r : Rising 2 all) where
       go : Dec (q < d) → Dec (q ≡ d) → (k : ℕ) × (k < length all) × (get_or all k 0 ≡ q)
       go (yes l) t = known q Q two l
       go (no l) (yes e) = subst (λ x. (k : ℕ) × (k < length all) × (get_or all k 0 ≡ x)) (sym e) (here (subst Prime e Q))
-      go (no l) (no ne) = absurd (omega (arith, odd-prime Q two))
+      go (no l) (no ne) = absurd (omega (arith, odd_prime Q two))
 
   skip : (k d : ℕ) (xs : List ℕ) → Walked k (d + 2) xs → Walked (suc k) d xs
   skip k d xs w = record {
@@ -197,7 +197,7 @@ module _ (all : List ℕ) (r : Rising 2 all) where
   }
   walked zero d i (x ∷ xs) od lo rest known t = absurd t
   walked (suc k) d i [] od lo rest known t =
-      go (passes all d) (failed-composite d) (λ none. walked k (d + 2) i [] (omega arith) (omega arith) rest
+      go (passes all d) (failed_composite d) (λ none. walked k (d + 2) i [] (omega arith) (omega arith) rest
       (known_more d od lo known (λ P. absurd (none P)))) t
     where
       go : (a : Bool) → (T (not a) → Prime d → ⊥) → ((Prime d → ⊥) → T (walk all k (d + 2) []) → Walked k (d + 2) [])
@@ -205,7 +205,7 @@ module _ (all : List ℕ) (r : Rising 2 all) where
       go true f w s = absurd s
       go false f w s = skip k d [] (w (f tt) s)
   walked (suc k) d i (x ∷ xs) od lo rest known t =
-      go (passes all d) (eqb d x) (passed-prime d od lo known) (failed-composite d) (eqb→eq d x)
+      go (passes all d) (eqb d x) (passed_prime d od lo known) (failed_composite d) (eqb→eq d x)
       (λ e P. walked k (d + 2) (i + 1) xs (omega arith) (omega arith) (rest_more i x xs rest)
       (known_more d od lo known (λ Q. (i + 0, (rest 0 (N.zero-lt-suc _)).0, (rest 0 (N.zero-lt-suc _)).1 ∙ sym e))))
       (λ none. walked k (d + 2) i (x ∷ xs) (omega arith) (omega arith) rest (known_more d od lo known (λ P. absurd (none P)))) t

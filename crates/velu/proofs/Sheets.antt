@@ -6,44 +6,44 @@ use mathlib.Core.List.{List, map}
 use Prim.Native.Nat.{ℕ, ◌+◌}
 use lib.ListN.{length, take, drop}
 use Rattle.questions.specs.Questions.{AllYes}
-use Rattle.questions.specs.Joined.{no-after, all-all}
+use Rattle.questions.specs.Joined.{no_after, all_all}
 use Rattle.sheet.specs.declared.Form.TheVariants.{Kernel}
 use Rattle.sheet.specs.declared.Values.{Values}
-use Rattle.sheet.specs.Values.{coefficientIn, gOf, half, valuesOf}
+use Rattle.sheet.specs.Values.{coefficient_in, gOf, half, values_of}
 use Rattle.sheet.specs.Asked.{asked}
 use Rattle.sheet.specs.Ready.{Ready, HoldsG}
 use Rattle.sheet.specs.Ready as R
-use Rattle.reading.specs.Accepted.{kernel-length, kernel-g}
+use Rattle.reading.specs.Accepted.{kernel_length, kernel_g}
 use Rattle.promises.specs.declared.Written.{Written}
 use Rattle.promises.specs.declared.Written.TheVariants.{Count, Refused}
-use Rattle.promises.specs.Asked.{Room, last-ask}
+use Rattle.promises.specs.Asked.{Room, last_ask}
 use Rattle.promises.specs.Answer.{KernelRight}
 use Rattle.velu.specs.Completed.{Finished}
 
-module _ (ws : List ℕ) (all : AllYes (asked Kernel ws)) (v : Values) (e : v ≡ valuesOf Kernel ws) where
+module _ (ws : List ℕ) (all : AllYes (asked Kernel ws)) (v : Values) (e : v ≡ values_of Kernel ws) where
   pub ready : Ready v
   ready = subst Ready (sym e) (R.ready Kernel ws all)
 
   pub long : length ws ≡ half v + 6
-  long = kernel-length ws all ∙ ap (λ v. half v + 6) (sym e)
+  long = kernel_length ws all ∙ ap (λ v. half v + 6) (sym e)
 
   -- the words that were read
-  module _ (g : List ℕ) (i : ℕ) (i-is : i ≡ half v + 1) (g-is : g ≡ map (coefficientIn Kernel v.p) (take i (drop 4 ws))) where
+  module _ (g : List ℕ) (i : ℕ) (i_is : i ≡ half v + 1) (g_is : g ≡ map (coefficient_in Kernel v.p) (take i (drop 4 ws))) where
     pub words : g ≡ gOf Kernel ws
     words =
-        g-is ∙ ap (λ k. map (coefficientIn Kernel v.p) (take k (drop 4 ws))) i-is
-        ∙ ap (λ v. map (coefficientIn Kernel v.p) (take (half v + 1) (drop 4 ws))) e
+        g_is ∙ ap (λ k. map (coefficient_in Kernel v.p) (take k (drop 4 ws))) i_is
+        ∙ ap (λ v. map (coefficient_in Kernel v.p) (take (half v + 1) (drop 4 ws))) e
 
-    pub g-words : HoldsG v g
-    g-words = subst (λ v. HoldsG v g) (sym e) (subst (HoldsG (valuesOf Kernel ws)) (sym words) (kernel-g ws all))
+    pub g_words : HoldsG v g
+    g_words = subst (λ v. HoldsG v g) (sym e) (subst (HoldsG (values_of Kernel ws)) (sym words) (kernel_g ws all))
 
-    right : (before after : List ℕ) → Room (length before) → (r : Written) → Finished (valuesOf Kernel ws) (gOf Kernel ws) before after r
+    right : (before after : List ℕ) → Room (length before) → (r : Written) → Finished (values_of Kernel ws) (gOf Kernel ws) before after r
         → KernelRight ws before after r
     right before after room (Count c) h =
-        ((room, all-all (asked Kernel ws) (last-ask (valuesOf Kernel ws) (gOf Kernel ws)) all h.0), h.1)
+        ((room, all_all (asked Kernel ws) (last_ask (values_of Kernel ws) (gOf Kernel ws)) all h.0), h.1)
     right before after room (Refused k) h =
-        (inr (room, no-after (asked Kernel ws) (last-ask (valuesOf Kernel ws) (gOf Kernel ws)) k all h.0), h.1)
+        (inr (room, no_after (asked Kernel ws) (last_ask (values_of Kernel ws) (gOf Kernel ws)) k all h.0), h.1)
 
-    pub kernel-right : (before after : List ℕ) → Room (length before) → (r : Written) → Finished v g before after r → KernelRight ws before after r
-    kernel-right before after room r h =
+    pub kernel_right : (before after : List ℕ) → Room (length before) → (r : Written) → Finished v g before after r → KernelRight ws before after r
+    kernel_right before after room r h =
         right before after room r (subst (λ v. Finished v (gOf Kernel ws) before after r) e (subst (λ g. Finished v g before after r) words h))

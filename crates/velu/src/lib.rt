@@ -4,7 +4,7 @@ ghost use Rattle.zmod.specs.Zmod.{mk, plus, times, minus};
 ghost use Rattle.zmod.specs.Residues.{Residue};
 ghost use Rattle.questions.specs.Questions.{AllYes};
 ghost use Rattle.sheet.specs.declared.Form.TheVariants.{Kernel};
-ghost use Rattle.sheet.specs.Values.{valuesOf, half};
+ghost use Rattle.sheet.specs.Values.{values_of, half};
 ghost use Rattle.sheet.specs.Asked.{asked};
 ghost use Rattle.sheet.specs.Ready.{Ready, HoldsG};
 ghost use Rattle.promises.specs.Asked.{Room};
@@ -90,7 +90,7 @@ fn finish(v: Values, g: &[u32], answer: &mut [u32]) -> Written
 
 // The same with the coefficients read from an accepted sheet, to g.
 fn kernel_in(v: Values, ws: &[u32], g: &mut [u32], answer: &mut [u32]) -> Written
-    requires all_yes { (AllYes (asked Kernel ws.now)) × (v ≡ valuesOf Kernel ws.now) }
+    requires all_yes { (AllYes (asked Kernel ws.now)) × (v ≡ values_of Kernel ws.now) }
     requires g_len { (length g.old ≡ half v + 1) × Room (length answer.old) }
     ensures { KernelRight ws.now answer.old answer.new result }
 {
@@ -100,7 +100,7 @@ fn kernel_in(v: Values, ws: &[u32], g: &mut [u32], answer: &mut [u32]) -> Writte
 }
 
 fn kernel_accepted(v: Values, ws: &[u32], answer: &mut [u32]) -> Written
-    requires all_yes { (AllYes (asked Kernel ws.now)) × (v ≡ valuesOf Kernel ws.now) }
+    requires all_yes { (AllYes (asked Kernel ws.now)) × (v ≡ values_of Kernel ws.now) }
     requires room { Room (length answer.old) }
     ensures { KernelRight ws.now answer.old answer.new result }
 {

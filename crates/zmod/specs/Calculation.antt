@@ -1,6 +1,6 @@
 -- Polynomials over ℤ/p by computing: lists of natural numbers, the constant term first, that the checker adds, multiplies, derives and compares
--- modulo p. Each operation has its law into `poly p`; `calc` computes a whole expression, and its law is `calc-is`. `same` decides whether two lists
--- are one polynomial, and `primeTest` whether a small number is prime.
+-- modulo p. Each operation has its law into `poly p`; `calc` computes a whole expression, and its law is `calc_is`. `same` decides whether two lists
+-- are one polynomial, and `prime_test` whether a small number is prime.
 -- Assumes nothing.
 use Rattle.std.specs.Prelude.{◌≡◌, Bool, true, false, not, ◌⊎◌, T, eqb, ltb, get_or}
 use Rattle.std.proofs.Math.Path.{refl, sym, ap, fun_ext}
@@ -15,12 +15,12 @@ use Rattle.ring.specs.Test.{both, both_left, both_right}
 use Rattle.ring.specs.Identity.{Ex, eval, at}
 use Rattle.ring.specs.Identity.Ex.{var, num, :0, :1, ◌:+◌, ◌:-◌, ◌:*◌, :-◌, ◌:^◌}
 use Rattle.series.specs.Series as S
-use Rattle.series.specs.Series.{Series, Seq, conv, sums, negs, scaled, const, zeros, head-then, tail, ∂, ∂-at}
-use Rattle.series.specs.Indeterminate.{ind, cast-series}
+use Rattle.series.specs.Series.{Series, Seq, conv, sums, negs, scaled, const, zeros, head_then, tail, ∂, ∂-at}
+use Rattle.series.specs.Indeterminate.{ind, cast_series}
 use Rattle.series.specs.Value.{value}
-use Rattle.zmod.specs.Zmod.{Zmod, mk, plus, times as mul-mod, minus, mk-add, mk-mul, mk-eq, eq-mk, mk-mod, mk-sub, cast-mk, plus-zero}
-use Rattle.zmod.specs.Prime.{Prime, root-prime}
-use Rattle.zmod.specs.Residues.{poly, poly-at}
+use Rattle.zmod.specs.Zmod.{Zmod, mk, plus, times as mul-mod, minus, mk_add, mk_mul, mk_eq, eq_mk, mk_mod, mk_sub, cast_mk, plus_zero}
+use Rattle.zmod.specs.Prime.{Prime, root_prime}
+use Rattle.zmod.specs.Residues.{poly, poly_at}
 
 -- ── sums, multiples, products: not reduced
 
@@ -105,23 +105,23 @@ horner p (suc n) (x ∷ a) u = (x + u * horner p n a u) % p
 -- ── the laws
 
 module _ (p : ℕ) where
-  pub poly-nil : poly p [] ≡ zeros (Zmod p)
+  pub poly_nil : poly p [] ≡ zeros (Zmod p)
   unfolding poly
-  poly-nil = refl
+  poly_nil = refl
 
-  pub poly-cons : (x : ℕ) (a : List ℕ) → poly p (x ∷ a) ≡ head-then (Zmod p) (mk p x) (poly p a)
-  poly-cons x a = fun_ext go
+  pub poly_cons : (x : ℕ) (a : List ℕ) → poly p (x ∷ a) ≡ head_then (Zmod p) (mk p x) (poly p a)
+  poly_cons x a = fun_ext go
     where
-      go : (i : ℕ) → poly p (x ∷ a) i ≡ head-then (Zmod p) (mk p x) (poly p a) i
-      go zero = poly-at p (x ∷ a) 0
-      go (suc i) = poly-at p (x ∷ a) (suc i) ∙ sym (poly-at p a i)
+      go : (i : ℕ) → poly p (x ∷ a) i ≡ head_then (Zmod p) (mk p x) (poly p a) i
+      go zero = poly_at p (x ∷ a) 0
+      go (suc i) = poly_at p (x ∷ a) (suc i) ∙ sym (poly_at p a i)
 
-  pub poly-const : (c : ℕ) → poly p (c ∷ []) ≡ const (Zmod p) (mk p c)
-  poly-const c = poly-cons c [] ∙ ap (head-then (Zmod p) (mk p c)) poly-nil
+  pub poly_const : (c : ℕ) → poly p (c ∷ []) ≡ const (Zmod p) (mk p c)
+  poly_const c = poly_cons c [] ∙ ap (head_then (Zmod p) (mk p c)) poly_nil
 
-  pub poly-ind : poly p (0 ∷ 1 ∷ []) ≡ ind (Zmod p)
+  pub poly_ind : poly p (0 ∷ 1 ∷ []) ≡ ind (Zmod p)
   unfolding ind
-  poly-ind = poly-cons 0 (1 ∷ []) ∙ ap (head-then (Zmod p) (mk p 0)) (poly-const 1)
+  poly_ind = poly_cons 0 (1 ∷ []) ∙ ap (head_then (Zmod p) (mk p 0)) (poly_const 1)
 
   add_at : (a b : List ℕ) (i : ℕ) → get_or (add a b) i 0 ≡ get_or a i 0 + get_or b i 0
   add_at [] b i = omega arith
@@ -134,112 +134,112 @@ module _ (p : ℕ) where
   scale_at c (x ∷ a) zero = refl
   scale_at c (x ∷ a) (suc i) = scale_at c a i
 
-  weighted-at : (k : ℕ) (a : List ℕ) (i : ℕ) → get_or (weighted k a) i 0 ≡ (k + i) * get_or a i 0
-  weighted-at k [] i = sym (N.mul-zero (k + i))
-  weighted-at k (x ∷ a) zero = ap (λ m. m * x) (sym (N.add-zero k))
-  weighted-at k (x ∷ a) (suc i) = weighted-at (suc k) a i ∙ ap (λ m. m * get_or a i 0) (omega arith)
+  weighted_at : (k : ℕ) (a : List ℕ) (i : ℕ) → get_or (weighted k a) i 0 ≡ (k + i) * get_or a i 0
+  weighted_at k [] i = sym (N.mul-zero (k + i))
+  weighted_at k (x ∷ a) zero = ap (λ m. m * x) (sym (N.add-zero k))
+  weighted_at k (x ∷ a) (suc i) = weighted_at (suc k) a i ∙ ap (λ m. m * get_or a i 0) (omega arith)
 
-  pub poly-add : (a b : List ℕ) → poly p (add a b) ≡ sums (Zmod p) (poly p a) (poly p b)
+  pub poly_add : (a b : List ℕ) → poly p (add a b) ≡ sums (Zmod p) (poly p a) (poly p b)
   unfolding poly
-  poly-add a b = fun_ext λ i. ap (mk p) (add_at a b i) ∙ mk-add p _ _
+  poly_add a b = fun_ext λ i. ap (mk p) (add_at a b i) ∙ mk_add p _ _
 
-  pub poly-scale : (c : ℕ) (a : List ℕ) → poly p (scale c a) ≡ scaled (Zmod p) (mk p c) (poly p a)
+  pub poly_scale : (c : ℕ) (a : List ℕ) → poly p (scale c a) ≡ scaled (Zmod p) (mk p c) (poly p a)
   unfolding poly
-  poly-scale c a = fun_ext λ i. ap (mk p) (scale_at c a i) ∙ mk-mul p _ _
+  poly_scale c a = fun_ext λ i. ap (mk p) (scale_at c a i) ∙ mk_mul p _ _
 
-  pub poly-times : (a b : List ℕ) → poly p (times a b) ≡ conv (Zmod p) (poly p a) (poly p b)
-  poly-times [] b =
-      poly-nil ∙ sym (fun_ext (S.conv-zeros (Zmod p) (poly p b))) ∙ ap (λ f. conv (Zmod p) f (poly p b)) (sym poly-nil)
-  poly-times (x ∷ a) b =
-      poly-add (scale x b) (0 ∷ times a b)
-      ∙ ap₂ (sums (Zmod p)) (poly-scale x b) (poly-cons 0 (times a b) ∙ ap (head-then (Zmod p) (mk p 0)) (poly-times a b))
-      ∙ sym (ap (λ f. conv (Zmod p) f (poly p b)) (poly-cons x a) ∙ S.conv-cons (Zmod p) (mk p x) (poly p a) (poly p b))
+  pub poly_times : (a b : List ℕ) → poly p (times a b) ≡ conv (Zmod p) (poly p a) (poly p b)
+  poly_times [] b =
+      poly_nil ∙ sym (fun_ext (S.conv_zeros (Zmod p) (poly p b))) ∙ ap (λ f. conv (Zmod p) f (poly p b)) (sym poly_nil)
+  poly_times (x ∷ a) b =
+      poly_add (scale x b) (0 ∷ times a b)
+      ∙ ap₂ (sums (Zmod p)) (poly_scale x b) (poly_cons 0 (times a b) ∙ ap (head_then (Zmod p) (mk p 0)) (poly_times a b))
+      ∙ sym (ap (λ f. conv (Zmod p) f (poly p b)) (poly_cons x a) ∙ S.conv_cons (Zmod p) (mk p x) (poly p a) (poly p b))
 
-  pub poly-derived : (a : List ℕ) → poly p (derived a) ≡ ∂ (Zmod p) (poly p a)
+  pub poly_derived : (a : List ℕ) → poly p (derived a) ≡ ∂ (Zmod p) (poly p a)
   unfolding poly
-  poly-derived [] = fun_ext λ i. sym (∂-at (Zmod p) (poly p []) i ∙ Ring.mul-zero (Zmod p) _)
-  poly-derived (x ∷ a) = fun_ext λ i.
-      ap (mk p) (weighted-at 1 a i) ∙ mk-mul p _ _
-      ∙ ap (λ y. mul-mod p y (mk p (get_or a i 0))) (ap (mk p) (omega arith) ∙ sym (cast-mk p (suc i)))
+  poly_derived [] = fun_ext λ i. sym (∂-at (Zmod p) (poly p []) i ∙ Ring.mul-zero (Zmod p) _)
+  poly_derived (x ∷ a) = fun_ext λ i.
+      ap (mk p) (weighted_at 1 a i) ∙ mk_mul p _ _
+      ∙ ap (λ y. mul-mod p y (mk p (get_or a i 0))) (ap (mk p) (omega arith) ∙ sym (cast_mk p (suc i)))
       ∙ sym (∂-at (Zmod p) (poly p (x ∷ a)) i)
 
 module _ {p : ℕ} (pos : 0 < p) where
-  pub poly-reduce : (a : List ℕ) → poly p (reduce p a) ≡ poly p a
-  poly-reduce [] = refl
-  poly-reduce (x ∷ a) =
-      poly-cons p (x % p) (reduce p a) ∙ ap₂ (head-then (Zmod p)) (mk-mod pos x) (poly-reduce a) ∙ sym (poly-cons p x a)
+  pub poly_reduce : (a : List ℕ) → poly p (reduce p a) ≡ poly p a
+  poly_reduce [] = refl
+  poly_reduce (x ∷ a) =
+      poly_cons p (x % p) (reduce p a) ∙ ap₂ (head_then (Zmod p)) (mk_mod pos x) (poly_reduce a) ∙ sym (poly_cons p x a)
 
   -- p − x % p
-  pub mk-neg : (x : ℕ) → mk p (p - x % p) ≡ minus p (mk p x)
-  mk-neg x =
-      ap (mk p) (sym (N.zero-add (p - x % p))) ∙ mk-sub pos 0 (x % p) (N.le_of_lt (N.mod-lt x pos)) ∙ Ring.zero-add (Zmod p) _ ∙ ap (minus p) (mk-mod pos x)
+  pub mk_neg : (x : ℕ) → mk p (p - x % p) ≡ minus p (mk p x)
+  mk_neg x =
+      ap (mk p) (sym (N.zero-add (p - x % p))) ∙ mk_sub pos 0 (x % p) (N.le_of_lt (N.mod-lt x pos)) ∙ Ring.zero-add (Zmod p) _ ∙ ap (minus p) (mk_mod pos x)
 
-  pub poly-neg : (a : List ℕ) → poly p (neg p a) ≡ negs (Zmod p) (poly p a)
-  poly-neg [] = poly-nil p ∙ fun_ext (λ i. sym (Ring.neg-zero (Zmod p))) ∙ sym (ap (negs (Zmod p)) (poly-nil p))
-  poly-neg (x ∷ a) =
-      poly-cons p (p - x % p) (neg p a) ∙ ap₂ (head-then (Zmod p)) (mk-neg x) (poly-neg a)
-      ∙ fun_ext go ∙ sym (ap (negs (Zmod p)) (poly-cons p x a))
+  pub poly_neg : (a : List ℕ) → poly p (neg p a) ≡ negs (Zmod p) (poly p a)
+  poly_neg [] = poly_nil p ∙ fun_ext (λ i. sym (Ring.neg-zero (Zmod p))) ∙ sym (ap (negs (Zmod p)) (poly_nil p))
+  poly_neg (x ∷ a) =
+      poly_cons p (p - x % p) (neg p a) ∙ ap₂ (head_then (Zmod p)) (mk_neg x) (poly_neg a)
+      ∙ fun_ext go ∙ sym (ap (negs (Zmod p)) (poly_cons p x a))
     where
-      go : (i : ℕ) → head-then (Zmod p) (minus p (mk p x)) (negs (Zmod p) (poly p a)) i ≡ negs (Zmod p) (head-then (Zmod p) (mk p x) (poly p a)) i
+      go : (i : ℕ) → head_then (Zmod p) (minus p (mk p x)) (negs (Zmod p) (poly p a)) i ≡ negs (Zmod p) (head_then (Zmod p) (mk p x) (poly p a)) i
       go zero = refl
       go (suc i) = refl
 
-  pub poly-sum : (a b : List ℕ) → poly p (sum p a b) ≡ sums (Zmod p) (poly p a) (poly p b)
-  poly-sum a b = poly-reduce (add a b) ∙ poly-add p a b
+  pub poly_sum : (a b : List ℕ) → poly p (sum p a b) ≡ sums (Zmod p) (poly p a) (poly p b)
+  poly_sum a b = poly_reduce (add a b) ∙ poly_add p a b
 
-  pub poly-difference : (a b : List ℕ) → poly p (difference p a b) ≡ sums (Zmod p) (poly p a) (negs (Zmod p) (poly p b))
-  poly-difference a b = poly-reduce (add a (neg p b)) ∙ poly-add p a (neg p b) ∙ ap (sums (Zmod p) (poly p a)) (poly-neg b)
+  pub poly_difference : (a b : List ℕ) → poly p (difference p a b) ≡ sums (Zmod p) (poly p a) (negs (Zmod p) (poly p b))
+  poly_difference a b = poly_reduce (add a (neg p b)) ∙ poly_add p a (neg p b) ∙ ap (sums (Zmod p) (poly p a)) (poly_neg b)
 
-  pub poly-multiple : (c : ℕ) (a : List ℕ) → poly p (multiple p c a) ≡ scaled (Zmod p) (mk p c) (poly p a)
-  poly-multiple c a = poly-reduce (scale c a) ∙ poly-scale p c a
+  pub poly_multiple : (c : ℕ) (a : List ℕ) → poly p (multiple p c a) ≡ scaled (Zmod p) (mk p c) (poly p a)
+  poly_multiple c a = poly_reduce (scale c a) ∙ poly_scale p c a
 
-  pub poly-mul : (a b : List ℕ) → poly p (mul p a b) ≡ conv (Zmod p) (poly p a) (poly p b)
-  poly-mul a b = poly-reduce (times a b) ∙ poly-times p a b
+  pub poly_mul : (a b : List ℕ) → poly p (mul p a b) ≡ conv (Zmod p) (poly p a) (poly p b)
+  poly_mul a b = poly_reduce (times a b) ∙ poly_times p a b
 
-  pub poly-deriv : (a : List ℕ) → poly p (deriv p a) ≡ ∂ (Zmod p) (poly p a)
-  poly-deriv a = poly-reduce (derived a) ∙ poly-derived p a
+  pub poly_deriv : (a : List ℕ) → poly p (deriv p a) ≡ ∂ (Zmod p) (poly p a)
+  poly_deriv a = poly_reduce (derived a) ∙ poly_derived p a
 
-  pub poly-power : (a : List ℕ) (n : ℕ) → poly p (power p a n) ≡ pow (Series (Zmod p)) (poly p a) n
-  poly-power a zero = poly-const p 1 ∙ sym (pow-zero (Series (Zmod p)) (poly p a))
-  poly-power a (suc n) =
-      poly-mul a (power p a n) ∙ ap (conv (Zmod p) (poly p a)) (poly-power a n) ∙ sym (pow-suc (Series (Zmod p)) (poly p a) n)
+  pub poly_power : (a : List ℕ) (n : ℕ) → poly p (power p a n) ≡ pow (Series (Zmod p)) (poly p a) n
+  poly_power a zero = poly_const p 1 ∙ sym (pow-zero (Series (Zmod p)) (poly p a))
+  poly_power a (suc n) =
+      poly_mul a (power p a n) ∙ ap (conv (Zmod p) (poly p a)) (poly_power a n) ∙ sym (pow-suc (Series (Zmod p)) (poly p a) n)
 
   -- the value of an expression in lists is its value in polynomials
-  pub calc-is : (ρ : ℕ → List ℕ) (e : Ex) → poly p (calc p ρ e) ≡ eval (Series (Zmod p)) (λ i. poly p (ρ i)) e
-  calc-is ρ (var i) = refl
-  calc-is ρ (num n) = poly-const p n ∙ ap (const (Zmod p)) (sym (cast-mk p n)) ∙ sym (cast-series (Zmod p) n)
-  calc-is ρ :0 = poly-nil p
-  calc-is ρ :1 = poly-const p 1
-  calc-is ρ (a :+ b) = poly-sum (calc p ρ a) (calc p ρ b) ∙ ap₂ (sums (Zmod p)) (calc-is ρ a) (calc-is ρ b)
-  calc-is ρ (a :- b) =
-      poly-difference (calc p ρ a) (calc p ρ b) ∙ ap₂ (λ x y. sums (Zmod p) x (negs (Zmod p) y)) (calc-is ρ a) (calc-is ρ b)
-  calc-is ρ (a :* b) = poly-mul (calc p ρ a) (calc p ρ b) ∙ ap₂ (conv (Zmod p)) (calc-is ρ a) (calc-is ρ b)
-  calc-is ρ (:- a) = poly-neg (calc p ρ a) ∙ ap (negs (Zmod p)) (calc-is ρ a)
-  calc-is ρ (a :^ n) = poly-power (calc p ρ a) n ∙ ap (λ x. pow (Series (Zmod p)) x n) (calc-is ρ a)
+  pub calc_is : (ρ : ℕ → List ℕ) (e : Ex) → poly p (calc p ρ e) ≡ eval (Series (Zmod p)) (λ i. poly p (ρ i)) e
+  calc_is ρ (var i) = refl
+  calc_is ρ (num n) = poly_const p n ∙ ap (const (Zmod p)) (sym (cast_mk p n)) ∙ sym (cast_series (Zmod p) n)
+  calc_is ρ :0 = poly_nil p
+  calc_is ρ :1 = poly_const p 1
+  calc_is ρ (a :+ b) = poly_sum (calc p ρ a) (calc p ρ b) ∙ ap₂ (sums (Zmod p)) (calc_is ρ a) (calc_is ρ b)
+  calc_is ρ (a :- b) =
+      poly_difference (calc p ρ a) (calc p ρ b) ∙ ap₂ (λ x y. sums (Zmod p) x (negs (Zmod p) y)) (calc_is ρ a) (calc_is ρ b)
+  calc_is ρ (a :* b) = poly_mul (calc p ρ a) (calc p ρ b) ∙ ap₂ (conv (Zmod p)) (calc_is ρ a) (calc_is ρ b)
+  calc_is ρ (:- a) = poly_neg (calc p ρ a) ∙ ap (negs (Zmod p)) (calc_is ρ a)
+  calc_is ρ (a :^ n) = poly_power (calc p ρ a) n ∙ ap (λ x. pow (Series (Zmod p)) x n) (calc_is ρ a)
 
   -- the same, where the variables stand for the lists ls and for the polynomials ss
-  pub calc-at : (ls : List (List ℕ)) (ss : List (Seq (Zmod p))) → Stand p ls ss → (e : Ex)
+  pub calc_at : (ls : List (List ℕ)) (ss : List (Seq (Zmod p))) → Stand p ls ss → (e : Ex)
       → poly p (calc p (lists ls) e) ≡ eval (Series (Zmod p)) (at (Series (Zmod p)) ss) e
-  calc-at ls ss all e = calc-is (lists ls) e ∙ ap (λ ρ. eval (Series (Zmod p)) ρ e) (fun_ext (go all))
+  calc_at ls ss all e = calc_is (lists ls) e ∙ ap (λ ρ. eval (Series (Zmod p)) ρ e) (fun_ext (go all))
     where
       go : {ls : List (List ℕ)} {ss : List (Seq (Zmod p))} → Stand p ls ss → (i : ℕ) → poly p (lists ls i) ≡ at (Series (Zmod p)) ss i
-      go none i = poly-nil p
+      go none i = poly_nil p
       go (h and all) zero = h
       go (h and all) (suc i) = go all i
 
-  pub horner-is : (n : ℕ) (a : List ℕ) (u : ℕ) → mk p (horner p n a u) ≡ value (Zmod p) n (poly p a) (mk p u)
+  pub horner_is : (n : ℕ) (a : List ℕ) (u : ℕ) → mk p (horner p n a u) ≡ value (Zmod p) n (poly p a) (mk p u)
   unfolding value poly
-  horner-is zero a u = refl
-  horner-is (suc n) [] u =
-      sym (ap (λ y. plus p (mk p 0) (mul-mod p (mk p u) y)) (sym (horner-is n [] u) ∙ ap (mk p) (none n)) ∙ ap (plus p (mk p 0))
-      (Ring.mul-zero (Zmod p) (mk p u)) ∙ plus-zero p (mk p 0))
+  horner_is zero a u = refl
+  horner_is (suc n) [] u =
+      sym (ap (λ y. plus p (mk p 0) (mul-mod p (mk p u) y)) (sym (horner_is n [] u) ∙ ap (mk p) (none n)) ∙ ap (plus p (mk p 0))
+      (Ring.mul-zero (Zmod p) (mk p u)) ∙ plus_zero p (mk p 0))
     where
       none : (n : ℕ) → horner p n [] u ≡ 0
       none zero = refl
       none (suc n) = refl
-  horner-is (suc n) (x ∷ a) u =
-      mk-mod pos (x + u * horner p n a u) ∙ mk-add p x (u * horner p n a u)
-      ∙ ap (plus p (mk p x)) (mk-mul p u (horner p n a u) ∙ ap (mul-mod p (mk p u)) (horner-is n a u))
+  horner_is (suc n) (x ∷ a) u =
+      mk_mod pos (x + u * horner p n a u) ∙ mk_add p x (u * horner p n a u)
+      ∙ ap (plus p (mk p x)) (mk_mul p u (horner p n a u) ∙ ap (mul-mod p (mk p u)) (horner_is n a u))
 
 -- ── whether two lists are one polynomial
 
@@ -256,33 +256,33 @@ both_yes true b s t = t
 both_yes false b s t = s
 
 module _ {p : ℕ} (pos : 0 < p) where
-  null-yes : (a : List ℕ) → T (null p a) → poly p a ≡ zeros (Zmod p)
-  null-yes [] t = poly-nil p
-  null-yes (x ∷ a) t =
-      poly-cons p x a
-      ∙ ap₂ (head-then (Zmod p)) (mk-eq pos x 0 (eqb→eq (x % p) 0 (both_left (eqb (x % p) 0) (null p a) t) ∙ sym (N.zero-mod p)))
-      (null-yes a (both_right (eqb (x % p) 0) (null p a) t))
-      ∙ fun_ext (S.const-null (Zmod p))
+  null_yes : (a : List ℕ) → T (null p a) → poly p a ≡ zeros (Zmod p)
+  null_yes [] t = poly_nil p
+  null_yes (x ∷ a) t =
+      poly_cons p x a
+      ∙ ap₂ (head_then (Zmod p)) (mk_eq pos x 0 (eqb→eq (x % p) 0 (both_left (eqb (x % p) 0) (null p a) t) ∙ sym (N.zero-mod p)))
+      (null_yes a (both_right (eqb (x % p) 0) (null p a) t))
+      ∙ fun_ext (S.const_null (Zmod p))
 
-  null-only : (a : List ℕ) → poly p a ≡ zeros (Zmod p) → T (null p a)
-  null-only [] e = tt
-  null-only (x ∷ a) e =
-      let f : head-then (Zmod p) (mk p x) (poly p a) ≡ zeros (Zmod p) = sym (poly-cons p x a) ∙ e in
-      let z : x % p ≡ 0 = eq-mk pos x 0 (ap (λ s. s 0) f) ∙ N.zero-mod p in
-      both_yes (eqb (x % p) 0) (null p a) (subst (λ m. T (eqb m 0)) (sym z) (eqb_refl 0)) (null-only a (ap (tail (Zmod p)) f))
+  null_only : (a : List ℕ) → poly p a ≡ zeros (Zmod p) → T (null p a)
+  null_only [] e = tt
+  null_only (x ∷ a) e =
+      let f : head_then (Zmod p) (mk p x) (poly p a) ≡ zeros (Zmod p) = sym (poly_cons p x a) ∙ e in
+      let z : x % p ≡ 0 = eq_mk pos x 0 (ap (λ s. s 0) f) ∙ N.zero-mod p in
+      both_yes (eqb (x % p) 0) (null p a) (subst (λ m. T (eqb m 0)) (sym z) (eqb_refl 0)) (null_only a (ap (tail (Zmod p)) f))
 
-  pub same-yes : (a b : List ℕ) → T (same p a b) → poly p a ≡ poly p b
-  same-yes a b t =
+  pub same_yes : (a b : List ℕ) → T (same p a b) → poly p a ≡ poly p b
+  same_yes a b t =
       Ring.sub-zero (Series (Zmod p)) (poly p a) (poly p b)
-      (sym (poly-add p a (neg p b) ∙ ap (sums (Zmod p) (poly p a)) (poly-neg pos b)) ∙ null-yes (add a (neg p b)) t)
+      (sym (poly_add p a (neg p b) ∙ ap (sums (Zmod p) (poly p a)) (poly_neg pos b)) ∙ null_yes (add a (neg p b)) t)
 
-  pub same-only : (a b : List ℕ) → poly p a ≡ poly p b → T (same p a b)
-  same-only a b e =
-      null-only (add a (neg p b))
-      (poly-add p a (neg p b) ∙ ap₂ (sums (Zmod p)) e (poly-neg pos b) ∙ (Series (Zmod p)).add-neg (poly p b))
+  pub same_only : (a b : List ℕ) → poly p a ≡ poly p b → T (same p a b)
+  same_only a b e =
+      null_only (add a (neg p b))
+      (poly_add p a (neg p b) ∙ ap₂ (sums (Zmod p)) e (poly_neg pos b) ∙ (Series (Zmod p)).add-neg (poly p b))
 
-  pub same-no : (a b : List ℕ) → T (not (same p a b)) → poly p a ≡ poly p b → ⊥
-  same-no a b t e = T_not (same p a b) t (same-only a b e)
+  pub same_no : (a b : List ℕ) → T (not (same p a b)) → poly p a ≡ poly p b → ⊥
+  same_no a b t e = T_not (same p a b) t (same_only a b e)
 
 -- ── whether a number is prime: no number from 2 to its square root divides it
 
@@ -291,9 +291,9 @@ abbrev undivided : ℕ → ℕ → ℕ → Bool
 undivided p d zero = false
 undivided p d (suc k) = elim (ltb p (d * d)) [ true ↦ true | false ↦ both (not (eqb (p % d) 0)) (undivided p (suc d) k) ]
 
-undivided-yes : (p d k : ℕ) → T (undivided p d k) → (e : ℕ) → d ≤ e → e * e ≤ p → e ∣ p → ⊥
-undivided-yes p d zero t e le small h = t
-undivided-yes p d (suc k) t e le small h = go (ltb p (d * d)) refl t (λ s l. undivided-yes p (suc d) k s e l small h)
+undivided_yes : (p d k : ℕ) → T (undivided p d k) → (e : ℕ) → d ≤ e → e * e ≤ p → e ∣ p → ⊥
+undivided_yes p d zero t e le small h = t
+undivided_yes p d (suc k) t e le small h = go (ltb p (d * d)) refl t (λ s l. undivided_yes p (suc d) k s e l small h)
   where
     apart : (d ≡ e) ⊎ (d < e) → T (not (eqb (p % d) 0)) → (d < e → ⊥) → ⊥
     apart (inl same) s later =
@@ -308,15 +308,15 @@ undivided-yes p d (suc k) t e le small h = go (ltb p (d * d)) refl t (λ s l. un
         apart (N.eq-or-lt_of_le le) (both_left (not (eqb (p % d) 0)) (undivided p (suc d) k) s)
         (later (both_right (not (eqb (p % d) 0)) (undivided p (suc d) k) s))
 
-abbrev pub primeTest : ℕ → Bool
-primeTest p = both (ltb 1 p) (undivided p 2 p)
+abbrev pub prime_test : ℕ → Bool
+prime_test p = both (ltb 1 p) (undivided p 2 p)
 
-pub prime-yes : (p : ℕ) → T (primeTest p) → Prime p
-prime-yes p t =
-    root-prime p (ltb→lt 1 p (both_left (ltb 1 p) (undivided p 2 p) t)) (undivided-yes p 2 p (both_right (ltb 1 p) (undivided p 2 p) t))
+pub prime_yes : (p : ℕ) → T (prime_test p) → Prime p
+prime_yes p t =
+    root_prime p (ltb→lt 1 p (both_left (ltb 1 p) (undivided p 2 p) t)) (undivided_yes p 2 p (both_right (ltb 1 p) (undivided p 2 p) t))
 
 -- examples
-primes : T (primeTest 1009) × T (primeTest 11) × T (not (primeTest 1001)) × T (not (primeTest 961))
+primes : T (prime_test 1009) × T (prime_test 11) × T (not (prime_test 1001)) × T (not (prime_test 961))
 primes = (tt, tt, tt, tt)
 
 cube : T (same 11 (power 11 (10 ∷ 1 ∷ []) 3) (10 ∷ 3 ∷ 8 ∷ 1 ∷ [])) × T (not (same 11 (power 11 (10 ∷ 1 ∷ []) 3) (10 ∷ 0 ∷ 0 ∷ 1 ∷ [])))

@@ -17,7 +17,7 @@ pub mul_mod_left : (a b m : ℕ) → ((a % m) * b) % m ≡ (a * b) % m
 mul_mod_left a b m = ap (λ x. x % m) (N.mul_comm (a % m) b) ∙ mul_mod_right b a m ∙ ap (λ x. x % m) (N.mul_comm b a)
 
 -- the product of two numbers of k bits has 2 k bits
-pub product-below : (k : ℕ) {a b : ℕ} → a < 2 ^ k → b < 2 ^ k → a * b < 2 ^ (k + k)
-product-below k {a} {b} ha hb =
+pub product_below : (k : ℕ) {a b : ℕ} → a < 2 ^ k → b < 2 ^ k → a * b < 2 ^ (k + k)
+product_below k {a} {b} ha hb =
     subst⁻¹ (λ (n : ℕ). a * b < n) (pow-add 2 k k)
     (N.lt_of_le_of_lt (N.mul-le-mul_left a (N.le_of_lt hb)) (N.mul-lt-mul_of_pos_right ha (pow_pos k)))

@@ -1,7 +1,7 @@
 -- The integers modulo p as a commutative ring `Zmod p`, for every natural number p. (For p = 0 the modulus is read as 1, so that the ring needs no
 -- proof about p: what is said of residues below asks for 0 < p.)
 -- An element is a natural number that is its own remainder: `val` reads it, `mk p n` is the class of any natural number n. `mk` respects sums and
--- products and is onto, so what code says of `% p` becomes an equation of the ring, and back by `mk-eq` and `eq-mk`.
+-- products and is onto, so what code says of `% p` becomes an equation of the ring, and back by `mk_eq` and `eq_mk`.
 -- Assumes nothing.
 use Rattle.std.specs.Prelude.{◌≡◌, ◌≢◌, ℕ, zero, suc, ◌+◌, ◌*◌, ◌-◌, ◌^◌, ◌<◌, ◌≤◌, ◌%◌, max}
 use Rattle.std.proofs.Math.Path.{refl, sym, ap}
@@ -11,20 +11,20 @@ use Rattle.std.proofs.Math.Nat as N
 use Rattle.std.proofs.Math.Nat.{ℕ_set, mod-mod, mod_self, zero-mod, mod-add-mod, add-mod-mod}
 use Rattle.std.proofs.Math.Decide.{ℕ_discrete}
 use Rattle.ring.specs.Ring
-use Rattle.ring.specs.Ring.{CRing, cast, cast-suc, cast-zero, pow, pow-zero, pow-suc}
+use Rattle.ring.specs.Ring.{CRing, cast, cast_suc, cast_zero, pow, pow-zero, pow-suc}
 use Rattle.zmod.specs.Remainder.{mul_mod_right, mul_mod_left}
 
 -- p itself, but for p = 0
 unfoldable pub modulus : ℕ → ℕ
 modulus p = max 1 p
 
-pub modulus-is : {p : ℕ} → 0 < p → modulus p ≡ p
+pub modulus_is : {p : ℕ} → 0 < p → modulus p ≡ p
 unfolding modulus
-modulus-is h = omega arith
+modulus_is h = omega arith
 
-pub modulus-pos : (p : ℕ) → 0 < modulus p
+pub modulus_pos : (p : ℕ) → 0 < modulus p
 unfolding modulus
-modulus-pos p = omega arith
+modulus_pos p = omega arith
 
 module _ (p : ℕ) where
   abbrev pub Elt : Type 0
@@ -55,9 +55,9 @@ module _ (p : ℕ) where
   unfolding mk
   mk-val x = val_path x.1
 
-  mk-same : (m n : ℕ) → m % modulus p ≡ n % modulus p → mk m ≡ mk n
+  mk_same : (m n : ℕ) → m % modulus p ≡ n % modulus p → mk m ≡ mk n
   unfolding mk
-  mk-same m n e = val_path e
+  mk_same m n e = val_path e
 
   unfoldable pub plus : Elt → Elt → Elt
   plus x y = mk (val x + val y)
@@ -68,17 +68,17 @@ module _ (p : ℕ) where
   unfoldable pub minus : Elt → Elt
   minus x = mk (modulus p - val x)
 
-  pub mk-add : (m n : ℕ) → mk (m + n) ≡ plus (mk m) (mk n)
+  pub mk_add : (m n : ℕ) → mk (m + n) ≡ plus (mk m) (mk n)
   unfolding plus
-  mk-add m n = rw (val-mk m, val-mk n) (mk-same _ _ (sym (mod-add-mod m (modulus p) (n % modulus p) ∙ add-mod-mod m n (modulus p))))
+  mk_add m n = rw (val-mk m, val-mk n) (mk_same _ _ (sym (mod-add-mod m (modulus p) (n % modulus p) ∙ add-mod-mod m n (modulus p))))
 
-  pub mk-mul : (m n : ℕ) → mk (m * n) ≡ times (mk m) (mk n)
+  pub mk_mul : (m n : ℕ) → mk (m * n) ≡ times (mk m) (mk n)
   unfolding times
-  mk-mul m n = rw (val-mk m, val-mk n) (mk-same _ _ (sym (mul_mod_left m (n % modulus p) (modulus p) ∙ mul_mod_right m n (modulus p))))
+  mk_mul m n = rw (val-mk m, val-mk n) (mk_same _ _ (sym (mul_mod_left m (n % modulus p) (modulus p) ∙ mul_mod_right m n (modulus p))))
 
-  pub mk-combination : (l x m y n z : ℕ) → mk (l * x + m * y + n * z) ≡ plus (plus (times (mk l) (mk x)) (times (mk m) (mk y))) (times (mk n) (mk z))
-  mk-combination l x m y n z =
-      mk-add (l * x + m * y) (n * z) ∙ ap₂ plus (mk-add (l * x) (m * y) ∙ ap₂ plus (mk-mul l x) (mk-mul m y)) (mk-mul n z)
+  pub mk_combination : (l x m y n z : ℕ) → mk (l * x + m * y + n * z) ≡ plus (plus (times (mk l) (mk x)) (times (mk m) (mk y))) (times (mk n) (mk z))
+  mk_combination l x m y n z =
+      mk_add (l * x + m * y) (n * z) ∙ ap₂ plus (mk_add (l * x) (m * y) ∙ ap₂ plus (mk_mul l x) (mk_mul m y)) (mk_mul n z)
 
   -- what holds at every `mk n` holds at every element
   pub onto : (P : Elt → Type 0) → ((n : ℕ) → P (mk n)) → (x : Elt) → P x
@@ -86,39 +86,39 @@ module _ (p : ℕ) where
 
   pub plus_assoc : (a b c : Elt) → plus (plus a b) c ≡ plus a (plus b c)
   plus_assoc = onto _ λ a. onto _ λ b. onto _ λ c.
-      sym (mk-add (a + b) c ∙ ap (λ x. plus x (mk c)) (mk-add a b)) ∙ ap mk (N.add_assoc a b c) ∙ mk-add a (b + c)
-      ∙ ap (λ x. plus (mk a) x) (mk-add b c)
+      sym (mk_add (a + b) c ∙ ap (λ x. plus x (mk c)) (mk_add a b)) ∙ ap mk (N.add_assoc a b c) ∙ mk_add a (b + c)
+      ∙ ap (λ x. plus (mk a) x) (mk_add b c)
 
   pub plus_comm : (a b : Elt) → plus a b ≡ plus b a
-  plus_comm = onto _ λ a. onto _ λ b. sym (mk-add a b) ∙ ap mk (N.add_comm a b) ∙ mk-add b a
+  plus_comm = onto _ λ a. onto _ λ b. sym (mk_add a b) ∙ ap mk (N.add_comm a b) ∙ mk_add b a
 
-  pub plus-zero : (a : Elt) → plus a (mk 0) ≡ a
-  plus-zero = onto _ λ a. sym (mk-add a 0) ∙ ap mk (N.add-zero a)
+  pub plus_zero : (a : Elt) → plus a (mk 0) ≡ a
+  plus_zero = onto _ λ a. sym (mk_add a 0) ∙ ap mk (N.add-zero a)
 
-  pub times-assoc : (a b c : Elt) → times (times a b) c ≡ times a (times b c)
-  times-assoc = onto _ λ a. onto _ λ b. onto _ λ c.
-      sym (mk-mul (a * b) c ∙ ap (λ x. times x (mk c)) (mk-mul a b)) ∙ ap mk (N.mul_assoc a b c) ∙ mk-mul a (b * c)
-      ∙ ap (λ x. times (mk a) x) (mk-mul b c)
+  pub times_assoc : (a b c : Elt) → times (times a b) c ≡ times a (times b c)
+  times_assoc = onto _ λ a. onto _ λ b. onto _ λ c.
+      sym (mk_mul (a * b) c ∙ ap (λ x. times x (mk c)) (mk_mul a b)) ∙ ap mk (N.mul_assoc a b c) ∙ mk_mul a (b * c)
+      ∙ ap (λ x. times (mk a) x) (mk_mul b c)
 
-  pub times-comm : (a b : Elt) → times a b ≡ times b a
-  times-comm = onto _ λ a. onto _ λ b. sym (mk-mul a b) ∙ ap mk (N.mul_comm a b) ∙ mk-mul b a
+  pub times_comm : (a b : Elt) → times a b ≡ times b a
+  times_comm = onto _ λ a. onto _ λ b. sym (mk_mul a b) ∙ ap mk (N.mul_comm a b) ∙ mk_mul b a
 
-  pub times-one : (a : Elt) → times a (mk 1) ≡ a
-  times-one = onto _ λ a. sym (mk-mul a 1) ∙ ap mk (N.mul-one a)
+  pub times_one : (a : Elt) → times a (mk 1) ≡ a
+  times_one = onto _ λ a. sym (mk_mul a 1) ∙ ap mk (N.mul-one a)
 
-  pub times-plus : (a b c : Elt) → times a (plus b c) ≡ plus (times a b) (times a c)
-  times-plus = onto _ λ a. onto _ λ b. onto _ λ c.
-      ap (λ x. times (mk a) x) (sym (mk-add b c)) ∙ sym (mk-mul a (b + c)) ∙ ap mk (N.mul-add a b c) ∙ mk-add (a * b) (a * c)
-      ∙ ap₂ plus (mk-mul a b) (mk-mul a c)
+  pub times_plus : (a b c : Elt) → times a (plus b c) ≡ plus (times a b) (times a c)
+  times_plus = onto _ λ a. onto _ λ b. onto _ λ c.
+      ap (λ x. times (mk a) x) (sym (mk_add b c)) ∙ sym (mk_mul a (b + c)) ∙ ap mk (N.mul-add a b c) ∙ mk_add (a * b) (a * c)
+      ∙ ap₂ plus (mk_mul a b) (mk_mul a c)
 
-  pub val-below : (x : Elt) → val x < modulus p
-  val-below x = subst (λ n. n < modulus p) x.1 (mod-lt (val x) (modulus-pos p))
+  pub val_below : (x : Elt) → val x < modulus p
+  val_below x = subst (λ n. n < modulus p) x.1 (mod-lt (val x) (modulus_pos p))
 
-  pub plus-minus : (a : Elt) → plus a (minus a) ≡ mk 0
+  pub plus_minus : (a : Elt) → plus a (minus a) ≡ mk 0
   unfolding minus
-  plus-minus a =
-      ap (λ x. plus x (mk (modulus p - val a))) (sym (mk-val a)) ∙ sym (mk-add (val a) (modulus p - val a))
-      ∙ ap mk (N.add-sub_of_le (N.le_of_lt (val-below a))) ∙ mk-same _ _ (mod_self (modulus p) ∙ sym (zero-mod (modulus p)))
+  plus_minus a =
+      ap (λ x. plus x (mk (modulus p - val a))) (sym (mk-val a)) ∙ sym (mk_add (val a) (modulus p - val a))
+      ∙ ap mk (N.add-sub_of_le (N.le_of_lt (val_below a))) ∙ mk_same _ _ (mod_self (modulus p) ∙ sym (zero-mod (modulus p)))
 
   abbrev pub Zmod : CRing
   Zmod = record {
@@ -131,53 +131,53 @@ module _ (p : ℕ) where
     neg = minus;
     add_assoc = plus_assoc;
     add_comm = plus_comm;
-    add-zero = plus-zero;
-    add-neg = plus-minus;
-    mul_assoc = times-assoc;
-    mul_comm = times-comm;
-    mul-one = times-one;
-    mul-add = times-plus;
+    add-zero = plus_zero;
+    add-neg = plus_minus;
+    mul_assoc = times_assoc;
+    mul_comm = times_comm;
+    mul-one = times_one;
+    mul-add = times_plus;
   }
 
-  pub cast-mk : (n : ℕ) → cast Zmod n ≡ mk n
-  cast-mk zero = cast-zero Zmod
-  cast-mk (suc n) = cast-suc Zmod n ∙ ap (λ x. plus x (mk 1)) (cast-mk n) ∙ sym (mk-add n 1) ∙ ap mk (omega arith)
+  pub cast_mk : (n : ℕ) → cast Zmod n ≡ mk n
+  cast_mk zero = cast_zero Zmod
+  cast_mk (suc n) = cast_suc Zmod n ∙ ap (λ x. plus x (mk 1)) (cast_mk n) ∙ sym (mk_add n 1) ∙ ap mk (omega arith)
 
-  pub mk-pow : (a n : ℕ) → mk (a ^ n) ≡ pow Zmod (mk a) n
-  mk-pow a zero = ap mk (N.pow-zero a) ∙ sym (pow-zero Zmod (mk a))
-  mk-pow a (suc n) = ap mk (N.pow-succ' a n) ∙ mk-mul a (a ^ n) ∙ ap (times (mk a)) (mk-pow a n) ∙ sym (pow-suc Zmod (mk a) n)
+  pub mk_pow : (a n : ℕ) → mk (a ^ n) ≡ pow Zmod (mk a) n
+  mk_pow a zero = ap mk (N.pow-zero a) ∙ sym (pow-zero Zmod (mk a))
+  mk_pow a (suc n) = ap mk (N.pow-succ' a n) ∙ mk_mul a (a ^ n) ∙ ap (times (mk a)) (mk_pow a n) ∙ sym (pow-suc Zmod (mk a) n)
 
 -- ── residues, where 0 < p
 
 module _ {p : ℕ} (pos : 0 < p) where
   pub val-lt : (x : Elt p) → val p x < p
-  val-lt x = subst (λ m. val p x < m) (modulus-is pos) (val-below p x)
+  val-lt x = subst (λ m. val p x < m) (modulus_is pos) (val_below p x)
 
   pub val_of : (n : ℕ) → val p (mk p n) ≡ n % p
-  val_of n = val-mk p n ∙ ap (λ m. n % m) (modulus-is pos)
+  val_of n = val-mk p n ∙ ap (λ m. n % m) (modulus_is pos)
 
-  pub mk-eq : (m n : ℕ) → m % p ≡ n % p → mk p m ≡ mk p n
-  mk-eq m n e = val_path p (val_of m ∙ e ∙ sym (val_of n))
+  pub mk_eq : (m n : ℕ) → m % p ≡ n % p → mk p m ≡ mk p n
+  mk_eq m n e = val_path p (val_of m ∙ e ∙ sym (val_of n))
 
-  pub eq-mk : (m n : ℕ) → mk p m ≡ mk p n → m % p ≡ n % p
-  eq-mk m n e = sym (val_of m) ∙ ap (val p) e ∙ val_of n
+  pub eq_mk : (m n : ℕ) → mk p m ≡ mk p n → m % p ≡ n % p
+  eq_mk m n e = sym (val_of m) ∙ ap (val p) e ∙ val_of n
 
   -- a remainder is in its number's class, and p is zero
-  pub mk-mod : (n : ℕ) → mk p (n % p) ≡ mk p n
-  mk-mod n = mk-eq (n % p) n (mod-mod n p)
+  pub mk_mod : (n : ℕ) → mk p (n % p) ≡ mk p n
+  mk_mod n = mk_eq (n % p) n (mod-mod n p)
 
-  pub mk-self : mk p p ≡ mk p 0
-  mk-self = mk-eq p 0 (mod_self p ∙ sym (zero-mod p))
+  pub mk_self : mk p p ≡ mk p 0
+  mk_self = mk_eq p 0 (mod_self p ∙ sym (zero-mod p))
 
   -- numbers below p are told apart
-  pub mk-apart : (m n : ℕ) → m < p → n < p → mk p m ≡ mk p n → m ≡ n
-  mk-apart m n hm hn e = sym (N.mod-eq_of_lt hm) ∙ eq-mk m n e ∙ N.mod-eq_of_lt hn
+  pub mk_apart : (m n : ℕ) → m < p → n < p → mk p m ≡ mk p n → m ≡ n
+  mk_apart m n hm hn e = sym (N.mod-eq_of_lt hm) ∙ eq_mk m n e ∙ N.mod-eq_of_lt hn
 
-  pub mk-nonzero : (n : ℕ) → 0 < n → n < p → mk p n ≢ mk p 0
-  mk-nonzero n h l e = let z : n ≡ 0 = mk-apart n 0 l pos e in absurd (omega arith)
+  pub mk_nonzero : (n : ℕ) → 0 < n → n < p → mk p n ≢ mk p 0
+  mk_nonzero n h l e = let z : n ≡ 0 = mk_apart n 0 l pos e in absurd (omega arith)
 
   -- m − n, for n at most p
-  pub mk-sub : (m n : ℕ) → n ≤ p → mk p (m + (p - n)) ≡ plus p (mk p m) (minus p (mk p n))
-  mk-sub m n le =
-      mk-add p m (p - n) ∙ ap (plus p (mk p m)) (Ring.neg_unique (Zmod p) (mk p n) (mk p (p - n))
-      (sym (mk-add p n (p - n)) ∙ ap (mk p) (N.add-sub_of_le le) ∙ mk-self))
+  pub mk_sub : (m n : ℕ) → n ≤ p → mk p (m + (p - n)) ≡ plus p (mk p m) (minus p (mk p n))
+  mk_sub m n le =
+      mk_add p m (p - n) ∙ ap (plus p (mk p m)) (Ring.neg_unique (Zmod p) (mk p n) (mk p (p - n))
+      (sym (mk_add p n (p - n)) ∙ ap (mk p) (N.add-sub_of_le le) ∙ mk_self))

@@ -3,12 +3,12 @@ use mathlib.Core.Path.{◌≡◌, ◌∙◌, ap}
 use Prim.Native.Nat.{◌-◌, ◌*◌, ◌/◌, ◌%◌, ◌^◌}
 use native.Mathlib.Omega.{arith}
 use borrow.Author.Rules.{rules}
-use Rattle.barrett.proofs.Steps.{inverse-word, quotient, quotient_le, quotient-ge, quotient-same}
+use Rattle.barrett.proofs.Steps.{inverse_word, quotient, quotient_le, quotient_ge, quotient_same}
 use Rattle.barrett.proofs.lazy.Statement.{statement}
 use Rattle.barrett.proofs.lazy.Tie as tie
 
 product-requires : tie.Need-product-requires
-product-requires c κs = (omega arith, omega (arith, inverse-word c.requires.0))
+product-requires c κs = (omega arith, omega (arith, inverse_word c.requires.0))
 
 product-requires-2 : tie.Need-product-requires-2
 product-requires-2 c κs = search rules
@@ -28,8 +28,8 @@ returns : tie.Need-returns
 returns c =
     let start = c.before.before in
     let at = start.args in (
-      ap (λ n. (at.y - n) % at.m.big) (multiple c) ∙ quotient-same start.requires.0 at.y start.requires.1,
-      omega (arith, multiple c, quotient-ge start.requires.0 at.y start.requires.1),
+      ap (λ n. (at.y - n) % at.m.big) (multiple c) ∙ quotient_same start.requires.0 at.y start.requires.1,
+      omega (arith, multiple c, quotient_ge start.requires.0 at.y start.requires.1),
     )
 
 pub lazy-spec : {M : Type 1} → statement M

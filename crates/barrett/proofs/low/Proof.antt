@@ -3,7 +3,7 @@ use mathlib.Core.Path.{◌∙◌, ap}
 use Prim.Native.Nat.{◌-◌}
 use native.Mathlib.Omega.{arith}
 use borrow.Author.Rules.{rules}
-use Rattle.barrett.proofs.Steps.{carry-le, carry-rest}
+use Rattle.barrett.proofs.Steps.{carry_le, carry_rest}
 use Rattle.barrett.proofs.low.Statement.{statement}
 use Rattle.barrett.proofs.low.Tie as tie
 
@@ -23,14 +23,14 @@ sub-result : tie.Need-overflow-sub-result
 sub-result c =
     let near = c.before.before in
     let start = near.before in
-    omega (arith, c.product.ensures, carry-le start.args.m.big near.lazy.result start.requires.0.below near.lazy.ensures.1)
+    omega (arith, c.product.ensures, carry_le start.args.m.big near.lazy.result start.requires.0.below near.lazy.ensures.1)
 
 returns : tie.Need-returns
 returns c =
     let near = c.before.before in
     let start = near.before in
     ap (λ n. near.lazy.result - n) c.product.ensures
-    ∙ carry-rest start.args.m.big near.lazy.result start.requires.0.below near.lazy.ensures.1 ∙ near.lazy.ensures.0
+    ∙ carry_rest start.args.m.big near.lazy.result start.requires.0.below near.lazy.ensures.1 ∙ near.lazy.ensures.0
 
 pub low-spec : {M : Type 1} → statement M
 low-spec = tie.close (tie.spec lazy-requires add-carry sub-carry product-requires sub-result returns)

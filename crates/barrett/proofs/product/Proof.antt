@@ -3,12 +3,12 @@ use mathlib.Core.Path.{ap₂}
 use Prim.Native.Nat.{◌*◌}
 use native.Mathlib.Nat.{mod-eq_of_lt}
 use native.Mathlib.Omega.{arith}
-use Rattle.zmod.specs.Remainder.{product-below}
+use Rattle.zmod.specs.Remainder.{product_below}
 use Rattle.barrett.proofs.product.Statement.{statement}
 use Rattle.barrett.proofs.product.Tie as tie
 
 mul-result : tie.Need-overflow-mul-result
-mul-result c = record { fits = product-below 32 (omega arith) (omega arith) }
+mul-result c = record { fits = product_below 32 (omega arith) (omega arith) }
 
 returns : tie.Need-returns
 returns c = ap₂ ◌*◌ (mod-eq_of_lt c.requires.0) (mod-eq_of_lt c.requires.1)

@@ -7,8 +7,8 @@ use native.Mathlib.Omega.{arith}
 use borrow.Author.Rules.{rules}
 use lib.ListN.{length, length-set}
 use Rattle.slices.specs.Filling.{Filled, filled_none, filled_more}
-use Rattle.zmod.specs.Residues.{Residue, poly, poly-at, residue-same, residues-filled}
-use Rattle.barrett.specs.Modulus.{prepared-positive}
+use Rattle.zmod.specs.Residues.{Residue, poly, poly_at, residue_same, residues_filled}
+use Rattle.barrett.specs.Modulus.{prepared_positive}
 use Rattle.barrett.proofs.remainders.Statement.{statement}
 use Rattle.barrett.proofs.remainders.Tie as tie
 
@@ -45,8 +45,8 @@ mul-out c = search rules
 slice-write-out : tie.Need-slice-write-out invariant-loop decreases-loop
 slice-write-out c = search rules
 
-add-i : tie.Need-overflow-add-i invariant-loop decreases-loop
-add-i c = search rules
+add_i : tie.Need-overflow-add-i invariant-loop decreases-loop
+add_i c = search rules
 
 loop-less : tie.Need-loop-smaller invariant-loop decreases-loop
 loop-less c = search rules
@@ -60,7 +60,7 @@ loop-again c =
       simp length-set loop.invariant.0,
       omega arith,
       filled_more (Of at.m.p at.xs.now) loop.out loop.i c.remainder.result inside loop.invariant.2
-          (residue-same (sym (poly-at at.m.p at.xs.now loop.i)) c.remainder.ensures),
+          (residue_same (sym (poly_at at.m.p at.xs.now loop.i)) c.remainder.ensures),
     )
 
 same_length : tie.Need-same-length invariant-loop decreases-loop
@@ -71,7 +71,7 @@ returns c =
     let last = c.before in
     let start = last.before.before.before in
     let p = start.args.m.p in
-    residues-filled {a = poly p start.args.xs.now} (prepared-positive start.requires.0.0) (λ j l. last.loop.invariant.2 j (omega arith))
+    residues_filled {a = poly p start.args.xs.now} (prepared_positive start.requires.0.0) (λ j l. last.loop.invariant.2 j (omega arith))
 
 pub remainders-spec : {M : Type 1} → statement M
 remainders-spec =
@@ -85,7 +85,7 @@ remainders-spec =
     remainder-requires
     mul-out
     slice-write-out
-    add-i
+    add_i
     loop-less
     loop-again
     same_length

@@ -5,12 +5,12 @@ use native.Mathlib.Omega.{arith}
 use lib.ListN.{set, length-set}
 use borrow.Author.Rules.{rules}
 use Rattle.zmod.specs.Zmod.{Zmod, mk}
-use Rattle.zmod.specs.Residues.{residue-same, residue-self}
+use Rattle.zmod.specs.Residues.{residue_same, residue_self}
 use Rattle.sheet.specs.Values.{half, question}
 use Rattle.candidate.specs.Equations.{SAt}
-use Rattle.expansion.specs.Stores.{solved-none, solved-more}
-use Rattle.candidate.proofs.Causal.{s-causal}
-use Rattle.candidate.proofs.EquationTurns.{s-zero, s-one}
+use Rattle.expansion.specs.Stores.{solved_none, solved_more}
+use Rattle.candidate.proofs.Causal.{s_causal}
+use Rattle.candidate.proofs.EquationTurns.{s_zero, s_one}
 use Rattle.candidate.proofs.begin_s.Statement.{statement}
 use Rattle.candidate.proofs.begin_s.Tie as tie
 
@@ -42,10 +42,10 @@ returns c =
     let r = c.reduce.result in
     let twice : v.degree - 1 ≡ 2 * half v = omega arith in
     λ h.
-    solved-more p (SAt (Zmod p) q h) (s-causal (Zmod p) q h) (set s 0 r) 1 v.sigma (omega (arith, length-set s 0 r))
-    (solved-more p (SAt (Zmod p) q h) (s-causal (Zmod p) q h) s 0 r (omega arith) (solved-none p (SAt (Zmod p) q h) s)
-    (s-zero p q h s r (omega arith) (residue-same (ap (mk p) (c.before.wide.ensures ∙ twice)) c.reduce.ensures)))
-    (s-one p q h (set s 0 r) v.sigma (omega (arith, length-set s 0 r)) (residue-self v.sigma (omega arith)))
+    solved_more p (SAt (Zmod p) q h) (s_causal (Zmod p) q h) (set s 0 r) 1 v.sigma (omega (arith, length-set s 0 r))
+    (solved_more p (SAt (Zmod p) q h) (s_causal (Zmod p) q h) s 0 r (omega arith) (solved_none p (SAt (Zmod p) q h) s)
+    (s_zero p q h s r (omega arith) (residue_same (ap (mk p) (c.before.wide.ensures ∙ twice)) c.reduce.ensures)))
+    (s_one p q h (set s 0 r) v.sigma (omega (arith, length-set s 0 r)) (residue_self v.sigma (omega arith)))
 
 pub begin-s-spec : {M : Type 1} → statement M
 begin-s-spec =

@@ -6,15 +6,15 @@ use lib.ListN.{length}
 use lib.Seq.{length-take-le}
 use borrow.Author.Rules.{rules}
 use Rattle.zmod.specs.Residues.{poly}
-use Rattle.expansion.specs.Parts.{part-reduced, reduced-front}
-use Rattle.candidate.proofs.EquationTurns.{far-zero, far-more}
+use Rattle.expansion.specs.Parts.{part_reduced, reduced_front}
+use Rattle.candidate.proofs.EquationTurns.{far_zero, far_more}
 use Rattle.candidate.proofs.far_sum.Statement.{statement}
 use Rattle.candidate.proofs.far_sum.Tie as tie
 
 returns : tie.Need-returns
 returns c =
     let a = c.before.before.before.args in
-    far-zero a.p (poly a.p a.s.now) (poly a.p a.c.now) a.k (omega arith) c.if1.true
+    far_zero a.p (poly a.p a.s.now) (poly a.p a.c.now) a.k (omega arith) c.if1.true
 
 sub-above : tie.Need-overflow-sub-above
 sub-above c = search rules
@@ -42,8 +42,8 @@ coefficient-requires c κs =
     let a = start.args in (
       (omega arith, omega arith, omega arith),
       (
-        part-reduced a.p a.s.now 2 (length a.s.now - 2) (omega arith) (λ i l. start.requires.1.0 i),
-        reduced-front a.p a.c.now (omega arith) (a.k - 1) (λ i l. start.requires.1.1 i (omega arith)),
+        part_reduced a.p a.s.now 2 (length a.s.now - 2) (omega arith) (λ i l. start.requires.1.0 i),
+        reduced_front a.p a.c.now (omega arith) (a.k - 1) (λ i l. start.requires.1.1 i (omega arith)),
       ),
     )
 
@@ -51,7 +51,7 @@ returns-2 : tie.Need-returns-2
 returns-2 c =
     let start = c.before.before.before.before.before.before in
     let a = start.args in
-    far-more a.p a.s.now a.c.now a.k (length a.s.now - 2) c.coefficient.result
+    far_more a.p a.s.now a.c.now a.k (length a.s.now - 2) c.coefficient.result
     (omega (arith, c.before.before.before.if1.false)) (omega arith) c.coefficient.ensures
 
 pub far-sum-spec : {M : Type 1} → statement M

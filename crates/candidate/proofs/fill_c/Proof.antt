@@ -9,9 +9,9 @@ use Rattle.zmod.specs.Residues.{poly}
 use Rattle.sheet.specs.Values.{half}
 use Rattle.candidate.specs.Equations.{CAt}
 use Rattle.expansion.specs.Equations.{Solved}
-use Rattle.expansion.specs.Stores.{solved-none, solved-more}
-use Rattle.candidate.proofs.Causal.{c-causal}
-use Rattle.candidate.proofs.EquationTurns.{c-zero}
+use Rattle.expansion.specs.Stores.{solved_none, solved_more}
+use Rattle.candidate.proofs.Causal.{c_causal}
+use Rattle.candidate.proofs.EquationTurns.{c_zero}
 use Rattle.candidate.proofs.fill_c.Statement.{statement}
 use Rattle.candidate.proofs.fill_c.Tie as tie
 
@@ -26,8 +26,8 @@ decreases-loop v table s c₀ k₀ c k = length c₀ - k
 abbrev start : tie.At-loop invariant-loop decreases-loop → tie.Start invariant-loop decreases-loop
 start c = c.before.before.before.before
 
-abbrev in-turn : tie.After-next-c invariant-loop decreases-loop → tie.At-loop invariant-loop decreases-loop
-in-turn c = c.before.before.before
+abbrev in_turn : tie.After-next-c invariant-loop decreases-loop → tie.At-loop invariant-loop decreases-loop
+in_turn c = c.before.before.before
 
 -- ── the needs
 
@@ -43,8 +43,8 @@ loop-holds c =
       refl,
       omega arith,
       omega (arith, length-set a.c.now 0 1),
-      solved-more p E (c-causal (Zmod p) (poly p a.s.now)) a.c.now 0 1 inside (solved-none p E a.c.now)
-          (c-zero p a.s.now a.c.now (omega arith) inside),
+      solved_more p E (c_causal (Zmod p) (poly p a.s.now)) a.c.now 0 1 inside (solved_none p E a.c.now)
+          (c_zero p a.s.now a.c.now (omega arith) inside),
     )
 
 next-c-requires : tie.Need-next-c-requires invariant-loop decreases-loop
@@ -57,28 +57,28 @@ next-c-requires c κs =
 
 mul-c : tie.Need-overflow-mul-c invariant-loop decreases-loop
 mul-c c =
-    search (rules, length-set (start (in-turn c)).args.c.now 0 1)
+    search (rules, length-set (start (in_turn c)).args.c.now 0 1)
 
 slice-write-c-2 : tie.Need-slice-write-c-2 invariant-loop decreases-loop
 slice-write-c-2 c = search rules
 
 add-k : tie.Need-overflow-add-k invariant-loop decreases-loop
 add-k c =
-    search (rules, length-set (start (in-turn c)).args.c.now 0 1)
+    search (rules, length-set (start (in_turn c)).args.c.now 0 1)
 
 loop-less : tie.Need-loop-smaller invariant-loop decreases-loop
 loop-less c = search rules
 
 loop-again : tie.Need-loop-preserved invariant-loop decreases-loop
 loop-again c =
-    let loop = (in-turn c).loop in
-    let a = (start (in-turn c)).args in
+    let loop = (in_turn c).loop in
+    let a = (start (in_turn c)).args in
     let p = a.v.p in
     let inside : loop.k < length loop.c = omega arith in (
       length-set loop.c loop.k c.next-c.result ∙ loop.inv.0,
       omega arith,
       omega (arith, length-set loop.c loop.k c.next-c.result),
-      solved-more p (CAt (Zmod p) (poly p a.s.now)) (c-causal (Zmod p) (poly p a.s.now)) loop.c loop.k c.next-c.result inside
+      solved_more p (CAt (Zmod p) (poly p a.s.now)) (c_causal (Zmod p) (poly p a.s.now)) loop.c loop.k c.next-c.result inside
           loop.inv.3 c.next-c.ensures,
     )
 

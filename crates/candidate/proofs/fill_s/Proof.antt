@@ -11,8 +11,8 @@ use Rattle.sheet.specs.Values.{question}
 use Rattle.candidate.specs.Equations.{SAt}
 use Rattle.expansion.specs.Multiple.{Multiple, none, once, both}
 use Rattle.expansion.specs.Equations.{Solved}
-use Rattle.expansion.specs.Stores.{solved-more}
-use Rattle.candidate.proofs.Causal.{s-causal}
+use Rattle.expansion.specs.Stores.{solved_more}
+use Rattle.candidate.proofs.Causal.{s_causal}
 use Rattle.candidate.proofs.fill_s.Statement.{statement}
 use Rattle.candidate.proofs.fill_s.Tie as tie
 
@@ -35,8 +35,8 @@ twice-a c = c.before.before.before
 abbrev begun : tie.After-negate invariant-loop decreases-loop → tie.After-begin-s invariant-loop decreases-loop
 begun c = c.before.before.before
 
-abbrev in-turn : tie.After-next-s invariant-loop decreases-loop → tie.At-loop invariant-loop decreases-loop
-in-turn c = c.before.before.before
+abbrev in_turn : tie.After-next-s invariant-loop decreases-loop → tie.At-loop invariant-loop decreases-loop
+in_turn c = c.before.before.before
 
 -- ── the needs
 
@@ -92,24 +92,24 @@ mul-s c = search rules
 
 slice-write-s : tie.Need-slice-write-s invariant-loop decreases-loop
 slice-write-s c =
-    let at-loop = in-turn c in
+    let at-loop = in_turn c in
     let first = begun at-loop.before in
     omega (arith, (start (twice-a first)).pre, first.begin-s.kept.1.0, at-loop.loop.inv, c.before.before.loop-test.true)
 
 add-requires : tie.Need-add-requires invariant-loop decreases-loop
 add-requires c κs =
-    let at-loop = in-turn c in
+    let at-loop = in_turn c in
     let a = twice-a (begun at-loop.before) in
     (omega (arith, at-loop.loop.inv.4.below), omega (arith, a.minus-twice.ensures.below), omega (arith, (start a).pre))
 
 add-requires-2 : tie.Need-add-requires-2 invariant-loop decreases-loop
 add-requires-2 c κs =
-    let at-loop = in-turn c.before in
+    let at-loop = in_turn c.before in
     let b = (begun at-loop.before).before.before in
     (omega (arith, at-loop.loop.inv.5.below), omega (arith, b.minus-twice2.ensures.below), omega arith)
 
-add-i : tie.Need-overflow-add-i invariant-loop decreases-loop
-add-i c = search rules
+add_i : tie.Need-overflow-add-i invariant-loop decreases-loop
+add_i c = search rules
 
 loop-less : tie.Need-loop-smaller invariant-loop decreases-loop
 loop-less c = search rules
@@ -118,7 +118,7 @@ loop-again : tie.Need-loop-preserved invariant-loop decreases-loop
 loop-again c =
     let at_y = c.before in
     let at_next = at_y.before in
-    let at-loop = in-turn at_next in
+    let at-loop = in_turn at_next in
     let first = begun at-loop.before in
     let b = first.before.before in
     let a = b.before in
@@ -132,7 +132,7 @@ loop-again c =
       simp length-set loop.inv.0,
       omega arith,
       omega arith,
-      solved-more p (SAt (Zmod p) q h) (s-causal (Zmod p) q h) loop.s (i + 1) at_next.next-s.result inside loop.inv.3 at_next.next-s.ensures,
+      solved_more p (SAt (Zmod p) q h) (s_causal (Zmod p) q h) loop.s (i + 1) at_next.next-s.result inside loop.inv.3 at_next.next-s.ensures,
       both (minus p q.A) (2 * i - 1) 2 (2 * (i + 1) - 1) (omega arith) loop.inv.4 a.minus-twice.ensures at_y.add.ensures,
       both (minus p q.B) (2 * i - 2) 2 (2 * (i + 1) - 2) (omega arith) loop.inv.5 b.minus-twice2.ensures c.add2.ensures,
     )
@@ -169,7 +169,7 @@ fill-s-spec =
     slice-write-s
     add-requires
     add-requires-2
-    add-i
+    add_i
     loop-less
     loop-again
     same_length

@@ -3,7 +3,7 @@ use Prim.Native.Nat.{◌*◌, ◌-◌}
 use native.Mathlib.Omega.{arith}
 use lib.ListN.{get_or}
 use borrow.Author.Rules.{rules}
-use Rattle.candidate.proofs.EquationTurns.{c-more}
+use Rattle.candidate.proofs.EquationTurns.{c_more}
 use Rattle.candidate.proofs.next_c.Statement.{statement}
 use Rattle.candidate.proofs.next_c.Tie as tie
 
@@ -56,7 +56,7 @@ returns c =
     let begin = start at-negate in
     let a = begin.args in
     let k = a.k in
-    c-more a.v.p a.s.now a.c.now k (omega arith) (get_or a.table.now (2 * k) 0) at-negate.negate.result at-multiply.multiply.result
+    c_more a.v.p a.s.now a.c.now k (omega arith) (get_or a.table.now (2 * k) 0) at-negate.negate.result at-multiply.multiply.result
     at-far.far-sum.result c.weighted.result (omega arith) (begin.pre.1.0.0.inverse (2 * k) (omega arith) (omega arith))
     at-negate.negate.ensures at-multiply.multiply.ensures at-far.far-sum.ensures c.weighted.ensures
 

@@ -5,9 +5,9 @@ use native.Mathlib.Omega.{arith}
 use lib.ListN.{get_or}
 use borrow.Author.Rules.{rules}
 use Rattle.zmod.specs.Zmod.{mk, plus, times}
-use Rattle.zmod.specs.Residues.{residue-same}
+use Rattle.zmod.specs.Residues.{residue_same}
 use Rattle.sheet.specs.Values.{question}
-use Rattle.candidate.proofs.EquationTurns.{s-more}
+use Rattle.candidate.proofs.EquationTurns.{s_more}
 use Rattle.candidate.proofs.next_s.Statement.{statement}
 use Rattle.candidate.proofs.next_s.Tie as tie
 
@@ -64,9 +64,9 @@ returns c =
     let p = a.v.p in
     let s = a.s.now in
     let i = a.i in
-    s-more p (question a.v) a.h.now s i (omega arith) (omega arith) a.y a.z at-weighted.weighted.result c.divide.result
+    s_more p (question a.v) a.h.now s i (omega arith) (omega arith) a.y a.z at-weighted.weighted.result c.divide.result
     begin.pre.1.1.1.1.0 begin.pre.1.1.1.1.1
-    (residue-same
+    (residue_same
     (ap (λ n. plus p (plus p (times p (mk p 1) (mk p (get_or a.h.now i 0))) (times p (mk p a.y) (mk p (get_or s (i - 1) 0))))
     (times p (mk p a.z) (mk p (get_or s n 0)))) at-over.over.ensures)
     at-weighted.weighted.ensures) c.divide.ensures

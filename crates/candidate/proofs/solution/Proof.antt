@@ -7,7 +7,7 @@ use Rattle.recurrence.specs.Equations.{HAt}
 use Rattle.candidate.specs.Equations.{SAt, CAt}
 use Rattle.expansion.specs.Equations.{Solved}
 use Rattle.candidate.proofs.Only.{answer}
-use Rattle.expansion.specs.Stores.{solved-all}
+use Rattle.expansion.specs.Stores.{solved_all}
 use Rattle.sheet.specs.Values.{question}
 use Rattle.zmod.specs.Zmod.{Zmod}
 use Rattle.zmod.specs.Residues.{poly}
@@ -54,7 +54,7 @@ fill-s-requires c κs =
         (table.ensures, omega (arith, begin.pre, table.kept.0)),
         (
           omega (arith, begin.pre, h.auto.1.1.0),
-          solved-all a.v.p (HAt (Zmod a.v.p) (question a.v)) (omega (arith, begin.pre)) h.new.1.1.0 (length a.h.now)
+          solved_all a.v.p (HAt (Zmod a.v.p) (question a.v)) (omega (arith, begin.pre)) h.new.1.1.0 (length a.h.now)
               (omega (arith, begin.pre, h.auto.1.1.0)) h.ensures,
           omega (arith, begin.pre),
         ),
@@ -76,7 +76,7 @@ fill-c-requires c κs =
         (table.ensures, omega (arith, begin.pre, table.kept.0)),
         (
           omega (arith, begin.pre, s.auto.1.1.1.0),
-          solved-all a.v.p (SAt (Zmod a.v.p) (question a.v) (poly a.v.p h.last.1.1.0)) (omega (arith, begin.pre)) s.new.1.1.1.0
+          solved_all a.v.p (SAt (Zmod a.v.p) (question a.v) (poly a.v.p h.last.1.1.0)) (omega (arith, begin.pre)) s.new.1.1.1.0
               (length a.s.now) (omega (arith, begin.pre, s.auto.1.1.1.0)) s.ensures,
           omega (arith, begin.pre),
         ),

@@ -9,7 +9,7 @@ use native.Mathlib.Numerals.{add-one}
 use lib.ListN.{length, get_or, set, length-set, length-map, get_or-map}
 use lib.Seq.{paste, paste-zero, paste-suc}
 use Rattle.sheet.specs.Word.{word}
-use Rattle.certificate.proofs.Stores.{section-more}
+use Rattle.certificate.proofs.Stores.{section_more}
 use Rattle.certificate.proofs.write_section.Statement.{statement}
 use Rattle.certificate.proofs.write_section.Tie as tie
 
@@ -45,8 +45,8 @@ mul-out c = search rules
 slice-write-out : tie.Need-slice-write-out invariant-loop decreases-loop
 slice-write-out c = search rules
 
-add-i : tie.Need-overflow-add-i invariant-loop decreases-loop
-add-i c = search rules
+add_i : tie.Need-overflow-add-i invariant-loop decreases-loop
+add_i c = search rules
 
 loop-less : tie.Need-loop-smaller invariant-loop decreases-loop
 loop-less c = search rules
@@ -57,7 +57,7 @@ loop-again c =
       simp length-set c.before.before.before.loop.invariant.0,
       omega arith,
       ap₂ (λ (o : List ℕ) (w : ℕ). set o (at.from + c.before.before.before.loop.i) w) c.before.before.before.loop.invariant.2 c.word_of.ensures
-          ∙ section-more at.k at.xs.now at.from at.out.now c.before.before.before.loop.i (omega arith) (omega arith),
+          ∙ section_more at.k at.xs.now at.from at.out.now c.before.before.before.loop.i (omega arith) (omega arith),
     )
 
 same_length : tie.Need-same-length invariant-loop decreases-loop
@@ -82,7 +82,7 @@ write-section-spec =
     add-out
     mul-out
     slice-write-out
-    add-i
+    add_i
     loop-less
     loop-again
     same_length

@@ -6,7 +6,7 @@ use Rattle.zmod.specs.Residues.{poly}
 use Rattle.isogeny.specs.Rules.{N}
 use Rattle.sheet.specs.Values.{question}
 use Rattle.sheet.specs.Ready.{HoldsN}
-use Rattle.promises.specs.Numerators.{holds-n, whole-numerator}
+use Rattle.promises.specs.Numerators.{holds_n, whole_numerator}
 use borrow.Author.Rules.{rules}
 use Rattle.certifying.proofs.certify_in.Statement.{statement}
 use Rattle.certifying.proofs.certify_in.Tie as tie
@@ -18,14 +18,14 @@ start c = c.before.before.before.before.before
 words : (c : tie.After-numerator) → HoldsN (start c).args.v c.numerator.new.1.1.1.0
 words c =
     let s = start c in
-    holds-n s.args.v s.pre.0.0 s.args.g.now c.numerator.new.1.1.1.0 s.pre.1.0.0 (omega arith) c.numerator.ensures
+    holds_n s.args.v s.pre.0.0 s.args.g.now c.numerator.new.1.1.1.0 s.pre.1.0.0 (omega arith) c.numerator.ensures
 
 whole : (c : tie.After-numerator)
     → poly (start c).args.v.p c.numerator.new.1.1.1.0
     ≡ N (Zmod (start c).args.v.p) (question (start c).args.v) (poly (start c).args.v.p (start c).args.g.now)
 whole c =
     let s = start c in
-    whole-numerator s.args.v s.pre.0.0 s.args.g.now c.numerator.new.1.1.1.0 s.pre.1.0.0 (omega arith) c.numerator.ensures
+    whole_numerator s.args.v s.pre.0.0 s.args.g.now c.numerator.new.1.1.1.0 s.pre.1.0.0 (omega arith) c.numerator.ensures
 
 numerator-requires : tie.Need-numerator-requires
 numerator-requires c κs =

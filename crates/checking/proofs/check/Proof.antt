@@ -39,8 +39,8 @@ returns-2 c =
     let ws = passed.before.before.before.before.before.before.args.ws.now in
     ((subst (Passed ws passed.passed.new.1.0 passed.passed.new.1.1.0) c.enum_told.given.1 passed.passed.ensures).all, tt)
 
-pub check-spec : {M : Type 1} → statement M
-check-spec =
+pub check_spec : {M : Type 1} → statement M
+check_spec =
     tie.close
     (tie.spec
     blank128-requires

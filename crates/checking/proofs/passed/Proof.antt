@@ -5,16 +5,16 @@ use Prim.Native.Nat.{◌+◌, ◌*◌}
 use native.Mathlib.Omega.{arith}
 use lib.ListN.{drop, length-take}
 use lib.Seq.{length-take-le}
-use Rattle.questions.specs.Joined.{no-before, no-after, all-all}
-use Rattle.questions.specs.Judged.{judged-yes, judged-no}
+use Rattle.questions.specs.Joined.{no_before, no_after, all_all}
+use Rattle.questions.specs.Judged.{judged_yes, judged_no}
 use Rattle.sheet.specs.declared.Form.TheVariants.{Certificate}
 use Rattle.sheet.specs.Asked.{asked}
 use Rattle.sheet.specs.Ready.{Ready}
 use Rattle.sheet.specs.Ready as R
 use Rattle.reading.specs.declared.Reading.TheVariants.{Accepted}
 use Rattle.reading.specs.Reading.{Right}
-use Rattle.promises.specs.Asked.{certificate-rules}
-use Rattle.checking.proofs.Coefficients.{front-g, front-n}
+use Rattle.promises.specs.Asked.{certificate_rules}
+use Rattle.checking.proofs.Coefficients.{front_g, front_n}
 use Rattle.checking.proofs.passed.Statement.{statement}
 use Rattle.checking.proofs.passed.Tie as tie
 
@@ -94,7 +94,7 @@ returns c =
     let told = c.before.read2.given in
     let read = c.before.before.before in
     let ws = read.before.before.before.before.args.ws.now in
-    no-before (asked Certificate ws) (certificate-rules ws) told.0.0
+    no_before (asked Certificate ws) (certificate_rules ws) told.0.0
     (subst (Right Certificate ws) told.1 read.read.ensures)
 
 same_length : tie.Need-same-length
@@ -112,12 +112,12 @@ returns-2 c =
     let a = (start known).args in
     let ws = a.ws.now in
     let d = known.half-degree.result in
-    let asks = certificate-rules ws in
+    let asks = certificate_rules ws in
     record {
-      all = all-all (asked Certificate ws) asks right.0 (judged-yes asks judge.judge.result judge.judge.ensures.judged c.if1.true);
+      all = all_all (asked Certificate ws) asks right.0 (judged_yes asks judge.judge.result judge.judge.ensures.judged c.if1.true);
       values = right.1;
-      g-is = front-g ws right.0 v right.1 judge.judge.last.1.1.1.0 (drop (d + 1) a.g.now) judge.judge.ensures.g-is;
-      n-is = front-n ws right.0 v right.1 judge.judge.last.1.1.1.1.0 (drop (2 * d + 2) a.n.now) judge.judge.ensures.n-is;
+      g_is = front_g ws right.0 v right.1 judge.judge.last.1.1.1.0 (drop (d + 1) a.g.now) judge.judge.ensures.g_is;
+      n_is = front_n ws right.0 v right.1 judge.judge.last.1.1.1.1.0 (drop (2 * d + 2) a.n.now) judge.judge.ensures.n_is;
     }
 
 same-length-3 : tie.Need-same-length-3
@@ -131,9 +131,9 @@ returns-3 c =
     let judge = judged c.before in
     let known = half-known judge in
     let ws = (start known).args.ws.now in
-    let asks = certificate-rules ws in
-    no-after (asked Certificate ws) asks judge.judge.result (accepted known).0
-    (judged-no asks judge.judge.result judge.judge.ensures.judged c.if1.false)
+    let asks = certificate_rules ws in
+    no_after (asked Certificate ws) asks judge.judge.result (accepted known).0
+    (judged_no asks judge.judge.result judge.judge.ensures.judged c.if1.false)
 
 pub passed-spec : {M : Type 1} → statement M
 passed-spec =

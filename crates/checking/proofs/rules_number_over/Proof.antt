@@ -3,9 +3,9 @@ use mathlib.Core.Path.{refl}
 use mathlib.Core.Logic.{inl, inr}
 use borrow.Author.Rules.{rules}
 use borrow.Author.Tests.{eqb-false}
-use Rattle.questions.specs.Numbered.{first-no}
+use Rattle.questions.specs.Numbered.{first_no}
 use Rattle.questions.specs.Tests.{refuted, shown}
-use Rattle.promises.specs.Asked.{rules-ask}
+use Rattle.promises.specs.Asked.{rules_ask}
 use Rattle.checking.proofs.rules_number_over.Statement.{statement}
 use Rattle.checking.proofs.rules_number_over.Tie as tie
 
@@ -15,8 +15,8 @@ rule-one-requires c κs = search rules
 returns : tie.Need-returns
 returns c =
     let a = c.before.before.before.before.args in
-    let asks = rules-ask a.v a.g.now a.n.now a.abscissas in
-    inr (eqb-false 8 0 refl, first-no asks 8 tt tt (refuted c.before.rule-one.ensures c.if1.true))
+    let asks = rules_ask a.v a.g.now a.n.now a.abscissas in
+    inr (eqb-false 8 0 refl, first_no asks 8 tt tt (refuted c.before.rule-one.ensures c.if1.true))
 
 numerator-and-count-requires : tie.Need-numerator-and-count-requires
 numerator-and-count-requires c κs =
@@ -31,7 +31,7 @@ returns-2 c =
     let eight = shown one.before.rule-one.ensures one.if1.false in
     inr (
       eqb-false 9 0 refl,
-      first-no (rules-ask a.v a.g.now a.n.now a.abscissas) 9 tt (eight, tt) (refuted c.before.numerator-and-count.ensures c.if2.true),
+      first_no (rules_ask a.v a.g.now a.n.now a.abscissas) 9 tt (eight, tt) (refuted c.before.numerator-and-count.ensures c.if2.true),
     )
 
 rule-three-requires : tie.Need-rule-three-requires
@@ -51,7 +51,7 @@ returns-3 c =
     let nine = shown two.before.numerator-and-count.ensures two.if2.false in
     inr (
       eqb-false 10 0 refl,
-      first-no (rules-ask a.v a.g.now a.n.now a.abscissas) 10 tt (eight, (nine, tt)) (refuted c.before.rule-three.ensures c.if3.true),
+      first_no (rules_ask a.v a.g.now a.n.now a.abscissas) 10 tt (eight, (nine, tt)) (refuted c.before.rule-three.ensures c.if3.true),
     )
 
 returns-4 : tie.Need-returns-4

@@ -2,7 +2,7 @@
 use native.Mathlib.Omega.{arith}
 use borrow.Author.Rules.{rules}
 use Rattle.questions.specs.Tests.{decides}
-use Rattle.promises.specs.Numerators.{whole-numerator}
+use Rattle.promises.specs.Numerators.{whole_numerator}
 use Rattle.checking.proofs.same_numerator_in.Statement.{statement}
 use Rattle.checking.proofs.same_numerator_in.Tie as tie
 
@@ -22,7 +22,7 @@ returns c =
     let v = start.args.v in
     let room = numerator.numerator.new.1.1.1.0 in
     decides (c.equal.ensures v.p start.requires.1.0.reduced numerator.numerator.ensures.reduced)
-    (whole-numerator v start.requires.0.0 start.args.g.now room start.requires.0.1 (omega arith) numerator.numerator.ensures)
+    (whole_numerator v start.requires.0.0 start.args.g.now room start.requires.0.1 (omega arith) numerator.numerator.ensures)
 
 pub same-numerator-in-spec : {M : Type 1} → statement M
 same-numerator-in-spec = tie.close (tie.spec numerator-requires equal-requires same_length returns)

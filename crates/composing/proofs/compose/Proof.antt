@@ -10,7 +10,7 @@ use Rattle.sheet.specs.Ready.{Ready}
 use Rattle.promises.specs.Asked.{Room}
 use Rattle.checking.specs.Passed.{Passes, Passed}
 use Rattle.promises.specs.Certificates.{ready_of}
-use Rattle.composing.proofs.Sheets.{no-first}
+use Rattle.composing.proofs.Sheets.{no_first}
 use Rattle.composing.proofs.compose.Statement.{statement}
 use Rattle.composing.proofs.compose.Tie as tie
 
@@ -99,8 +99,8 @@ compose-second-requires c κs =
       (h.all, h.values),
       (
         (
-          ap (λ k. take (k + 1) at.passed.last.1.0) d ∙ h.g-is,
-          ap (λ k. take (2 * k + 2) at.passed.last.1.1.0) d ∙ h.n-is,
+          ap (λ k. take (k + 1) at.passed.last.1.0) d ∙ h.g_is,
+          ap (λ k. take (2 * k + 2) at.passed.last.1.1.0) d ∙ h.n_is,
         ),
         has_room at,
       ),
@@ -111,7 +111,7 @@ returns-2 c =
     let told = c.before.read.given in
     let at = c.before.before.before.before.before in
     let a = (start at).args in (
-      no-first a.first.now a.second.now a.answer.now (has_room at) told.0.0
+      no_first a.first.now a.second.now a.answer.now (has_room at) told.0.0
           (subst (Passed a.first.now at.passed.new.1.0 at.passed.new.1.1.0) told.1 at.passed.ensures),
       refl,
     )

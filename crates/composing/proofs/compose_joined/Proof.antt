@@ -5,9 +5,9 @@ use borrow.Author.Rules.{rules}
 use native.Mathlib.Omega.{arith}
 use lib.Seq.{length-take-le}
 use Rattle.sheet.specs.Values.{half}
-use Rattle.sheet.specs.Ready.{Ready, half-most}
+use Rattle.sheet.specs.Ready.{Ready, half_most}
 use Rattle.promises.specs.Answer.{composed}
-use Rattle.composing.proofs.Kernels.{both-ready}
+use Rattle.composing.proofs.Kernels.{both_ready}
 use Rattle.composing.proofs.compose_joined.Statement.{statement}
 use Rattle.composing.proofs.compose_joined.Tie as tie
 
@@ -22,10 +22,10 @@ ready : (c : tie.After-half-degree) → Ready (composed (start c).args.v (start 
 ready c =
     let s = start c in
     let a = s.args in
-    both-ready a.v a.w a.g1.now a.n1.now a.g2.now s.pre.0
+    both_ready a.v a.w a.g1.now a.n1.now a.g2.now s.pre.0
 
 small : (c : tie.After-half-degree) → c.half-degree.result ≤ 127
-small c = omega (arith, half_is c, half-most _ (ready c))
+small c = omega (arith, half_is c, half_most _ (ready c))
 
 composite-values-requires : tie.Need-composite-values-requires
 composite-values-requires c κs =

@@ -3,7 +3,7 @@ use mathlib.Core.Path.{refl}
 use borrow.Author.Rules.{rules}
 use Rattle.questions.specs.Tests.{refuted, shown}
 use Rattle.promises.specs.Certificates.{ready_of}
-use Rattle.composing.proofs.Sheets.{unmet, disallowed, joined-read, answered-read}
+use Rattle.composing.proofs.Sheets.{unmet, disallowed, joined_read, answered_read}
 use Rattle.composing.proofs.compose_passed.Statement.{statement}
 use Rattle.composing.proofs.compose_passed.Tie as tie
 
@@ -40,7 +40,7 @@ returns-2 c =
     let a = s.args in
     let pre = s.pre in (
       disallowed a.first.now a.second.now a.answer.now pre.1.1.1 pre.0.0 pre.1.0.0 a.v a.w pre.0.1 pre.1.0.1
-          (shown at_meet.meet.ensures met.if1.false) (refuted at-product.product-allowed.ensures c.if2.true),
+          (shown at_meet.meet.ensures met.if1.false) (refuted at-product.product_allowed.ensures c.if2.true),
       refl,
     )
 
@@ -53,8 +53,8 @@ compose-joined-requires c κs =
     let s = start at_meet in
     let a = s.args in
     let pre = s.pre in (
-      joined-read a.first.now a.second.now a.answer.now pre.1.1.1 pre.0.0 pre.1.0.0 a.v a.w pre.0.1 pre.1.0.1
-          (shown at_meet.meet.ensures met.if1.false) (shown at-product.product-allowed.ensures allowed.if2.false)
+      joined_read a.first.now a.second.now a.answer.now pre.1.1.1 pre.0.0 pre.1.0.0 a.v a.w pre.0.1 pre.1.0.1
+          (shown at_meet.meet.ensures met.if1.false) (shown at-product.product_allowed.ensures allowed.if2.false)
           a.g1.now a.n1.now a.g2.now pre.1.1.0.0 pre.1.1.0.1 pre.1.1.0.2,
       pre.1.1.1,
     )
@@ -72,8 +72,8 @@ returns-3 c =
     let s = start at_meet in
     let a = s.args in
     let pre = s.pre in
-    answered-read a.first.now a.second.now a.answer.now pre.1.1.1 pre.0.0 pre.1.0.0 a.v a.w pre.0.1 pre.1.0.1
-    (shown at_meet.meet.ensures met.if1.false) (shown at-product.product-allowed.ensures allowed.if2.false)
+    answered_read a.first.now a.second.now a.answer.now pre.1.1.1 pre.0.0 pre.1.0.0 a.v a.w pre.0.1 pre.1.0.1
+    (shown at_meet.meet.ensures met.if1.false) (shown at-product.product_allowed.ensures allowed.if2.false)
     a.g1.now a.n1.now a.g2.now pre.1.1.0.0 pre.1.1.0.1 pre.1.1.0.2
     _ at_joined.compose-joined.result at_joined.compose-joined.ensures
 

@@ -75,7 +75,7 @@ compose-passed-requires c κs =
       pre.0,
       (
         (h.all, h.values),
-        ((pre.1.0.0, pre.1.0.1, ap (λ k. take (k + 1) at.passed.last.1.0) d ∙ h.g-is), pre.1.1),
+        ((pre.1.0.0, pre.1.0.1, ap (λ k. take (k + 1) at.passed.last.1.0) d ∙ h.g_is), pre.1.1),
       ),
     )
 

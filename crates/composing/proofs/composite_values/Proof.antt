@@ -3,14 +3,14 @@ use mathlib.Core.Path.{refl, ap₂}
 use borrow.Author.Rules.{rules}
 use native.Mathlib.Omega.{arith}
 use Prim.Native.Nat.{◌+◌}
-use Rattle.composing.proofs.Kernels.{product-most, sum_fits, values-are}
+use Rattle.composing.proofs.Kernels.{product_most, sum_fits, values_are}
 use Rattle.composing.proofs.composite_values.Statement.{statement}
 use Rattle.composing.proofs.composite_values.Tie as tie
 
 mul-degree : tie.Need-overflow-mul-degree
 mul-degree c =
     let start = c.before.before in
-    omega (arith, product-most start.args.v start.args.w start.requires.0 start.requires.1)
+    omega (arith, product_most start.args.v start.args.w start.requires.0 start.requires.1)
 
 wide-requires : tie.Need-wide-requires
 wide-requires c κs = search rules
@@ -35,7 +35,7 @@ returns c =
     let at-product = c.before in
     let at_wide = at-product.before in
     let start = at_wide.before.before.before in
-    values-are start.args.v start.args.w start.requires.0 _ _ _ refl (ap₂ ◌+◌ at_wide.wide.ensures at-product.product.ensures)
+    values_are start.args.v start.args.w start.requires.0 _ _ _ refl (ap₂ ◌+◌ at_wide.wide.ensures at-product.product.ensures)
     c.reduce.ensures
 
 pub composite-values-spec : {M : Type 1} → statement M

@@ -1,14 +1,14 @@
 -- `composing::meet` meets its contract. Assumes nothing.
 use borrow.Author.Tests.{eqb-true, eq-eqb}
-use Rattle.questions.specs.Tests.{says-no}
+use Rattle.questions.specs.Tests.{says_no}
 use Rattle.composing.proofs.meet.Statement.{statement}
 use Rattle.composing.proofs.meet.Tie as tie
 
 returns : tie.Need-returns
-returns c = says-no (λ h. c.if1.true h.p)
+returns c = says_no (λ h. c.if1.true h.p)
 
 returns-2 : tie.Need-returns-2
-returns-2 c = says-no (λ h. c.if2.true h.a)
+returns-2 c = says_no (λ h. c.if2.true h.a)
 
 returns-3 : tie.Need-returns-3
 returns-3 c =

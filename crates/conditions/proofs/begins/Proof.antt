@@ -1,5 +1,5 @@
 -- `conditions::begins` meets its contract. Assumes nothing.
-use Rattle.conditions.proofs.Decided.{begins-known, first-no, second}
+use Rattle.conditions.proofs.Decided.{begins_known, first_no, second}
 use borrow.Author.Rules.{rules}
 use Rattle.conditions.proofs.begins.Statement.{statement}
 use Rattle.conditions.proofs.begins.Tie as tie
@@ -9,7 +9,7 @@ returns c =
     let at-if1 = c in
     let start = at-if1.before.before in
     let a = start.args in
-    begins-known a.v a.h.now a.known at-if1.if1.true start.requires.2
+    begins_known a.v a.h.now a.known at-if1.if1.true start.requires.2
 
 shared-slice-read-multiply : tie.Need-shared-slice-read-multiply
 shared-slice-read-multiply c = search rules
@@ -27,7 +27,7 @@ returns-2 c =
     let at-multiply = at-subtract.before in
     let start = at-multiply.before.before.before.before in
     let a = start.args in
-    first-no a.v a.h.now at-multiply.multiply.result at-subtract.subtract.result at-multiply.multiply.ensures
+    first_no a.v a.h.now at-multiply.multiply.result at-subtract.subtract.result at-multiply.multiply.ensures
     at-subtract.subtract.ensures
     at-if2.if2.true
 

@@ -1,6 +1,6 @@
 -- `conditions::by_expansion_in` meets its contract. Assumes nothing.
 use native.Mathlib.Omega.{arith}
-use Rattle.conditions.proofs.Decided.{terms-known, short-known, decided}
+use Rattle.conditions.proofs.Decided.{terms_known, short_known, decided}
 use borrow.Author.Rules.{rules}
 use Rattle.conditions.proofs.by_expansion_in.Statement.{statement}
 use Rattle.conditions.proofs.by_expansion_in.Tie as tie
@@ -28,7 +28,7 @@ expansion-requires c κs =
     let room = start.requires.1.1.1.0 in
     let begun = start.requires.1.1.1.1 in
     let ready = start.requires.0.0 in
-    let sums = at-power-sums.power-sums in (
+    let sums = at-power-sums.power_sums_of in (
       ready,
       (
         (
@@ -38,7 +38,7 @@ expansion-requires c κs =
           sums.ensures.reduced,
           omega (arith, begun.0, room),
         ),
-        terms-known a.v ready a.g.now sums.new.1.1.1.1.0 a.h.now (omega (arith, sizes, sums.auto)) room.0 sums.ensures
+        terms_known a.v ready a.g.now sums.new.1.1.1.1.0 a.h.now (omega (arith, sizes, sums.auto)) room.0 sums.ensures
             a.s.now a.h.now a.known begun.0 begun.1,
       ),
     )
@@ -53,14 +53,14 @@ conditions-requires c κs =
     let room = start.requires.1.1.1.0 in
     let begun = start.requires.1.1.1.1 in
     let ready = start.requires.0.0 in
-    let sums = at-power-sums.power-sums in
+    let sums = at-power-sums.power_sums_of in
     let h = at-expansion.expansion in (
       (ready, start.requires.0.1, omega (arith, room, h.auto), h.ensures.reduced),
       (
         omega (arith, sizes, room, sums.auto, ready.degree),
         (
           omega (arith, begun.0),
-          short-known a.v ready a.g.now sums.new.1.1.1.1.0 h.new.1.1.0 (omega (arith, sizes, sums.auto)) (omega (arith, room, h.auto))
+          short_known a.v ready a.g.now sums.new.1.1.1.1.0 h.new.1.1.0 (omega (arith, sizes, sums.auto)) (omega (arith, room, h.auto))
               sums.ensures h.ensures a.s.now a.h.now a.known begun.0 begun.1,
         ),
       ),
@@ -90,7 +90,7 @@ returns c =
     let a = start.args in
     let sizes = start.requires.1.1.0 in
     let room = start.requires.1.1.1.0 in
-    let sums = at-power-sums.power-sums in
+    let sums = at-power-sums.power_sums_of in
     let h = at-expansion.expansion in
     decided a.v start.requires.0.0 a.g.now sums.new.1.1.1.1.0 h.new.1.1.0 (omega (arith, sizes, sums.auto))
     (omega (arith, room, h.auto))

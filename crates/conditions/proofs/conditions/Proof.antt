@@ -2,7 +2,7 @@
 use native.Mathlib.Omega.{arith}
 use lib.ListN.{length-take}
 use borrow.Author.Tests.{not-true, not-false}
-use Rattle.conditions.proofs.Decided.{begins-no, all}
+use Rattle.conditions.proofs.Decided.{begins_no, all}
 use borrow.Author.Rules.{rules}
 use Rattle.conditions.proofs.conditions.Statement.{statement}
 use Rattle.conditions.proofs.conditions.Tie as tie
@@ -18,7 +18,7 @@ returns c =
     let at-begins = at-if1.before in
     let start = at-begins.before.before.before.before.before in
     let a = start.args in
-    begins-no a.v a.h.now at-begins.begins.result at-begins.begins.ensures (not-true at-begins.begins.result at-if1.if1.true)
+    begins_no a.v a.h.now at-begins.begins.result at-begins.begins.ensures (not-true at-begins.begins.result at-if1.if1.true)
 
 most-requires : tie.Need-most-requires
 most-requires c κs = search rules

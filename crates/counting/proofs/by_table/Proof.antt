@@ -15,7 +15,7 @@ power-done c = c.before.before.before.before.before.before.before.before.before.
 power-of-x-requires : tie.Need-power-of-x-requires
 power-of-x-requires c κs =
     let pre = (lent c).requires in (
-      (pre.0.1, pre.0.0.above-one, pre.0.2, omega (arith, pre.0.3), pre.0.4),
+      (pre.0.1, pre.0.0.above_one, pre.0.2, omega (arith, pre.0.3), pre.0.4),
       (omega (arith, pre.1.0), pre.1.1, pre.1.2, pre.1.3, pre.1.4, omega (arith, pre.1.5)),
     )
 

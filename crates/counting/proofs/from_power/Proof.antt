@@ -6,10 +6,10 @@ use native.Mathlib.Omega.{arith}
 use lib.ListN.{set, length-set}
 use Rattle.zmod.specs.Zmod.{Zmod}
 use Rattle.zmod.specs.Residues.{Reduced, poly}
-use Rattle.barrett.specs.Modulus.{prepared-below}
+use Rattle.barrett.specs.Modulus.{prepared_below}
 use Rattle.euclid.specs.Words.{Leads}
 use Rattle.euclid.specs.Euclid.{GcdDegree}
-use Rattle.counting.specs.Count.{subtracted-reduced, subtracted-is, widened, divisor-leads, counted}
+use Rattle.counting.specs.Count.{subtracted_reduced, subtracted_is, widened, divisor_leads, counted}
 use borrow.Author.Rules.{rules}
 use Rattle.counting.proofs.from_power.Statement.{statement}
 use Rattle.counting.proofs.from_power.Tie as tie
@@ -29,8 +29,8 @@ abbrev difference : tie.After-subtract → List ℕ
 difference c = set (start c).args.r.now 1 c.subtract.result
 
 -- what was widened: g, and r − x
-same-g : (c : tie.After-widen) → c.widen.new.1.0 ≡ (start (less c)).args.g.now
-same-g c =
+same_g : (c : tie.After-widen) → c.widen.new.1.0 ≡ (start (less c)).args.g.now
+same_g c =
     let at = start (less c) in
     widened (omega (arith, c.widen.auto, at.pre.1.1)) c.widen.ensures
 
@@ -46,7 +46,7 @@ slice-read-subtract c = search rules
 subtract-requires : tie.Need-subtract-requires
 subtract-requires c κs =
     let at = c.before.before.before.before.before in
-    (at.requires.1.3.reduced 1, at.requires.0.0.above-one, omega (arith, prepared-below at.requires.0.1))
+    (at.requires.1.3.reduced 1, at.requires.0.0.above_one, omega (arith, prepared_below at.requires.0.1))
 
 slice-write-r : tie.Need-slice-write-r
 slice-write-r c = search rules
@@ -64,11 +64,11 @@ gcd-degree-requires c κs =
     let at = start at-subtract in
     let p = at.args.m.p in
     let r = at.args.r.now in
-    let low = subtracted-reduced p at-subtract.subtract.result r at.pre.1.3.reduced (omega (arith, at.pre.1.0, at.pre.0.3))
+    let low = subtracted_reduced p at-subtract.subtract.result r at.pre.1.3.reduced (omega (arith, at.pre.1.0, at.pre.0.3))
     at-subtract.subtract.ensures in (
       at.pre.0.0,
       at.pre.0.1,
-      subst (Leads p) (sym (same-g (first second))) (divisor-leads at.pre.0.0.above-one at.pre.0.2),
+      subst (Leads p) (sym (same_g (first second))) (divisor_leads at.pre.0.0.above_one at.pre.0.2),
       subst (Reduced p) (sym (same-r second)) low,
     )
 
@@ -93,10 +93,10 @@ returns c =
     let v = at-subtract.subtract in
     let n = at-gcd.gcd-degree.result in
     let whole = subst (λ l. GcdDegree (Zmod p) (poly p a.g.now) (poly p l) n) (same-r second)
-    (subst (λ l. GcdDegree (Zmod p) (poly p l) (poly p second.widen2.new.1.0) n) (same-g (first second)) at-gcd.gcd-degree.ensures) in
+    (subst (λ l. GcdDegree (Zmod p) (poly p l) (poly p second.widen2.new.1.0) n) (same_g (first second)) at-gcd.gcd-degree.ensures) in
     counted pre.0.0 a.g.now a.r.now pre.1.3
     (subst (λ s. GcdDegree (Zmod p) (poly p a.g.now) s n)
-    (subtracted-is p v.result a.r.now pre.1.3.reduced (omega (arith, pre.1.0, pre.0.3)) v.ensures) whole)
+    (subtracted_is p v.result a.r.now pre.1.3.reduced (omega (arith, pre.1.0, pre.0.3)) v.ensures) whole)
 
 pub from-power-spec : {M : Type 1} → statement M
 from-power-spec = tie.close (tie.spec slice-read-subtract subtract-requires slice-write-r widen-requires widen-requires-2 gcd-degree-requires same_length

@@ -8,11 +8,11 @@ use Rattle.counting.proofs.roots264.Tie as tie
 sub-d : tie.Need-overflow-sub-d
 sub-d c = search rules
 
-add-c : tie.Need-overflow-add-c
-add-c c = search rules
+add_c : tie.Need-overflow-add-c
+add_c c = search rules
 
-mul-i : tie.Need-overflow-mul-i
-mul-i c = search rules
+mul_i : tie.Need-overflow-mul-i
+mul_i c = search rules
 
 sub-i : tie.Need-overflow-sub-i
 sub-i c = search rules
@@ -71,14 +71,14 @@ array-borrow-prefix-n c = search rules
 slice-aggregate-by-quotients-5 : tie.Need-slice-aggregate-by-quotients-5
 slice-aggregate-by-quotients-5 c = simp length-take (omega arith)
 
-array-borrow-prefix-e : tie.Need-array-borrow-prefix-e
-array-borrow-prefix-e c = search rules
+array_borrow_prefix_e : tie.Need-array-borrow-prefix-e
+array_borrow_prefix_e c = search rules
 
 slice-aggregate-by-quotients-6 : tie.Need-slice-aggregate-by-quotients-6
 slice-aggregate-by-quotients-6 c = simp length-take (omega arith)
 
-array-borrow-prefix-acc : tie.Need-array-borrow-prefix-acc
-array-borrow-prefix-acc c = search rules
+array_borrow_prefix_acc : tie.Need-array-borrow-prefix-acc
+array_borrow_prefix_acc c = search rules
 
 slice-aggregate-by-quotients-7 : tie.Need-slice-aggregate-by-quotients-7
 slice-aggregate-by-quotients-7 c = simp length-take (omega arith)
@@ -112,8 +112,8 @@ returns : tie.Need-returns
 returns c = search rules
 
 pub roots264-spec : {M : Type 1} → statement M
-roots264-spec = tie.close (tie.spec sub-d add-c mul-i sub-i blank264-requires blank264-requires-2 blank264-requires-3 sums264-requires sums264-requires-2
+roots264-spec = tie.close (tie.spec sub-d add_c mul_i sub-i blank264-requires blank264-requires-2 blank264-requires-3 sums264-requires sums264-requires-2
     sums264-requires-3 sums264-requires-4 blank264-requires-4 array-borrow-prefix-a slice-aggregate-by-quotients array-borrow-prefix-r
     slice-aggregate-by-quotients-2 array-borrow-prefix-q slice-aggregate-by-quotients-3 array-borrow-prefix-t slice-aggregate-by-quotients-4
-    array-borrow-prefix-n slice-aggregate-by-quotients-5 array-borrow-prefix-e slice-aggregate-by-quotients-6 array-borrow-prefix-acc
+    array-borrow-prefix-n slice-aggregate-by-quotients-5 array_borrow_prefix_e slice-aggregate-by-quotients-6 array_borrow_prefix_acc
     slice-aggregate-by-quotients-7 array-borrow-prefix-room slice-aggregate-by-quotients-8 by-quotients-requires returns)

@@ -12,11 +12,11 @@ use Rattle.counting.proofs.roots40.Tie as tie
 sub-d : tie.Need-overflow-sub-d
 sub-d c = search rules
 
-add-c : tie.Need-overflow-add-c
-add-c c = search rules
+add_c : tie.Need-overflow-add-c
+add_c c = search rules
 
-mul-i : tie.Need-overflow-mul-i
-mul-i c = search rules
+mul_i : tie.Need-overflow-mul-i
+mul_i c = search rules
 
 add-s : tie.Need-overflow-add-s
 add-s c = search rules
@@ -72,14 +72,14 @@ slice-aggregate-by-table-4 c =
     let start = c.before.before.before.before.before.before.before.before.before.before.before in
     simp length-take (omega (arith, table_fits (length start.args.g.now - 1) (omega arith)))
 
-array-borrow-prefix-e : tie.Need-array-borrow-prefix-e
-array-borrow-prefix-e c = search rules
+array_borrow_prefix_e : tie.Need-array-borrow-prefix-e
+array_borrow_prefix_e c = search rules
 
 slice-aggregate-by-table-5 : tie.Need-slice-aggregate-by-table-5
 slice-aggregate-by-table-5 c = simp length-take (omega arith)
 
-array-borrow-prefix-acc : tie.Need-array-borrow-prefix-acc
-array-borrow-prefix-acc c = search rules
+array_borrow_prefix_acc : tie.Need-array-borrow-prefix-acc
+array_borrow_prefix_acc c = search rules
 
 slice-aggregate-by-table-6 : tie.Need-slice-aggregate-by-table-6
 slice-aggregate-by-table-6 c = simp length-take (omega arith)
@@ -108,7 +108,7 @@ returns : tie.Need-returns
 returns c = search rules
 
 pub roots40-spec : {M : Type 1} → statement M
-roots40-spec = tie.close (tie.spec sub-d add-c mul-i add-s mul-s blank40-requires blank40-requires-2 blank40-requires-3 table-requires sums40-requires
+roots40-spec = tie.close (tie.spec sub-d add_c mul_i add-s mul-s blank40-requires blank40-requires-2 blank40-requires-3 table-requires sums40-requires
     sums40-requires-2 array-borrow-prefix-r slice-aggregate-by-table array-borrow-prefix-n slice-aggregate-by-table-2 array-borrow-prefix-q
-    slice-aggregate-by-table-3 array-borrow-prefix-t slice-aggregate-by-table-4 array-borrow-prefix-e slice-aggregate-by-table-5 array-borrow-prefix-acc
+    slice-aggregate-by-table-3 array-borrow-prefix-t slice-aggregate-by-table-4 array_borrow_prefix_e slice-aggregate-by-table-5 array_borrow_prefix_acc
     slice-aggregate-by-table-6 by-table-requires returns)

@@ -1,7 +1,7 @@
 -- `counting::roots_by_size` meets its contract. Assumes nothing.
 use mathlib.Core.Path.{sym}
 use native.Mathlib.Omega.{arith}
-use Rattle.counting.specs.Count.{roots-one}
+use Rattle.counting.specs.Count.{roots_one}
 use borrow.Author.Rules.{rules}
 use Rattle.counting.proofs.roots_by_size.Statement.{statement}
 use Rattle.counting.proofs.roots_by_size.Tie as tie
@@ -9,7 +9,7 @@ use Rattle.counting.proofs.roots_by_size.Tie as tie
 returns : tie.Need-returns
 returns c =
     let start = c.before.before in
-    sym (roots-one start.requires.0 start.requires.2 (omega arith))
+    sym (roots_one start.requires.0 start.requires.2 (omega arith))
 
 roots40-requires : tie.Need-roots40-requires
 roots40-requires c κs = search rules

@@ -6,14 +6,14 @@ use native.Mathlib.Omega.{arith}
 use borrow.Author.Rules.{rules}
 use lib.ListN.{length, get_or, take}
 use lib.Seq.{get_or-take}
-use Rattle.slices.specs.Filling.{getD-tab}
+use Rattle.slices.specs.Filling.{get_d_tab}
 use Rattle.sheet.specs.Word.{word_at, words_of}
 use Rattle.encoding.proofs.number.Statement.{statement}
 use Rattle.encoding.proofs.number.Tie as tie
 
 -- the words of eight bytes or more
 front : (bytes : List ℕ) (i : ℕ) → 8 ≤ length bytes → i < 2 → get_or (take 2 (words_of bytes)) i 0 ≡ word_at bytes i
-front bytes i long h = get_or-take 2 (words_of bytes) i 0 h ∙ getD-tab (length bytes / 4) (word_at bytes) i (omega arith)
+front bytes i long h = get_or-take 2 (words_of bytes) i 0 h ∙ get_d_tab (length bytes / 4) (word_at bytes) i (omega arith)
 
 slice-aggregate-load : tie.Need-slice-aggregate-load
 slice-aggregate-load c = search rules

@@ -1,7 +1,7 @@
 -- `encoding::unpointed` meets its contract. Assumes nothing.
 use borrow.Author.Rules.{rules}
 use mathlib.Core.Path.{sym, ap}
-use Rattle.encoding.specs.Encoding.{unpointedOf}
+use Rattle.encoding.specs.Encoding.{unpointed_of}
 use Rattle.encoding.proofs.unpointed.Statement.{statement}
 use Rattle.encoding.proofs.unpointed.Tie as tie
 
@@ -15,7 +15,7 @@ returns : tie.Need-returns
 returns c = search rules
 
 returns-2 : tie.Need-returns-2
-returns-2 c = sym (ap unpointedOf c.before.verdict.given.1)
+returns-2 c = sym (ap unpointed_of c.before.verdict.given.1)
 
 pub unpointed-spec : {M : Type 1} → statement M
 unpointed-spec = tie.close (tie.spec enum-known-verdict enum_told returns returns-2)

@@ -1,7 +1,7 @@
 -- `encoding::written_number` meets its contract. Assumes nothing.
 use borrow.Author.Rules.{rules}
 use mathlib.Core.Path.{◌∙◌, sym, ap}
-use Rattle.promises.specs.Outcome.{writtenNumber}
+use Rattle.promises.specs.Outcome.{written_number}
 use Rattle.encoding.proofs.written_number.Statement.{statement}
 use Rattle.encoding.proofs.written_number.Tie as tie
 
@@ -21,7 +21,7 @@ returns : tie.Need-returns
 returns c = search rules
 
 returns-2 : tie.Need-returns-2
-returns-2 c = c.refusal.ensures ∙ ap writtenNumber (sym c.before.before.written2.given.1)
+returns-2 c = c.refusal.ensures ∙ ap written_number (sym c.before.before.written2.given.1)
 
 pub written-number-spec : {M : Type 1} → statement M
 written-number-spec =

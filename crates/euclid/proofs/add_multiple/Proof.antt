@@ -5,10 +5,10 @@ use Prim.Native.Nat.{ℕ, ◌+◌, ◌-◌}
 use native.Mathlib.Omega.{arith}
 use lib.ListN.{length, set, take, drop, length-take, length-drop}
 use lib.Seq.{length-take-le}
-use Rattle.slices.specs.Stored.{part-below}
-use Rattle.zmod.specs.Residues.{reduced-take}
-use Rattle.barrett.specs.Modulus.{prepared-positive}
-use Rattle.euclid.specs.Combination.{first-at, second-length, second_reduced, rear-length, all-length, added-residues}
+use Rattle.slices.specs.Stored.{part_below}
+use Rattle.zmod.specs.Residues.{reduced_take}
+use Rattle.barrett.specs.Modulus.{prepared_positive}
+use Rattle.euclid.specs.Combination.{first_at, second_length, second_reduced, rear_length, all_length, added_residues}
 use borrow.Author.Rules.{rules}
 use Rattle.euclid.proofs.add_multiple.Statement.{statement}
 use Rattle.euclid.proofs.add_multiple.Tie as tie
@@ -39,7 +39,7 @@ stored-size : (c : tie.After-two-products) → length (stored c) ≡ length (sta
 stored-size c =
     let front = front-done c in
     let at = start front in
-    second-length at.args.a.now at.args.b.now front.scale.last.0 c.two_products.result at.pre.0.5 (front-size front)
+    second_length at.args.a.now at.args.b.now front.scale.last.0 c.two_products.result at.pre.0.5 (front-size front)
 
 rear-size : (c : tie.After-two-products) →
     let from = shift (front-done c) + 1 in
@@ -47,7 +47,7 @@ rear-size : (c : tie.After-two-products) →
 rear-size c =
     let front = front-done c in
     let at = start front in
-    rear-length at.args.a.now at.args.b.now front.scale.last.0 c.two_products.result at.pre.0.5 (front-size front)
+    rear_length at.args.a.now at.args.b.now front.scale.last.0 c.two_products.result at.pre.0.5 (front-size front)
 
 sub-n : tie.Need-overflow-sub-n
 sub-n c = search rules
@@ -68,7 +68,7 @@ scale-requires c κs =
     let start = c.before.before.before in
     let a = start.args in
     let pre = start.requires in
-    (pre.0.0, pre.0.1, reduced-take a.a.now (prepared-positive pre.0.0) (length a.a.now - length a.b.now) pre.1.0)
+    (pre.0.0, pre.0.1, reduced_take a.a.now (prepared_positive pre.0.0) (length a.a.now - length a.b.now) pre.1.0)
 
 mul-two-products : tie.Need-overflow-mul-two-products
 mul-two-products c = search rules
@@ -84,7 +84,7 @@ two-products-requires c κs =
     let front = c.before.before.before.before in
     let a = (start front).args in
     let pre = (start front).requires in
-    let word = first-at a.a.now a.b.now front.scale.new.0 0 pre.0.5 (front-size front) in
+    let word = first_at a.a.now a.b.now front.scale.new.0 0 pre.0.5 (front-size front) in
     (pre.0.0, pre.0.1, omega (arith, word, pre.1.0 (shift front)), pre.0.3, pre.1.1 0)
 
 mul-a : tie.Need-overflow-mul-a
@@ -129,7 +129,7 @@ combine-requires c κs =
     let a = (start front).args in
     let b = a.b.now in
     let pre = (start front).pre in
-    let pos = prepared-positive pre.0.0 in
+    let pos = prepared_positive pre.0.0 in
     let from = shift front + 1 in (
       (
         pre.0.0,
@@ -140,11 +140,11 @@ combine-requires c κs =
         omega (arith, rear-size word, length-take (length b - 1) (drop 1 b), length-drop 1 b),
       ),
       (
-        part-below (stored word) from (length (stored word) - from) a.m.p pos
+        part_below (stored word) from (length (stored word) - from) a.m.p pos
             (second_reduced a.a.now b front.scale.last.0 word.two_products.result pre.0.5 (front-size front) a.m.p pre.0.4
             pre.1.0 front.scale.ensures.reduced word.two_products.ensures.below),
-        reduced-take b pos (length b - 1) pre.1.1,
-        part-below b 1 (length b - 1) a.m.p pos pre.1.1,
+        reduced_take b pos (length b - 1) pre.1.1,
+        part_below b 1 (length b - 1) a.m.p pos pre.1.1,
       ),
     )
 
@@ -156,7 +156,7 @@ same_length c =
     let front = front-done word in
     let a = (start front).args in
     let pre = (start front).pre in
-    all-length a.a.now a.b.now front.scale.last.0 word.two_products.result pre.0.5 (front-size front) combine.new.0
+    all_length a.a.now a.b.now front.scale.last.0 word.two_products.result pre.0.5 (front-size front) combine.new.0
     (omega (arith, combine.auto, rear-size word)) pre.0.4
 
 returns : tie.Need-returns
@@ -167,8 +167,8 @@ returns c =
     let front = front-done word in
     let a = (start front).args in
     let pre = (start front).pre in
-    added-residues a.a.now a.b.now front.scale.last.0 word.two_products.result a.m.p a.c a.y a.z combine.new.0
-    (prepared-positive pre.0.0) pre.0.4 pre.0.5 (front-size front) (omega (arith, combine.auto, rear-size word)) front.scale.ensures
+    added_residues a.a.now a.b.now front.scale.last.0 word.two_products.result a.m.p a.c a.y a.z combine.new.0
+    (prepared_positive pre.0.0) pre.0.4 pre.0.5 (front-size front) (omega (arith, combine.auto, rear-size word)) front.scale.ensures
     word.two_products.ensures combine.ensures
 
 pub add-multiple-spec : {M : Type 1} → statement M

@@ -2,14 +2,14 @@
 use mathlib.Core.Path.{refl}
 use Prim.Native.Nat.{◌-◌}
 use lib.ListN.{length, get_or}
-use Rattle.barrett.specs.Modulus.{prepared-positive}
-use Rattle.euclid.specs.Cancel.{one-cancelled}
+use Rattle.barrett.specs.Modulus.{prepared_positive}
+use Rattle.euclid.specs.Cancel.{one_cancelled}
 use borrow.Author.Rules.{rules}
 use Rattle.euclid.proofs.cancel_one.Statement.{statement}
 use Rattle.euclid.proofs.cancel_one.Tie as tie
 
-sub-k : tie.Need-overflow-sub-k
-sub-k c = search rules
+sub_k : tie.Need-overflow-sub-k
+sub_k c = search rules
 
 mul-negate : tie.Need-overflow-mul-negate
 mul-negate c = search rules
@@ -34,7 +34,7 @@ combine-requires c κs =
     let start = at-negate.before.before.before.before in
     let b = start.args.b.now in
     let pre = start.requires in (
-      (pre.1, pre.2.reduced (length b - 1), at-negate.negate.ensures.below, prepared-positive pre.1, search rules, search rules),
+      (pre.1, pre.2.reduced (length b - 1), at-negate.negate.ensures.below, prepared_positive pre.1, search rules, search rules),
       (pre.3, pre.2.reduced, pre.2.reduced),
     )
 
@@ -51,9 +51,9 @@ returns c =
     let p = a.m.p in
     let combine = at-combine.combine in
     let last = get_or a.b.now (length a.b.now - 1) 0 in
-    one-cancelled p a.a.now a.b.now pre.0 pre.2 last at-negate.negate.result combine.new.0 pre.4 (search rules)
+    one_cancelled p a.a.now a.b.now pre.0 pre.2 last at-negate.negate.result combine.new.0 pre.4 (search rules)
     refl at-negate.negate.ensures.class combine.ensures
 
 pub cancel-one-spec : {M : Type 1} → statement M
-cancel-one-spec = tie.close (tie.spec sub-k mul-negate slice-read-negate negate-requires mul-combine shared-slice-read-combine
+cancel-one-spec = tie.close (tie.spec sub_k mul-negate slice-read-negate negate-requires mul-combine shared-slice-read-combine
     combine-requires same_length returns)

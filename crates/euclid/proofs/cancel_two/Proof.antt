@@ -4,10 +4,10 @@ use Prim.Native.Nat.{◌-◌}
 use native.Mathlib.Omega.{arith}
 use lib.ListN.{length, length-take}
 use lib.Seq.{length-take-le}
-use Rattle.zmod.specs.Residues.{reduced-take}
-use Rattle.barrett.specs.Modulus.{prepared-positive}
-use Rattle.euclid.specs.Words.{reduced-behind}
-use Rattle.euclid.specs.Cancel.{two-cancelled}
+use Rattle.zmod.specs.Residues.{reduced_take}
+use Rattle.barrett.specs.Modulus.{prepared_positive}
+use Rattle.euclid.specs.Words.{reduced_behind}
+use Rattle.euclid.specs.Cancel.{two_cancelled}
 use borrow.Author.Rules.{rules}
 use Rattle.euclid.proofs.cancel_two.Statement.{statement}
 use Rattle.euclid.proofs.cancel_two.Tie as tie
@@ -22,8 +22,8 @@ words-read c = c.before.before.before
 abbrev c-done : tie.After-two-products → tie.After-multiply
 c-done c = c.before.before.before.before
 
-sub-k : tie.Need-overflow-sub-k
-sub-k c = search rules
+sub_k : tie.Need-overflow-sub-k
+sub_k c = search rules
 
 sub-b1 : tie.Need-overflow-sub-b1
 sub-b1 c = search rules
@@ -81,7 +81,7 @@ two-products-requires c κs =
     let d = length a.b.now - 1 in (
       pre.1,
       pre.3 (length a.a.now - 1),
-      omega (arith, read.second.ensures, reduced-behind a.b.now (prepared-positive pre.1) pre.2.reduced d),
+      omega (arith, read.second.ensures, reduced_behind a.b.now (prepared_positive pre.1) pre.2.reduced d),
       c.negate2.ensures.below,
       pre.2.reduced d,
     )
@@ -103,7 +103,7 @@ add-multiple-requires c κs =
     let pre = (start (words-read at)).requires in
     let k = length a.a.now - 1 in (
       (pre.1, at.multiply.ensures.below, y.ensures.below, z.ensures.below, pre.2.some, omega (arith, pre.4, length-take k a.a.now)),
-      (reduced-take a.a.now (prepared-positive pre.1) k pre.3, pre.2.reduced),
+      (reduced_take a.a.now (prepared_positive pre.1) k pre.3, pre.2.reduced),
     )
 
 mul-a : tie.Need-overflow-mul-a
@@ -132,11 +132,11 @@ returns c =
     let z₁ = read.second in
     let z₀ = at-negate2.negate2 in
     let z = at-two-products.two_products in
-    two-cancelled a.m.p a.a.now a.b.now pre.0 pre.2 c.result y.result z.result y₀.result z₀.result z₁.result
+    two_cancelled a.m.p a.a.now a.b.now pre.0 pre.2 c.result y.result z.result y₀.result z₀.result z₁.result
     part.new.0 pre.4 c.ensures y₀.ensures.class y.ensures z₁.ensures z₀.ensures.class z.ensures
     (omega (arith, part.auto, length-take (length a.a.now - 1) a.a.now)) pre.3 part.ensures
 
 pub cancel-two-spec : {M : Type 1} → statement M
-cancel-two-spec = tie.close (tie.spec sub-k sub-b1 mul-b1 shared-slice-read-b1 second-requires mul-a1 slice-read-a1 sub-a0 mul-a0 slice-read-a0
+cancel-two-spec = tie.close (tie.spec sub_k sub-b1 mul-b1 shared-slice-read-b1 second-requires mul-a1 slice-read-a1 sub-a0 mul-a0 slice-read-a0
     multiply-requires negate-requires multiply-requires-2 negate-requires-2 two-products-requires slice-relend-prefix-add-multiple
     slice-aggregate-add-multiple add-multiple-requires mul-a slice-write-a same_length returns)

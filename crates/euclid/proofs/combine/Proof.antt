@@ -5,12 +5,12 @@ use Prim.Native.Nat.{◌-◌}
 use native.Mathlib.Omega.{arith}
 use lib.ListN.{length, get_or}
 use Rattle.series.specs.Series.{sums, scaled}
-use Rattle.zmod.specs.Zmod.{Zmod, mk, plus, times, mk-combination}
-use Rattle.zmod.specs.Residues.{poly, poly-at, residue-same}
-use Rattle.barrett.specs.Modulus.{prepared-positive, prepared-below}
-use Rattle.slices.specs.Stored.{Stored, stored-none, stored_more, word_kept}
-use Rattle.poly.specs.Stored.{Of, stored-all}
-use Rattle.euclid.specs.Combination.{product-fits}
+use Rattle.zmod.specs.Zmod.{Zmod, mk, plus, times, mk_combination}
+use Rattle.zmod.specs.Residues.{poly, poly_at, residue_same}
+use Rattle.barrett.specs.Modulus.{prepared_positive, prepared_below}
+use Rattle.slices.specs.Stored.{Stored, stored_none, stored_more, word_kept}
+use Rattle.poly.specs.Stored.{Of, stored_all}
+use Rattle.euclid.specs.Combination.{product_fits}
 use borrow.Author.Rules.{rules}
 use Rattle.euclid.proofs.combine.Statement.{statement}
 use Rattle.euclid.proofs.combine.Tie as tie
@@ -24,7 +24,7 @@ abbrev decreases-loop : tie.decreases-loop
 decreases-loop out₀ before here c y z m k₀ out k = length out₀ - k
 
 loop-holds : tie.Need-loop-init invariant-loop decreases-loop
-loop-holds c = stored-none _ _
+loop-holds c = stored_none _ _
 
 mul-three-products : tie.Need-overflow-mul-three-products invariant-loop decreases-loop
 mul-three-products c = search rules
@@ -55,7 +55,7 @@ three-products-requires c κs =
     let at-loop = c.before.before.before.before in
     let pre = at-loop.before.before.before.before.requires in
     let k = at-loop.loop.k in
-    let small = prepared-below pre.0.0 in (
+    let small = prepared_below pre.0.0 in (
       omega (arith, small, pre.0.1),
       omega (arith, small, word_kept _ _ _ _ at-loop.loop.invariant, pre.1.0 k),
       omega (arith, small, pre.0.2),
@@ -72,14 +72,14 @@ short-remainder-requires c κs =
     let pre = start.requires in
     let k = at-loop.loop.k in
     let p = a.m.p in
-    let small = prepared-below pre.0.0 in (
+    let small = prepared_below pre.0.0 in (
       pre.0.0,
       omega (
         arith,
         c.three-products.ensures,
-        product-fits p a.c (get_or at-loop.loop.out k 0) small pre.0.1 (omega (arith, word_kept _ _ _ _ at-loop.loop.invariant, pre.1.0 k)),
-        product-fits p a.y (get_or a.before.now k 0) small pre.0.2 (pre.1.1 k),
-        product-fits p a.z (get_or a.here.now k 0) small pre.0.3 (pre.1.2 k),
+        product_fits p a.c (get_or at-loop.loop.out k 0) small pre.0.1 (omega (arith, word_kept _ _ _ _ at-loop.loop.invariant, pre.1.0 k)),
+        product_fits p a.y (get_or a.before.now k 0) small pre.0.2 (pre.1.1 k),
+        product_fits p a.z (get_or a.here.now k 0) small pre.0.3 (pre.1.2 k),
       ),
     )
 
@@ -106,11 +106,11 @@ loop-again c =
     let a = at-loop.before.before.before.before.args in
     let loop = at-loop.loop in
     let p = a.m.p in
-    let first = ap (mk p) (word_kept _ _ _ _ loop.invariant) ∙ sym (poly-at p a.out.now loop.k) in
-    let second = sym (poly-at p a.before.now loop.k) in
-    let third = sym (poly-at p a.here.now loop.k) in
+    let first = ap (mk p) (word_kept _ _ _ _ loop.invariant) ∙ sym (poly_at p a.out.now loop.k) in
+    let second = sym (poly_at p a.before.now loop.k) in
+    let third = sym (poly_at p a.here.now loop.k) in
     stored_more _ a.out.now loop.out loop.k c.short-remainder.result (omega (arith, loop.invariant.same_length)) loop.invariant
-    (residue-same (ap (mk p) at-three-products.three-products.ensures ∙ mk-combination p a.c _ a.y _ a.z _
+    (residue_same (ap (mk p) at-three-products.three-products.ensures ∙ mk_combination p a.c _ a.y _ a.z _
     ∙ ap₂ (plus p) (ap₂ (λ s t. plus p (times p (mk p a.c) s) (times p (mk p a.y) t)) first second) (ap (times p (mk p a.z)) third))
     c.short-remainder.ensures)
 
@@ -125,7 +125,7 @@ returns c =
     let start = at-loop.before.before.before.before in
     let a = start.args in
     let loop = at-loop.loop in
-    stored-all a.m.p _ a.out.now loop.out loop.k (prepared-positive start.requires.0.0) (omega (arith, loop.invariant.same_length)) loop.invariant
+    stored_all a.m.p _ a.out.now loop.out loop.k (prepared_positive start.requires.0.0) (omega (arith, loop.invariant.same_length)) loop.invariant
 
 pub combine-spec : {M : Type 1} → statement M
 combine-spec = tie.close (tie.spec invariant-loop decreases-loop loop-holds mul-three-products slice-read-three-products mul-three-products-2

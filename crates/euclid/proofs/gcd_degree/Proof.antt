@@ -7,8 +7,8 @@ use native.Mathlib.Omega.{arith}
 use lib.ListN.{length, take, drop, length-append, length-take, length-drop}
 use lib.Seq.{length-take-le, take-length, take-append-le}
 use Rattle.zmod.specs.Residues.{poly}
-use Rattle.euclid.specs.Words.{Leads, trimmed-leads}
-use Rattle.euclid.specs.Euclid.{Reached, pseudo-degree, reached-first, reached-end, reached-between, reached-next}
+use Rattle.euclid.specs.Words.{Leads, trimmed_leads}
+use Rattle.euclid.specs.Euclid.{Reached, pseudo_degree, reached_first, reached_end, reached_between, reached_next}
 use borrow.Author.Rules.{rules}
 use Rattle.euclid.proofs.gcd_degree.Statement.{statement}
 use Rattle.euclid.proofs.gcd_degree.Tie as tie
@@ -27,8 +27,8 @@ begun c = c.before.before.before
 abbrev start : tie.At-loop invariant-loop decreases-loop → tie.Start invariant-loop decreases-loop
 start c = (begun c).before.before.before.before.before
 
-abbrev in-turn : tie.After-next2 invariant-loop decreases-loop → tie.At-loop invariant-loop decreases-loop
-in-turn c = c.before.before.before.before
+abbrev in_turn : tie.After-next2 invariant-loop decreases-loop → tie.At-loop invariant-loop decreases-loop
+in_turn c = c.before.before.before.before
 
 abbrev half : tie.Else1 invariant-loop decreases-loop → tie.After-next2 invariant-loop decreases-loop
 half c = c.before.before.before
@@ -42,16 +42,16 @@ left-y c = length-take-le c.loop.y c.loop.b (omega arith)
 
 -- a comes back from the first half of a turn
 back_a : (c : tie.After-next2 invariant-loop decreases-loop) →
-    let loop = (in-turn c).loop in
+    let loop = (in_turn c).loop in
     take c.next2.result (c.next2.new.0 ++ drop loop.x loop.a) ≡ take c.next2.result c.next2.new.0
 back_a c = take-append-le c.next2.result c.next2.new.0 _ c.next2.ensures.1.fits
 
 size-a : (c : tie.After-next2 invariant-loop decreases-loop) →
-    let loop = (in-turn c).loop in
+    let loop = (in_turn c).loop in
     length (c.next2.new.0 ++ drop loop.x loop.a) ≡ length loop.a
 size-a c =
-    let loop = (in-turn c).loop in
-    omega (arith, c.next2.auto, left-x (in-turn c), length-append c.next2.new.0 (drop loop.x loop.a), length-drop loop.x loop.a)
+    let loop = (in_turn c).loop in
+    omega (arith, c.next2.auto, left-x (in_turn c), length-append c.next2.new.0 (drop loop.x loop.a), length-drop loop.x loop.a)
 
 next-requires : tie.Need-next-requires invariant-loop decreases-loop
 next-requires c κs = search rules
@@ -66,7 +66,7 @@ loop-holds c =
       refl,
       search rules,
       next.1.fits,
-      rw (take-length a) (reached-first start.requires.2 next.1 next.2),
+      rw (take-length a) (reached_first start.requires.2 next.1 next.2),
     )
 
 slice-relend-prefix-next : tie.Need-slice-relend-prefix-next invariant-loop decreases-loop
@@ -95,11 +95,11 @@ sub-result c = search rules
 same_length : tie.Need-same-length invariant-loop decreases-loop
 same_length c =
     let at-next2 = c.before.before.before in
-    omega (arith, size-a at-next2, (in-turn at-next2).loop.invariant.0)
+    omega (arith, size-a at-next2, (in_turn at-next2).loop.invariant.0)
 
 same-length-2 : tie.Need-same-length-2 invariant-loop decreases-loop
 same-length-2 c =
-    let at-loop = in-turn c.before.before.before in
+    let at-loop = in_turn c.before.before.before in
     omega (arith, at-loop.loop.inv.1, (begun at-loop).next.kept)
 
 returns : tie.Need-returns invariant-loop decreases-loop
@@ -108,20 +108,20 @@ returns c =
     let at_test = at-next2.before.before.before in
     let at-loop = at_test.before in
     let next = at-next2.next2.ensures in
-    pseudo-degree (begun at-loop).next.ensures.2
+    pseudo_degree (begun at-loop).next.ensures.2
     (rw (left-y at-loop) at
-    (reached-between at-loop.loop.invariant.4 next.1 next.2 (start at-loop).requires.0 (omega (arith, left-y at-loop, at_test.loop-test)) c.if1.true))
+    (reached_between at-loop.loop.invariant.4 next.1 next.2 (start at-loop).requires.0 (omega (arith, left-y at-loop, at_test.loop-test)) c.if1.true))
 
 slice-relend-prefix-next-2 : tie.Need-slice-relend-prefix-next-2 invariant-loop decreases-loop
 slice-relend-prefix-next-2 c = search rules
 
 slice-aggregate-next-3 : tie.Need-slice-aggregate-next-3 invariant-loop decreases-loop
-slice-aggregate-next-3 c = sym (left-y (in-turn (half c.before)))
+slice-aggregate-next-3 c = sym (left-y (in_turn (half c.before)))
 
 slice-reshare-prefix-next-2 : tie.Need-slice-reshare-prefix-next-2 invariant-loop decreases-loop
 slice-reshare-prefix-next-2 c =
     let at-next2 = half c.before in
-    omega (arith, at-next2.next2.ensures.1.fits, length-append at-next2.next2.last.0 (drop (in-turn at-next2).loop.x (in-turn at-next2).loop.a))
+    omega (arith, at-next2.next2.ensures.1.fits, length-append at-next2.next2.last.0 (drop (in_turn at-next2).loop.x (in_turn at-next2).loop.a))
 
 slice-aggregate-next-4 : tie.Need-slice-aggregate-next-4 invariant-loop decreases-loop
 slice-aggregate-next-4 c =
@@ -132,12 +132,12 @@ next-requires-3 : tie.Need-next-requires-3 invariant-loop decreases-loop
 next-requires-3 c κs =
     let at-if1 = c.before.before in
     let at-next2 = half at-if1 in
-    let at-loop = in-turn at-next2 in
+    let at-loop = in_turn at-next2 in
     let pre = (start at-loop).pre in
     let next = at-next2.next2.ensures in (
       pre.0,
       pre.1,
-      subst (Leads _) (sym (back_a at-next2)) (trimmed-leads _ next.1 next.2.reduced (omega (arith, at-if1.if1.false))),
+      subst (Leads _) (sym (back_a at-next2)) (trimmed_leads _ next.1 next.2.reduced (omega (arith, at-if1.if1.false))),
       at-loop.loop.inv.4.reduced,
     )
 
@@ -152,7 +152,7 @@ loop-less c =
       ap length (back_a at-next2),
       length-take next.result next.last.0,
       next.ensures.0,
-      left-y (in-turn at-next2),
+      left-y (in_turn at-next2),
     )
 
 loop-again : tie.Need-loop-preserved invariant-loop decreases-loop
@@ -160,7 +160,7 @@ loop-again c =
     let at-next3 = c.before.before in
     let at-if1 = at-next3.before.before.before in
     let at-next2 = half at-if1 in
-    let at-loop = in-turn at-next2 in
+    let at-loop = in_turn at-next2 in
     let loop = at-loop.loop in
     let first = at-next2.next2 in
     let second = at-next3.next3 in
@@ -177,7 +177,7 @@ loop-again c =
       ),
       omega (arith, first.ensures.1.fits, first.kept, left-x at-loop, loop.inv.2),
       omega (arith, second.ensures.1.fits, second.auto, left-y at-loop, loop.inv.3),
-      rw (back_a at-next2, back-b) (reached-next loop.inv.4 first.ensures.1 first.ensures.2 (omega (arith, at-if1.if1.false)) second.ensures.1
+      rw (back_a at-next2, back-b) (reached_next loop.inv.4 first.ensures.1 first.ensures.2 (omega (arith, at-if1.if1.false)) second.ensures.1
           (rw (back_a at-next2) at second.ensures.2)),
     )
 
@@ -199,9 +199,9 @@ same-length-4 c =
 returns-2 : tie.Need-returns-2 invariant-loop decreases-loop
 returns-2 c =
     let at-loop = c.before in
-    pseudo-degree (begun at-loop).next.ensures.2
+    pseudo_degree (begun at-loop).next.ensures.2
     (rw (left-x at-loop) at
-    (reached-end (start at-loop).requires.0 at-loop.loop.invariant.4 (omega (arith, left-y at-loop, c.loop-test))))
+    (reached_end (start at-loop).requires.0 at-loop.loop.invariant.4 (omega (arith, left-y at-loop, c.loop-test))))
 
 pub gcd-degree-spec : {M : Type 1} → statement M
 gcd-degree-spec = tie.close (tie.spec invariant-loop decreases-loop next-requires loop-holds slice-relend-prefix-next slice-aggregate-next slice-reshare-prefix-next

@@ -6,10 +6,10 @@ use Prim.Native.Nat.{◌-◌, ◌≤◌}
 use native.Mathlib.Omega.{arith}
 use lib.ListN.{length, take, drop, length-append, length-drop}
 use lib.Seq.{length-take-le}
-use Rattle.zmod.specs.Residues.{poly, reduced-take}
-use Rattle.barrett.specs.Modulus.{prepared-positive}
-use Rattle.euclid.specs.Words.{trimmed-below}
-use Rattle.euclid.specs.Pseudo.{PseudoRemainder, pseudo-self, pseudo-below, pseudo-trimmed, pseudo-further}
+use Rattle.zmod.specs.Residues.{poly, reduced_take}
+use Rattle.barrett.specs.Modulus.{prepared_positive}
+use Rattle.euclid.specs.Words.{trimmed_below}
+use Rattle.euclid.specs.Pseudo.{PseudoRemainder, pseudo_self, pseudo_below, pseudo_trimmed, pseudo_further}
 use borrow.Author.Rules.{rules}
 use Rattle.euclid.proofs.next.Statement.{statement}
 use Rattle.euclid.proofs.next.Tie as tie
@@ -27,7 +27,7 @@ start c = c.before.before.before
 loop-holds : tie.Need-loop-init invariant-loop decreases-loop
 loop-holds c =
     let start = c.before.before in
-    (refl, refl, search rules, pseudo-self _ start.args.a.now start.requires.3)
+    (refl, refl, search rules, pseudo_self _ start.args.a.now start.requires.3)
 
 slice-relend-prefix-cancel-two : tie.Need-slice-relend-prefix-cancel-two invariant-loop decreases-loop
 slice-relend-prefix-cancel-two c = search rules
@@ -43,10 +43,10 @@ cancel-two-requires c κs =
     let loop = at-loop.loop in
     let pre = (start at-loop).requires in
     let size : length (take loop.k loop.a) ≡ loop.k = length-take-le loop.k loop.a (search rules) in
-    (pre.0, pre.1, pre.2, reduced-take loop.a (prepared-positive pre.1) loop.k loop.invariant.3.reduced, search (rules, size))
+    (pre.0, pre.1, pre.2, reduced_take loop.a (prepared_positive pre.1) loop.k loop.invariant.3.reduced, search (rules, size))
 
-sub-k : tie.Need-overflow-sub-k invariant-loop decreases-loop
-sub-k c =
+sub_k : tie.Need-overflow-sub-k invariant-loop decreases-loop
+sub_k c =
     let at-loop = c.before.before.before.before.before in
     search (rules, (start at-loop).requires.2.some)
 
@@ -66,7 +66,7 @@ loop-again c =
       loop.invariant.0,
       omega (arith, long, length-append step.new.0 (drop loop.k loop.a), length-drop loop.k loop.a, loop.invariant.1, loop.invariant.2),
       omega (arith, loop.invariant.2),
-      pseudo-further loop.invariant.3 long (pseudo-below (omega (arith, size)) step.ensures),
+      pseudo_further loop.invariant.3 long (pseudo_below (omega (arith, size)) step.ensures),
     )
 
 slice-relend-prefix-cancel-one : tie.Need-slice-relend-prefix-cancel-one invariant-loop decreases-loop
@@ -83,7 +83,7 @@ cancel-one-requires c κs =
     let loop = at-loop.loop in
     let pre = (start at-loop).requires in
     let size : length (take loop.k loop.a) ≡ loop.k = length-take-le loop.k loop.a (search rules) in
-    (pre.0, pre.1, pre.2, reduced-take loop.a (prepared-positive pre.1) loop.k loop.invariant.3.reduced, search (rules, size))
+    (pre.0, pre.1, pre.2, reduced_take loop.a (prepared_positive pre.1) loop.k loop.invariant.3.reduced, search (rules, size))
 
 trimmed-requires : tie.Need-trimmed-requires invariant-loop decreases-loop
 trimmed-requires c κs = search rules
@@ -105,12 +105,12 @@ divided c =
     let long : length step.last.0 ≡ loop.k = omega (arith, step.kept, size) in
     subst (λ l. (length l ≡ length a.a.now) × PseudoRemainder p (length a.b.now - 1) (poly p a.b.now) (poly p a.a.now) l) (sym w.5) (
       omega (arith, long, length-append step.last.0 (drop loop.k loop.a), length-drop loop.k loop.a, loop.invariant.1, loop.invariant.2),
-      pseudo-further loop.invariant.3 long (pseudo-below (omega (arith, size, w.0, loop.invariant.0)) step.ensures),
+      pseudo_further loop.invariant.3 long (pseudo_below (omega (arith, size, w.0, loop.invariant.0)) step.ensures),
     ))
     (λ w.
     subst (λ l. (length l ≡ length a.a.now) × PseudoRemainder p (length a.b.now - 1) (poly p a.b.now) (poly p a.a.now) l) (sym w.1) (
       loop.invariant.1,
-      pseudo-below (omega (arith, w.0, loop.invariant.0)) loop.invariant.3,
+      pseudo_below (omega (arith, w.0, loop.invariant.0)) loop.invariant.3,
     ))
     c.if1.branch
 
@@ -123,8 +123,8 @@ returns c =
     let pre = (start joined.before.before).pre in
     let left = (divided joined).1 in
     let trimmed = c.trimmed.ensures in
-    (omega (arith, pre.2.some, trimmed-below _ trimmed left.reduced left.below), trimmed, pseudo-trimmed trimmed left)
+    (omega (arith, pre.2.some, trimmed_below _ trimmed left.reduced left.below), trimmed, pseudo_trimmed trimmed left)
 
 pub next-spec : {M : Type 1} → statement M
-next-spec = tie.close (tie.spec invariant-loop decreases-loop loop-holds slice-relend-prefix-cancel-two slice-aggregate-cancel-two cancel-two-requires sub-k loop-less
+next-spec = tie.close (tie.spec invariant-loop decreases-loop loop-holds slice-relend-prefix-cancel-two slice-aggregate-cancel-two cancel-two-requires sub_k loop-less
     loop-again slice-relend-prefix-cancel-one slice-aggregate-cancel-one cancel-one-requires trimmed-requires same_length returns)

@@ -6,10 +6,10 @@ use native.Mathlib.Omega.{arith}
 use lib.ListN.{length}
 use Rattle.series.specs.Series.{scaled}
 use Rattle.zmod.specs.Zmod.{Zmod, mk, times}
-use Rattle.zmod.specs.Residues.{poly, poly-at, residue-same}
-use Rattle.barrett.specs.Modulus.{prepared-positive}
-use Rattle.slices.specs.Stored.{Stored, stored-none, stored_more, word_kept}
-use Rattle.poly.specs.Stored.{Of, stored-all}
+use Rattle.zmod.specs.Residues.{poly, poly_at, residue_same}
+use Rattle.barrett.specs.Modulus.{prepared_positive}
+use Rattle.slices.specs.Stored.{Stored, stored_none, stored_more, word_kept}
+use Rattle.poly.specs.Stored.{Of, stored_all}
 use borrow.Author.Rules.{rules}
 use Rattle.euclid.proofs.scale.Statement.{statement}
 use Rattle.euclid.proofs.scale.Tie as tie
@@ -21,7 +21,7 @@ abbrev decreases-loop : tie.decreases-loop
 decreases-loop out₀ c m k₀ out k = length out₀ - k
 
 loop-holds : tie.Need-loop-init invariant-loop decreases-loop
-loop-holds c = stored-none _ _
+loop-holds c = stored_none _ _
 
 mul-multiply : tie.Need-overflow-mul-multiply invariant-loop decreases-loop
 mul-multiply c = search rules
@@ -61,7 +61,7 @@ loop-again c =
     let p = a.m.p in
     let loop = at-loop.loop in
     stored_more _ a.out.now loop.out loop.k c.multiply.result (omega (arith, loop.invariant.same_length)) loop.invariant
-    (residue-same (ap (times p (mk p a.c)) (ap (mk p) (word_kept _ _ _ _ loop.invariant) ∙ sym (poly-at p a.out.now loop.k))) c.multiply.ensures)
+    (residue_same (ap (times p (mk p a.c)) (ap (mk p) (word_kept _ _ _ _ loop.invariant) ∙ sym (poly_at p a.out.now loop.k))) c.multiply.ensures)
 
 same_length : tie.Need-same-length invariant-loop decreases-loop
 same_length c =
@@ -74,7 +74,7 @@ returns c =
     let start = at-loop.before.before in
     let a = start.args in
     let loop = at-loop.loop in
-    stored-all a.m.p _ a.out.now loop.out loop.k (prepared-positive start.requires.0) (omega (arith, loop.invariant.same_length)) loop.invariant
+    stored_all a.m.p _ a.out.now loop.out loop.k (prepared_positive start.requires.0) (omega (arith, loop.invariant.same_length)) loop.invariant
 
 pub scale-spec : {M : Type 1} → statement M
 scale-spec = tie.close (tie.spec invariant-loop decreases-loop loop-holds mul-multiply slice-read-multiply multiply-requires mul-out slice-write-out add-k loop-less

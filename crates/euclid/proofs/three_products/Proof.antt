@@ -1,6 +1,6 @@
 -- `euclid::three_products` meets its contract: three products of 56 bits fit. Assumes nothing.
 use native.Mathlib.Omega.{arith}
-use Rattle.zmod.specs.Remainder.{product-below}
+use Rattle.zmod.specs.Remainder.{product_below}
 use borrow.Author.Rules.{rules}
 use Rattle.euclid.proofs.three_products.Statement.{statement}
 use Rattle.euclid.proofs.three_products.Tie as tie
@@ -17,7 +17,7 @@ add-result c =
     let start = first.before in
     let pre = start.requires in
     record {
-      fits = omega (arith, c.product2.ensures, first.product.ensures, product-below 28 pre.0 pre.1, product-below 28 pre.2 pre.3);
+      fits = omega (arith, c.product2.ensures, first.product.ensures, product_below 28 pre.0 pre.1, product_below 28 pre.2 pre.3);
     }
 
 product-requires-3 : tie.Need-product-requires-3
@@ -35,9 +35,9 @@ add-result-2 c =
         c.product3.ensures,
         second.product2.ensures,
         first.product.ensures,
-        product-below 28 pre.0 pre.1,
-        product-below 28 pre.2 pre.3,
-        product-below 28 pre.4 pre.5,
+        product_below 28 pre.0 pre.1,
+        product_below 28 pre.2 pre.3,
+        product_below 28 pre.4 pre.5,
       );
     }
 

@@ -43,8 +43,8 @@ returns c =
     let loop = at-loop.loop in
     record { fits = loop.invariant.0; past = loop.invariant.1; last = λ l. omega (arith, at-if1.if1.true) }
 
-sub-k : tie.Need-overflow-sub-k invariant-loop decreases-loop
-sub-k c = search rules
+sub_k : tie.Need-overflow-sub-k invariant-loop decreases-loop
+sub_k c = search rules
 
 loop-less : tie.Need-loop-smaller invariant-loop decreases-loop
 loop-less c = search rules
@@ -65,4 +65,4 @@ returns-2 c =
     record { fits = omega arith; past = λ j l. loop.invariant.1 j (omega (arith, at-loop-test.loop-test)); last = λ l. absurd (omega arith) }
 
 pub trimmed-spec : {M : Type 1} → statement M
-trimmed-spec = tie.close (tie.spec invariant-loop decreases-loop loop-holds sub-if1 mul-if1 shared-slice-read-if1 returns sub-k loop-less loop-again returns-2)
+trimmed-spec = tie.close (tie.spec invariant-loop decreases-loop loop-holds sub-if1 mul-if1 shared-slice-read-if1 returns sub_k loop-less loop-again returns-2)

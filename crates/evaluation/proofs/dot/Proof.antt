@@ -7,7 +7,7 @@ use lib.ListN.{length, get_or}
 use Rattle.zmod.specs.Zmod.{Zmod, mk}
 use Rattle.zmod.specs.Residues.{poly}
 use Rattle.evaluation.specs.Tables.{weighed}
-use Rattle.evaluation.proofs.Words.{small-more, small_all, term-low, weighed-more, weighed-none}
+use Rattle.evaluation.proofs.Words.{small_more, small_all, term_low, weighed_more, weighed_none}
 use Rattle.evaluation.proofs.dot.Statement.{statement}
 use Rattle.evaluation.proofs.dot.Tie as tie
 
@@ -19,7 +19,7 @@ abbrev decreases-loop : tie.decreases-loop
 decreases-loop a b s₀ i₀ s i = length a - i
 
 loop-holds : tie.Need-loop-init invariant-loop decreases-loop
-loop-holds c = (search rules, search rules, λ p. weighed-none p c.before.before.args.a.now c.before.before.args.b.now)
+loop-holds c = (search rules, search rules, λ p. weighed_none p c.before.before.args.a.now c.before.before.args.b.now)
 
 mul-product : tie.Need-overflow-mul-product invariant-loop decreases-loop
 mul-product c = search rules
@@ -44,16 +44,16 @@ small c =
     let at-loop = c.before.before.before.before in
     let i = at-loop.loop.i in
     let at = at-loop.before.before.before in
-    small-more i at-loop.loop.s c.product.result at-loop.loop.invariant.1
-    (omega (arith, c.product.ensures, term-low i (get_or at.args.a.now i 0) (get_or at.args.b.now i 0) (at.requires.1.0 i) (at.requires.1.1 i)))
+    small_more i at-loop.loop.s c.product.result at-loop.loop.invariant.1
+    (omega (arith, c.product.ensures, term_low i (get_or at.args.a.now i 0) (get_or at.args.b.now i 0) (at.requires.1.0 i) (at.requires.1.1 i)))
 
 add-s : tie.Need-overflow-add-s invariant-loop decreases-loop
 add-s c =
     let loop = c.before.before.before.before.loop in
     omega (arith, small_all (loop.i + 1) (loop.s + c.product.result) (omega arith) (small c))
 
-add-i : tie.Need-overflow-add-i invariant-loop decreases-loop
-add-i c = search rules
+add_i : tie.Need-overflow-add-i invariant-loop decreases-loop
+add_i c = search rules
 
 loop-less : tie.Need-loop-smaller invariant-loop decreases-loop
 loop-less c = search rules
@@ -65,7 +65,7 @@ loop-again c =
     let at = at-loop.before.before.before.args in (
       search rules,
       small c,
-      λ p. weighed-more p at.a.now at.b.now loop.i loop.s c.product.result c.product.ensures (loop.invariant.2 p),
+      λ p. weighed_more p at.a.now at.b.now loop.i loop.s c.product.result c.product.ensures (loop.invariant.2 p),
     )
 
 returns : tie.Need-returns invariant-loop decreases-loop
@@ -90,7 +90,7 @@ dot-spec =
     shared-slice-read-product-2
     product-requires
     add-s
-    add-i
+    add_i
     loop-less
     loop-again
     returns)

@@ -5,10 +5,10 @@ use native.Mathlib.Omega.{arith}
 use borrow.Author.Rules.{rules}
 use lib.ListN.{length}
 use Rattle.zmod.specs.Zmod.{Elt}
-use Rattle.zmod.specs.Residues.{poly, poly-past}
+use Rattle.zmod.specs.Residues.{poly, poly_past}
 use Rattle.evaluation.specs.Tables.{Tables}
-use Rattle.evaluation.proofs.Words.{part, part_length, part-reduced, part-poly}
-use Rattle.evaluation.proofs.Upper.{Upper, upper-none, upper-more, upper-all}
+use Rattle.evaluation.proofs.Words.{part, part_length, part_reduced, part_poly}
+use Rattle.evaluation.proofs.Upper.{Upper, upper_none, upper_more, upper_all}
 use Rattle.evaluation.proofs.evaluate.Statement.{statement}
 use Rattle.evaluation.proofs.evaluate.Tie as tie
 
@@ -23,7 +23,7 @@ loop-holds : tie.Need-loop-init invariant-loop decreases-loop
 loop-holds c =
     let start = c.before.before.before in
     let a = start.args.a.now in
-    (search rules, search rules, search rules, λ u t. upper-none start.args.p (poly start.args.p a) (length a) u (search rules))
+    (search rules, search rules, search rules, λ u t. upper_none start.args.p (poly start.args.p a) (length a) u (search rules))
 
 below-requires : tie.Need-below-requires invariant-loop decreases-loop
 below-requires c κs = search rules
@@ -50,7 +50,7 @@ step-requires c κs =
     let hi : i ≤ length a = omega arith in
     let m : length (part a s i lo hi) ≡ i - s = part_length a s i lo hi in (
       omega arith,
-      ((part-reduced a s i lo hi start.requires.1.0.0, start.requires.1.0.1, start.requires.1.0.2), search rules),
+      ((part_reduced a s i lo hi start.requires.1.0.0, start.requires.1.0.1, start.requires.1.0.2), search rules),
     )
 
 loop-less : tie.Need-loop-smaller invariant-loop decreases-loop
@@ -68,11 +68,11 @@ loop-again c =
     let hi : i ≤ length a = omega arith in
     let m : length (part a s i lo hi) ≡ i - s = part_length a s i lo hi in (
       omega arith,
-      c.step.ensures.value-is.below,
-      c.step.ensures.slope-is.below,
+      c.step.ensures.value_is.below,
+      c.step.ensures.slope_is.below,
       λ u t.
-          upper-more p (poly p a) (length a) u (poly-past p a) s i (part a s i lo hi) start.args.powers.now start.args.slopes.now loop.r
-          c.step.result lo hi m (part-poly a s i lo hi p) (omega arith) (omega arith) t (loop.invariant.3 u t) c.step.ensures,
+          upper_more p (poly p a) (length a) u (poly_past p a) s i (part a s i lo hi) start.args.powers.now start.args.slopes.now loop.r
+          c.step.result lo hi m (part_poly a s i lo hi p) (omega arith) (omega arith) t (loop.invariant.3 u t) c.step.ensures,
     )
 
 returns : tie.Need-returns invariant-loop decreases-loop
@@ -80,7 +80,7 @@ returns c u t =
     let start = c.before.before.before.before.before in
     let loop = c.before.loop in
     let end : loop.i ≡ 0 = omega arith in
-    upper-all start.args.p start.args.a.now u loop.r (rw end at (loop.invariant.3 u t))
+    upper_all start.args.p start.args.a.now u loop.r (rw end at (loop.invariant.3 u t))
 
 pub evaluate-spec : {M : Type 1} → statement M
 evaluate-spec =

@@ -7,7 +7,7 @@ use borrow.Author.Rules.{rules}
 use Rattle.ring.specs.Ring.{pow}
 use Rattle.slices.specs.Filling.{Filled, filled_none, filled_more}
 use Rattle.zmod.specs.Zmod.{Zmod, mk}
-use Rattle.zmod.specs.Residues.{residues-filled}
+use Rattle.zmod.specs.Residues.{residues_filled}
 use Rattle.evaluation.proofs.Words.{Power}
 use Rattle.evaluation.proofs.fill_powers.Statement.{statement}
 use Rattle.evaluation.proofs.fill_powers.Tie as tie
@@ -32,8 +32,8 @@ mul-out c = search rules
 slice-write-out : tie.Need-slice-write-out invariant-loop decreases-loop
 slice-write-out c = search rules
 
-add-i : tie.Need-overflow-add-i invariant-loop decreases-loop
-add-i c = search rules
+add_i : tie.Need-overflow-add-i invariant-loop decreases-loop
+add_i c = search rules
 
 loop-less : tie.Need-loop-smaller invariant-loop decreases-loop
 loop-less c = search rules
@@ -56,7 +56,7 @@ returns : tie.Need-returns invariant-loop decreases-loop
 returns c =
     let loop = c.before.loop in
     let at = c.before.before.before.args in
-    residues-filled {a = pow (Zmod at.p) (mk at.p at.x)} (omega arith) (λ j l. loop.invariant.2 j (omega arith))
+    residues_filled {a = pow (Zmod at.p) (mk at.p at.x)} (omega arith) (λ j l. loop.invariant.2 j (omega arith))
 
 pub fill-powers-spec : {M : Type 1} → statement M
 fill-powers-spec =
@@ -68,7 +68,7 @@ fill-powers-spec =
     power-requires
     mul-out
     slice-write-out
-    add-i
+    add_i
     loop-less
     loop-again
     same_length

@@ -5,8 +5,8 @@ use native.Mathlib.Omega.{arith}
 use lib.ListN.{length, get_or, length-set}
 use borrow.Author.Rules.{rules}
 use Rattle.slices.specs.Filling.{Filled, filled_none, filled_more}
-use Rattle.zmod.specs.Residues.{poly-at}
-use Rattle.evaluation.proofs.Words.{Slope, slope-at, slopes-low}
+use Rattle.zmod.specs.Residues.{poly_at}
+use Rattle.evaluation.proofs.Words.{Slope, slope_at, slopes_low}
 use Rattle.evaluation.proofs.fill_slopes.Statement.{statement}
 use Rattle.evaluation.proofs.fill_slopes.Tie as tie
 
@@ -30,8 +30,8 @@ mul-out c = search rules
 slice-write-out : tie.Need-slice-write-out invariant-loop decreases-loop
 slice-write-out c = search rules
 
-add-i : tie.Need-overflow-add-i invariant-loop decreases-loop
-add-i c = search rules
+add_i : tie.Need-overflow-add-i invariant-loop decreases-loop
+add_i c = search rules
 
 loop-less : tie.Need-loop-smaller invariant-loop decreases-loop
 loop-less c = search rules
@@ -55,10 +55,10 @@ returns c =
     let loop = c.before.loop in
     let start = c.before.before.before.before in
     let powers = start.args.powers.now in (
-      slopes-low powers loop.out loop.i (omega arith) start.requires.2 loop.invariant.2,
+      slopes_low powers loop.out loop.i (omega arith) start.requires.2 loop.invariant.2,
       λ p u h i l.
-          poly-at p loop.out i
-          ∙ slope-at p u powers i (get_or loop.out i 0) h (omega arith) (loop.invariant.2 i (omega arith)),
+          poly_at p loop.out i
+          ∙ slope_at p u powers i (get_or loop.out i 0) h (omega arith) (loop.invariant.2 i (omega arith)),
     )
 
 pub fill-slopes-spec : {M : Type 1} → statement M
@@ -71,7 +71,7 @@ fill-slopes-spec =
     slope-requires
     mul-out
     slice-write-out
-    add-i
+    add_i
     loop-less
     loop-again
     same_length

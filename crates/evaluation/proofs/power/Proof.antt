@@ -3,7 +3,7 @@ use mathlib.Core.Path.{sym, subst}
 use Prim.Native.Nat.{◌/◌, ◌-◌}
 use native.Mathlib.Omega.{arith}
 use borrow.Author.Rules.{rules}
-use Rattle.evaluation.proofs.Words.{Power, power_zero, power-one, power-sum}
+use Rattle.evaluation.proofs.Words.{Power, power_zero, power_one, power_sum}
 use Rattle.evaluation.proofs.power.Statement.{statement}
 use Rattle.evaluation.proofs.power.Tie as tie
 
@@ -16,10 +16,10 @@ returns-2 : tie.Need-returns-2
 returns-2 c =
     let start = c.before.before.before in
     subst (λ i. Power start.args.p start.args.x i start.args.x) (sym c.if2.true)
-    (power-one start.args.p start.args.x (search rules))
+    (power_one start.args.p start.args.x (search rules))
 
-sub-k : tie.Need-overflow-sub-k
-sub-k c = search rules
+sub_k : tie.Need-overflow-sub-k
+sub_k c = search rules
 
 mul-multiply : tie.Need-overflow-mul-multiply
 mul-multiply c = search rules
@@ -40,7 +40,7 @@ returns-3 : tie.Need-returns-3
 returns-3 c =
     let start = c.before.before.before.before.before.before in
     let i = start.args.i in
-    power-sum start.args.p start.args.x i (i / 2) (i - i / 2) (omega arith) (start.requires.1 (i / 2) (omega arith))
+    power_sum start.args.p start.args.x i (i / 2) (i - i / 2) (omega arith) (start.requires.1 (i / 2) (omega arith))
     (start.requires.1 (i - i / 2) (omega arith)) c.multiply.ensures
 
 pub power-spec : {M : Type 1} → statement M
@@ -49,7 +49,7 @@ power-spec =
     (tie.spec
     returns
     returns-2
-    sub-k
+    sub_k
     mul-multiply
     shared-slice-read-multiply
     mul-multiply-2

@@ -12,8 +12,8 @@ use Rattle.evaluation.proofs.slope.Tie as tie
 returns : tie.Need-returns
 returns c = sym (ap (λ i. i * get_or c.before.args.powers.now (c.before.args.i - 1) 0) c.if1.true ∙ zero-mul _)
 
-cast-n : tie.Need-overflow-cast-n
-cast-n c = search rules
+cast_n : tie.Need-overflow-cast-n
+cast_n c = search rules
 
 sub-result : tie.Need-overflow-sub-result
 sub-result c = search rules
@@ -44,4 +44,4 @@ returns-2 c = search rules
 pub slope-spec : {M : Type 1} → statement M
 slope-spec =
     tie.close
-    (tie.spec returns cast-n sub-result mul-result shared-slice-read-result mul-result-2 returns-2)
+    (tie.spec returns cast_n sub-result mul-result shared-slice-read-result mul-result-2 returns-2)

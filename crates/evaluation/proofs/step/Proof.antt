@@ -4,8 +4,8 @@ use Prim.Native.Nat.{◌+◌, ◌*◌, ◌≤◌}
 use native.Mathlib.Omega.{arith}
 use borrow.Author.Rules.{rules}
 use lib.ListN.{length, get_or}
-use Rattle.zmod.specs.Residues.{poly-at, residue-same}
-use Rattle.evaluation.proofs.Words.{factor-low, product-more}
+use Rattle.zmod.specs.Residues.{poly_at, residue_same}
+use Rattle.evaluation.proofs.Words.{factor_low, product_more}
 use Rattle.evaluation.proofs.step.Statement.{statement}
 use Rattle.evaluation.proofs.step.Tie as tie
 
@@ -29,7 +29,7 @@ first c =
     omega (
       arith,
       c.product.ensures,
-      factor-low m (get_or start.args.powers.now m 0) start.args.above.value start.requires.0.0 (start.requires.1.0.1 m)
+      factor_low m (get_or start.args.powers.now m 0) start.args.above.value start.requires.0.0 (start.requires.1.0.1 m)
           (omega (arith, start.requires.1.1)),
     )
 
@@ -40,7 +40,7 @@ second c =
     omega (
       arith,
       c.product2.ensures,
-      factor-low m (get_or start.args.powers.now m 0) start.args.above.slope start.requires.0.0 (start.requires.1.0.1 m)
+      factor_low m (get_or start.args.powers.now m 0) start.args.above.slope start.requires.0.0 (start.requires.1.0.1 m)
           (omega (arith, start.requires.1.1)),
     )
 
@@ -51,7 +51,7 @@ third c =
     omega (
       arith,
       c.product3.ensures,
-      factor-low m (get_or start.args.slopes.now m 0) start.args.above.value start.requires.0.0 (start.requires.1.0.2 m)
+      factor_low m (get_or start.args.slopes.now m 0) start.args.above.value start.requires.0.0 (start.requires.1.0.2 m)
           (omega (arith, start.requires.1.1)),
     )
 
@@ -98,16 +98,16 @@ returns c =
     let value = first.before.dot.result in
     let slope = second.before.dot2.result in
     let x = get_or at.powers.now m 0 in
-    let is_x = sym (poly-at p at.powers.now m) in
+    let is_x = sym (poly_at p at.powers.now m) in
     record {
-      value-is =
-          residue-same (product-more p value first.product.result x at.above.value (first.before.dot.ensures.1 p) is_x first.product.ensures)
+      value_is =
+          residue_same (product_more p value first.product.result x at.above.value (first.before.dot.ensures.1 p) is_x first.product.ensures)
           c.before.reduce.ensures;
-      slope-is =
-          residue-same
-          (product-more p (slope + second.product2.result) third.product3.result (get_or at.slopes.now m 0) at.above.value
-          (product-more p slope second.product2.result x at.above.slope (second.before.dot2.ensures.1 p) is_x second.product2.ensures)
-          (sym (poly-at p at.slopes.now m)) third.product3.ensures)
+      slope_is =
+          residue_same
+          (product_more p (slope + second.product2.result) third.product3.result (get_or at.slopes.now m 0) at.above.value
+          (product_more p slope second.product2.result x at.above.slope (second.before.dot2.ensures.1 p) is_x second.product2.ensures)
+          (sym (poly_at p at.slopes.now m)) third.product3.ensures)
           c.reduce2.ensures;
     }
 

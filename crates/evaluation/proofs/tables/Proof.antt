@@ -25,10 +25,10 @@ returns c =
     let filled = c.before.before.before.before.before.before.before in
     let at = filled.before.before.before.before.args in
     record {
-      powers-are = filled.fill-powers.ensures;
-      slopes-are = slopes.ensures.1 at.p (mk at.p at.x) filled.fill-powers.ensures;
-      powers-low = λ i. omega (arith, filled.fill-powers.ensures.reduced i);
-      slopes-low = slopes.ensures.0;
+      powers_are = filled.fill-powers.ensures;
+      slopes_are = slopes.ensures.1 at.p (mk at.p at.x) filled.fill-powers.ensures;
+      powers_low = λ i. omega (arith, filled.fill-powers.ensures.reduced i);
+      slopes_low = slopes.ensures.0;
     }
 
 pub tables-spec : {M : Type 1} → statement M

@@ -11,7 +11,7 @@ use borrow.Author.Rules.{rules}
 use Rattle.slices.specs.Filling.{Filled, filled_none, filled_more}
 use Rattle.sheet.specs.Values.{question}
 use Rattle.isogeny.specs.Expansion.{expansion}
-use Rattle.zmod.specs.Residues.{Residue, poly, residues-filled, residue-self}
+use Rattle.zmod.specs.Residues.{Residue, poly, residues_filled, residue_self}
 use Rattle.zmod.specs.Zmod.{Zmod}
 use Rattle.expansion.specs.Multiple.{Multiple, both, twice, multiple}
 use Rattle.expansion.proofs.expansion.Statement.{statement}
@@ -53,8 +53,8 @@ slice-write-h c = omega (arith, c.before.before.before.before.requires.1)
 most-requires : tie.Need-most-requires invariant-loop decreases-loop
 most-requires c κs = search rules
 
-cast-n : tie.Need-overflow-cast-n invariant-loop decreases-loop
-cast-n c =
+cast_n : tie.Need-overflow-cast-n invariant-loop decreases-loop
+cast_n c =
     let at_most = c in
     let start = at_most.before.before.before.before.before in
     omega (arith, at_most.most.ensures, start.requires.1)
@@ -98,7 +98,7 @@ loop-holds c =
     let v = a.v in
     let i = at_most.most.result in
     let first = filled_more (F v a.s.now) a.h.now 0 0 start.requires.1.0.0 (filled_none (F v a.s.now) a.h.now)
-    (residue-self 0 (omega arith)) in (
+    (residue_self 0 (omega arith)) in (
       omega (arith, length-set a.h.now 0 0),
       omega (arith, at_most.most.ensures),
       omega (arith, length-set a.h.now 0 0, at_most.most.ensures, start.requires.1.0),
@@ -126,8 +126,8 @@ slice-write-h-2 c = search rules
 add-requires-3 : tie.Need-add-requires-3 invariant-loop decreases-loop
 add-requires-3 c κs =
     let at-loop = c.before.before in
-    let at-add = at-loop.before.before.before.before.before in
-    (omega (arith, at-loop.loop.invariant.4.below), omega (arith, at-add.add.ensures.below), omega arith)
+    let at_add = at-loop.before.before.before.before.before in
+    (omega (arith, at-loop.loop.invariant.4.below), omega (arith, at_add.add.ensures.below), omega arith)
 
 add-requires-4 : tie.Need-add-requires-4 invariant-loop decreases-loop
 add-requires-4 c κs =
@@ -135,8 +135,8 @@ add-requires-4 c κs =
     let at-add2 = at-loop.before.before.before.before in
     (omega (arith, at-loop.loop.invariant.5.below), omega (arith, at-add2.add2.ensures.below), omega arith)
 
-add-i : tie.Need-overflow-add-i invariant-loop decreases-loop
-add-i c =
+add_i : tie.Need-overflow-add-i invariant-loop decreases-loop
+add_i c =
     let start = c.before.before.before.before.before.before.before.before.before.before.before.before in
     search (rules, length-set start.args.h.now 0 0)
 
@@ -149,8 +149,8 @@ loop-again c =
     let at-expansion-at = at-add3.before in
     let at-loop = at-expansion-at.before.before in
     let at-add2 = at-loop.before.before.before.before in
-    let at-add = at-add2.before in
-    let start = at-add.before.before.before in
+    let at_add = at-add2.before in
+    let start = at_add.before.before.before in
     let loop = at-loop.loop in
     let a = start.args in
     let v = a.v in
@@ -160,7 +160,7 @@ loop-again c =
       omega arith,
       omega (arith, length-set loop.h loop.i r.result),
       filled_more (F v a.s.now) loop.h loop.i r.result inside loop.invariant.3 r.ensures,
-      both (question v).A (2 * loop.i - 1) 2 (2 * (loop.i + 1) - 1) (omega arith) loop.invariant.4 (twice (question v).A at-add.add.ensures)
+      both (question v).A (2 * loop.i - 1) 2 (2 * (loop.i + 1) - 1) (omega arith) loop.invariant.4 (twice (question v).A at_add.add.ensures)
           at-add3.add3.ensures,
       both (question v).B (2 * loop.i - 2) 2 (2 * (loop.i + 1) - 2) (omega arith) loop.invariant.5 (twice (question v).B at-add2.add2.ensures)
           c.add4.ensures,
@@ -178,10 +178,10 @@ returns c =
     let start = at-loop.before.before.before.before.before.before.before.before in
     let loop = at-loop.loop in
     let a = start.args in
-    residues-filled {a = expansion (Zmod a.v.p) (question a.v).A (question a.v).B (poly a.v.p a.s.now)} (omega arith)
+    residues_filled {a = expansion (Zmod a.v.p) (question a.v).A (question a.v).B (poly a.v.p a.s.now)} (omega arith)
     (λ j l. loop.invariant.3 j (omega arith))
 
 pub expansion-spec : {M : Type 1} → statement M
-expansion-spec = tie.close (tie.spec invariant-loop decreases-loop add-requires add-requires-2 slice-write-h most-requires cast-n mul-multiply sub-multiply
+expansion-spec = tie.close (tie.spec invariant-loop decreases-loop add-requires add-requires-2 slice-write-h most-requires cast_n mul-multiply sub-multiply
     multiply-requires mul-multiply-2 sub-multiply-2 multiply-requires-2 loop-holds expansion-at-requires mul-h slice-write-h-2 add-requires-3 add-requires-4
-    add-i loop-less loop-again same_length returns)
+    add_i loop-less loop-again same_length returns)

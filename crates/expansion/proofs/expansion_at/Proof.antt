@@ -5,14 +5,14 @@ use native.Mathlib.Omega.{arith}
 use lib.ListN.{get_or}
 use borrow.Author.Rules.{rules}
 use Rattle.sheet.specs.Values.{question}
-use Rattle.zmod.specs.Residues.{residue-same}
+use Rattle.zmod.specs.Residues.{residue_same}
 use Rattle.zmod.specs.Zmod.{mk, plus, times}
 use Rattle.expansion.proofs.Turns.{expands}
 use Rattle.expansion.proofs.expansion_at.Statement.{statement}
 use Rattle.expansion.proofs.expansion_at.Tie as tie
 
-cast-n : tie.Need-overflow-cast-n
-cast-n c = search rules
+cast_n : tie.Need-overflow-cast-n
+cast_n c = search rules
 
 mul-weighted : tie.Need-overflow-mul-weighted
 mul-weighted c = search rules
@@ -60,7 +60,7 @@ returns c =
     let p = a.v.p in
     expands p (question a.v).A (question a.v).B a.s.now a.i a.y a.z c.weighted.result (omega arith) start.requires.1.1.0
     start.requires.1.1.1
-    (residue-same (ap (λ n. plus p (plus p (times p (mk p (2 * a.i + 1)) (mk p (get_or a.s.now (a.i + 1) 0)))
+    (residue_same (ap (λ n. plus p (plus p (times p (mk p (2 * a.i + 1)) (mk p (get_or a.s.now (a.i + 1) 0)))
     (times p (mk p a.y) (mk p (get_or a.s.now (a.i - 1) 0)))) (times p (mk p a.z) (mk p (get_or a.s.now n 0))))
     c.before.before.over.ensures) c.weighted.ensures)
 
@@ -68,7 +68,7 @@ pub expansion-at-spec : {M : Type 1} → statement M
 expansion-at-spec =
     tie.close
     (tie.spec
-    cast-n
+    cast_n
     mul-weighted
     add-weighted
     add-weighted-2

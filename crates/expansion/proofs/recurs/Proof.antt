@@ -4,12 +4,12 @@ use Prim.Native.Nat.{◌-◌}
 use native.Mathlib.Omega.{arith}
 use borrow.Author.Rules.{rules}
 use lib.ListN.{length, take, drop, length-take, length-drop}
-use Rattle.slices.specs.Stored.{part-below}
+use Rattle.slices.specs.Stored.{part_below}
 use Rattle.series.specs.Series.{conv}
 use Rattle.zmod.specs.Zmod.{Zmod}
 use Rattle.zmod.specs.Residues.{Reduced, poly, Residues}
 use Rattle.rows.specs.Room.{turns_fit}
-use Rattle.expansion.specs.Products.{squares-of}
+use Rattle.expansion.specs.Products.{squares_of}
 use Rattle.expansion.proofs.recurs.Statement.{statement}
 use Rattle.expansion.proofs.recurs.Tie as tie
 
@@ -31,7 +31,7 @@ square-requires c κs =
       (
         over.1,
         subst (λ p. Reduced p (take (length a.h.now - 1) (drop 1 a.h.now))) (sym over.2)
-            (part-below a.h.now 1 (length a.h.now - 1) a.v.p (search rules) sizes.0.1),
+            (part_below a.h.now 1 (length a.h.now - 1) a.v.p (search rules) sizes.0.1),
         turns_fit _ _ _ (omega (arith, over.2, over.0.prime)) (omega (
           arith,
           sizes,
@@ -59,7 +59,7 @@ recurs-by-requires c κs =
         (omega (arith, sizes), sizes.0.1, sizes.0.2, sizes.0.3),
         (
           omega (arith, sizes, square.auto),
-          squares-of a.v.p a.h.now square.new.1.1.1.0 (length a.h.now - 1) (omega arith) (omega (arith, sizes, square.auto))
+          squares_of a.v.p a.h.now square.new.1.1.1.0 (length a.h.now - 1) (omega arith) (omega (arith, sizes, square.auto))
               (subst (λ p. Residues p (conv (Zmod p) (poly p (take (length a.h.now - 1) (drop 1 a.h.now))) (poly p (take (length a.h.now - 1)
               (drop 1 a.h.now))))
               square.new.1.1.1.0) start.requires.0.2 square.ensures),

@@ -4,12 +4,12 @@ use native.Mathlib.Omega.{arith}
 use lib.ListN.{get_or}
 use borrow.Author.Rules.{rules}
 use Rattle.sheet.specs.Values.{question}
-use Rattle.expansion.proofs.Turns.{recurs-is}
+use Rattle.expansion.proofs.Turns.{recurs_is}
 use Rattle.expansion.proofs.recurs_at.Statement.{statement}
 use Rattle.expansion.proofs.recurs_at.Tie as tie
 
-cast-n : tie.Need-overflow-cast-n
-cast-n c = search rules
+cast_n : tie.Need-overflow-cast-n
+cast_n c = search rules
 
 mul-weighted : tie.Need-overflow-mul-weighted
 mul-weighted c = search rules
@@ -75,7 +75,7 @@ returns c =
     let start = at-weighted.before.before.before.before.before.before in
     let a = start.args in
     let weighted = at-weighted.weighted in
-    recurs-is a.v.p (question a.v).A (question a.v).B a.h.now a.k (omega arith) a.y a.z weighted.result
+    recurs_is a.v.p (question a.v).A (question a.v).B a.h.now a.k (omega arith) a.y a.z weighted.result
     (get_or a.squares.now (a.k - 3) 0) at-negate.negate.result c.weighted2.result (omega arith) start.requires.1.1.1.0 start.requires.1.1.1.1
     weighted.ensures (start.requires.1.1.0.1 a.k start.requires.1.0.0 start.requires.1.0.1) at-negate.negate.ensures c.weighted2.ensures
 
@@ -83,7 +83,7 @@ pub recurs-at-spec : {M : Type 1} → statement M
 recurs-at-spec =
     tie.close
     (tie.spec
-    cast-n
+    cast_n
     mul-weighted
     add-weighted
     mul-weighted-2

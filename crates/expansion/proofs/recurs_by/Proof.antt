@@ -29,8 +29,8 @@ add-requires c κs = search rules
 add-requires-2 : tie.Need-add-requires-2 invariant-loop decreases-loop
 add-requires-2 c κs = search rules
 
-cast-n : tie.Need-overflow-cast-n invariant-loop decreases-loop
-cast-n c = search rules
+cast_n : tie.Need-overflow-cast-n invariant-loop decreases-loop
+cast_n c = search rules
 
 mul-multiply : tie.Need-overflow-mul-multiply invariant-loop decreases-loop
 mul-multiply c = search rules
@@ -80,10 +80,10 @@ returns c =
 add-requires-3 : tie.Need-add-requires-3 invariant-loop decreases-loop
 add-requires-3 c κs =
     let at-loop = c.before.before.before in
-    let at-add = at-loop.before.before.before.before in (
+    let at_add = at-loop.before.before.before.before in (
       omega (arith, at-loop.loop.invariant.2.below),
       omega
-          (arith, at-add.add.ensures.below),
+          (arith, at_add.add.ensures.below),
       omega arith,
     )
 
@@ -110,14 +110,14 @@ loop-again c =
     let at-recurs-at = at-if1.before in
     let at-loop = at-recurs-at.before.before in
     let at-add2 = at-loop.before.before.before in
-    let at-add = at-add2.before in
-    let at-start = at-add.before.before.before in
-    let v = at-start.args.v in
+    let at_add = at-add2.before in
+    let at_start = at_add.before.before.before in
+    let v = at_start.args.v in
     let at = at-loop.loop in
     let found = at-recurs-at.recurs-at in (
       omega arith,
       below_more _ _ at.invariant.1 (λ l. found.ensures.0 (not-false found.result at-if1.if1.false)),
-      both (question v).A (2 * at.k - 3) 2 (2 * (at.k + 1) - 3) (omega arith) at.invariant.2 (twice (question v).A at-add.add.ensures)
+      both (question v).A (2 * at.k - 3) 2 (2 * (at.k + 1) - 3) (omega arith) at.invariant.2 (twice (question v).A at_add.add.ensures)
           at-add3.add3.ensures,
       both (question v).B (2 * at.k - 6) 2 (2 * (at.k + 1) - 6) (omega arith) at.invariant.3 (twice (question v).B at-add2.add2.ensures)
           c.add4.ensures,
@@ -136,7 +136,7 @@ recurs-by-spec =
     decreases-loop
     add-requires
     add-requires-2
-    cast-n
+    cast_n
     mul-multiply
     sub-multiply
     multiply-requires

@@ -37,8 +37,8 @@ mul-out-2 c = search rules
 slice-write-out : tie.Need-slice-write-out invariant-loop decreases-loop
 slice-write-out c = search rules
 
-add-i : tie.Need-overflow-add-i invariant-loop decreases-loop
-add-i c = search rules
+add_i : tie.Need-overflow-add-i invariant-loop decreases-loop
+add_i c = search rules
 
 loop-less : tie.Need-loop-smaller invariant-loop decreases-loop
 loop-less c = search rules
@@ -75,7 +75,7 @@ reverse-spec =
     shared-slice-read-out
     mul-out-2
     slice-write-out
-    add-i
+    add_i
     loop-less
     loop-again
     same_length

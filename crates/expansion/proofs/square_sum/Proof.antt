@@ -2,7 +2,7 @@
 use native.Mathlib.Omega.{arith}
 use Prim.Native.Nat.{◌-◌}
 use borrow.Author.Rules.{rules}
-use Rattle.expansion.specs.Parts.{part-reduced}
+use Rattle.expansion.specs.Parts.{part_reduced}
 use Rattle.expansion.proofs.Turns.{squares}
 use Rattle.expansion.proofs.square_sum.Statement.{statement}
 use Rattle.expansion.proofs.square_sum.Tie as tie
@@ -26,7 +26,7 @@ square-coefficient-requires : tie.Need-square-coefficient-requires
 square-coefficient-requires c κs =
     let start = c.before.before in
     let a = start.args in
-    (omega arith, omega arith, omega arith, part-reduced a.p a.h.now 1 (a.k - 1 - 1) (omega arith) (λ i l. start.requires.5 i (omega arith)))
+    (omega arith, omega arith, omega arith, part_reduced a.p a.h.now 1 (a.k - 1 - 1) (omega arith) (λ i l. start.requires.5 i (omega arith)))
 
 returns : tie.Need-returns
 returns c =

@@ -3,7 +3,7 @@ use mathlib.Core.Path.{ap₂}
 use Prim.Native.Nat.{◌+◌}
 use native.Mathlib.Omega.{arith}
 use borrow.Author.Rules.{rules}
-use Rattle.field.proofs.Laws.{weight-le}
+use Rattle.field.proofs.Laws.{weight_le}
 use Rattle.field.proofs.combination.Statement.{statement}
 use Rattle.field.proofs.combination.Tie as tie
 
@@ -21,8 +21,8 @@ add-result c =
       arith,
       c.before.product.ensures,
       c.product2.ensures,
-      weight-le {l = a.l} {x = a.x} start.ranges.l.fits start.requires.0,
-      weight-le {l = a.m} {x = a.y} start.ranges.m.fits start.requires.1,
+      weight_le {l = a.l} {x = a.x} start.ranges.l.fits start.requires.0,
+      weight_le {l = a.m} {x = a.y} start.ranges.m.fits start.requires.1,
     )
 
 product-requires-3 : tie.Need-product-requires-3
@@ -37,9 +37,9 @@ add-result-2 c =
       c.before.before.product.ensures,
       c.before.product2.ensures,
       c.product3.ensures,
-      weight-le {l = a.l} {x = a.x} start.ranges.l.fits start.requires.0,
-      weight-le {l = a.m} {x = a.y} start.ranges.m.fits start.requires.1,
-      weight-le {l = a.n} {x = a.z} start.ranges.n.fits start.requires.2,
+      weight_le {l = a.l} {x = a.x} start.ranges.l.fits start.requires.0,
+      weight_le {l = a.m} {x = a.y} start.ranges.m.fits start.requires.1,
+      weight_le {l = a.n} {x = a.z} start.ranges.n.fits start.requires.2,
     )
 
 returns : tie.Need-returns
@@ -52,9 +52,9 @@ returns c =
         c.before.before.product.ensures,
         c.before.product2.ensures,
         c.product3.ensures,
-        weight-le {l = a.l} {x = a.x} start.ranges.l.fits start.requires.0,
-        weight-le {l = a.m} {x = a.y} start.ranges.m.fits start.requires.1,
-        weight-le {l = a.n} {x = a.z} start.ranges.n.fits start.requires.2,
+        weight_le {l = a.l} {x = a.x} start.ranges.l.fits start.requires.0,
+        weight_le {l = a.m} {x = a.y} start.ranges.m.fits start.requires.1,
+        weight_le {l = a.n} {x = a.z} start.ranges.n.fits start.requires.2,
       ),
     )
 

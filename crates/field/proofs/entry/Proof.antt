@@ -4,14 +4,14 @@ use native.Mathlib.Nat.{mod-lt}
 use native.Mathlib.Omega.{arith}
 use lib.ListN.{get_or}
 use borrow.Author.Rules.{rules}
-use Rattle.field.proofs.Table.{prime-odd, quotient-below, entry-low, entry-even, entry-high}
+use Rattle.field.proofs.Table.{prime_odd, quotient_below, entry_low, entry_even, entry_high}
 use Rattle.field.proofs.entry.Statement.{statement}
 use Rattle.field.proofs.entry.Tie as tie
 
 returns : tie.Need-returns
 returns c =
     let start = c.before.before in
-    entry-low start.args.k start.requires.0 c.if1.true
+    entry_low start.args.k start.requires.0 c.if1.true
 
 -- ── an even place
 
@@ -29,7 +29,7 @@ halve-requires c κs =
     let more = c.before.before in
     let start = more.before.before in
     let k = start.args.k in
-    (((start.requires.1.1 (k / 2) (omega arith)).above_zero (omega arith)).below, prime-odd start.requires.0 (omega arith))
+    (((start.requires.1.1 (k / 2) (omega arith)).above_zero (omega arith)).below, prime_odd start.requires.0 (omega arith))
 
 returns-2 : tie.Need-returns-2
 returns-2 c =
@@ -37,7 +37,7 @@ returns-2 c =
     let more = even.before in
     let start = more.before.before in
     let k = start.args.k in
-    entry-even k (get_or start.args.table.now (k / 2) 0) c.halve.result more.if1.false even.if2.true
+    entry_even k (get_or start.args.table.now (k / 2) 0) c.halve.result more.if1.false even.if2.true
     (start.requires.1.1 (k / 2) (omega arith)) c.halve.ensures
 
 -- ── an odd place
@@ -49,7 +49,7 @@ sub-q : tie.Need-overflow-sub-q
 sub-q c =
     let more = c.before in
     let start = more.before.before in
-    omega (arith, quotient-below start.args.k start.requires.0 more.if1.false)
+    omega (arith, quotient_below start.args.k start.requires.0 more.if1.false)
 
 rem-i : tie.Need-nonzero-rem-i
 rem-i c = search rules
@@ -76,7 +76,7 @@ returns-3 c =
     let start = more.before.before in
     let k = start.args.k in
     let i = start.args.p % k in
-    entry-high k (get_or start.args.table.now i 0) start.requires.0 more.if1.false start.requires.1.0.0
+    entry_high k (get_or start.args.table.now i 0) start.requires.0 more.if1.false start.requires.1.0.0
     (start.requires.1.1 i (earlier more)) c.multiply.ensures
 
 pub entry_spec : {M : Type 1} → statement M

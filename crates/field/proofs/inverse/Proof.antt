@@ -1,9 +1,9 @@
 -- `field::inverse` meets its contract: by Fermat. Assumes nothing.
 use mathlib.Core.Path.{◌∙◌, ap}
 use borrow.Author.Rules.{rules}
-use Rattle.zmod.specs.Zmod.{mk, times, mk-nonzero}
-use Rattle.zmod.specs.Prime.{prime-pos}
-use Rattle.zmod.specs.Fermat.{fermat-inverse}
+use Rattle.zmod.specs.Zmod.{mk, times, mk_nonzero}
+use Rattle.zmod.specs.Prime.{prime_pos}
+use Rattle.zmod.specs.Fermat.{fermat_inverse}
 use Rattle.field.proofs.inverse.Statement.{statement}
 use Rattle.field.proofs.inverse.Tie as tie
 
@@ -22,7 +22,7 @@ returns c =
       below = c.power.ensures.below;
       unit =
           ap (times p (mk p a)) c.power.ensures.class
-          ∙ fermat-inverse start.requires.0 (mk p a) (mk-nonzero (prime-pos start.requires.0) a start.requires.1.0 start.requires.1.1);
+          ∙ fermat_inverse start.requires.0 (mk p a) (mk_nonzero (prime_pos start.requires.0) a start.requires.1.0 start.requires.1.1);
     }
 
 pub inverse-spec : {M : Type 1} → statement M

@@ -3,7 +3,7 @@ use Prim.Native.Nat.{◌+◌, ◌*◌, ◌/◌, ◌≤◌}
 use native.Mathlib.Nat.{mod-lt}
 use native.Mathlib.Omega.{arith}
 use borrow.Author.Rules.{rules}
-use Rattle.field.proofs.Euclid.{Turn, start, multiple-most, next, found}
+use Rattle.field.proofs.Euclid.{Turn, start, multiple_most, next, found}
 use Rattle.field.proofs.inverse_by_euclid.Statement.{statement}
 use Rattle.field.proofs.inverse_by_euclid.Tie as tie
 
@@ -24,7 +24,7 @@ rem-r c = search rules
 
 -- the next multiple of a
 fits : (c : tie.In-loop invariant-loop decreases-loop) → let loop = c.before.loop in loop.t + loop.x / loop.y * loop.u ≤ c.before.before.args.p
-fits c = multiple-most c.before.before.requires.0 c.before.loop.invariant
+fits c = multiple_most c.before.before.requires.0 c.before.loop.invariant
 
 mul-w : tie.Need-overflow-mul-w invariant-loop decreases-loop
 mul-w c = omega (arith, fits c)

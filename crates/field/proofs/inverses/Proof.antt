@@ -17,8 +17,8 @@ invariant-loop out₀ p n k₀ out k = (length out ≡ length out₀) × (k ≤ 
 abbrev decreases-loop : tie.decreases-loop
 decreases-loop out₀ p n k₀ out k = n - k
 
-cast-n : tie.Need-overflow-cast-n invariant-loop decreases-loop
-cast-n c = search rules
+cast_n : tie.Need-overflow-cast-n invariant-loop decreases-loop
+cast_n c = search rules
 
 loop-holds : tie.Need-loop-init invariant-loop decreases-loop
 loop-holds c =
@@ -68,7 +68,7 @@ inverses-spec =
     (tie.spec
     invariant-loop
     decreases-loop
-    cast-n
+    cast_n
     loop-holds
     cast-i
     entry-requires

@@ -5,7 +5,7 @@ use Prim.Native.Nat.{◌/◌, ◌^◌, ◌≤◌}
 use native.Mathlib.Omega.{arith}
 use Rattle.zmod.specs.Zmod.{mk}
 use Rattle.zmod.specs.Residues.{Residue}
-use Rattle.field.proofs.Digits.{to-zero, topmost, start, finish, digit-0, digit-1}
+use Rattle.field.proofs.Digits.{to_zero, topmost, start, finish, digit_0, digit_1}
 use Rattle.field.proofs.power.Statement.{statement}
 use Rattle.field.proofs.power.Tie as tie
 
@@ -18,7 +18,7 @@ decreases-loop a e p i₀ r₀ i r = i
 returns : tie.Need-returns invariant-loop decreases-loop
 returns c =
     let at = c.before.args in
-    to-zero at.a at.e at.p c.if1.true (search rules)
+    to_zero at.a at.e at.p c.if1.true (search rules)
 
 sub-i : tie.Need-overflow-sub-i invariant-loop decreases-loop
 sub-i c = omega (arith, (topmost c.before.args.e c.if1.false c.before.ranges.e.fits).0)
@@ -48,7 +48,7 @@ loop-again c =
     let turn = c.before.before.before in
     let at = turn.before.before.before.args in (
       search rules,
-      digit-1 at.a at.e at.p turn.before.loop.i (search rules) turn.before.loop.invariant.1 c.before.before.multiply.ensures
+      digit_1 at.a at.e at.p turn.before.loop.i (search rules) turn.before.loop.invariant.1 c.before.before.multiply.ensures
           c.before.if2.true c.multiply2.ensures,
     )
 
@@ -60,7 +60,7 @@ loop-again-2 c =
     let turn = c.before.before in
     let at = turn.before.before.before.args in (
       search rules,
-      digit-0 at.a at.e at.p turn.before.loop.i (search rules) turn.before.loop.invariant.1 c.before.multiply.ensures
+      digit_0 at.a at.e at.p turn.before.loop.i (search rules) turn.before.loop.invariant.1 c.before.multiply.ensures
           c.if2.false,
     )
 

@@ -5,10 +5,10 @@ use native.Mathlib.Omega.{arith}
 use lib.ListN.{length}
 use Rattle.series.specs.Series.{sums, scaled}
 use Rattle.zmod.specs.Zmod.{Zmod, mk, plus, times}
-use Rattle.zmod.specs.Residues.{poly, poly-at, residue-same}
-use Rattle.barrett.specs.Modulus.{prepared-positive}
-use Rattle.slices.specs.Stored.{Stored, stored-none, stored_more, word_kept}
-use Rattle.poly.specs.Stored.{Of, stored-all}
+use Rattle.zmod.specs.Residues.{poly, poly_at, residue_same}
+use Rattle.barrett.specs.Modulus.{prepared_positive}
+use Rattle.slices.specs.Stored.{Stored, stored_none, stored_more, word_kept}
+use Rattle.poly.specs.Stored.{Of, stored_all}
 use borrow.Author.Rules.{rules}
 use Rattle.folding.proofs.add_reduced.Statement.{statement}
 use Rattle.folding.proofs.add_reduced.Tie as tie
@@ -20,7 +20,7 @@ abbrev decreases-loop : tie.decreases-loop
 decreases-loop out₀ a c m k₀ out k = length out₀ - k
 
 loop-holds : tie.Need-loop-init invariant-loop decreases-loop
-loop-holds c = stored-none _ _
+loop-holds c = stored_none _ _
 
 mul-plus-multiple : tie.Need-overflow-mul-plus-multiple invariant-loop decreases-loop
 mul-plus-multiple c = search rules
@@ -71,8 +71,8 @@ loop-again c =
     let loop = at-loop.loop in
     let turn = at-plus-multiple.plus-multiple in
     stored_more _ a.out.now loop.out loop.k turn.result (omega (arith, loop.invariant.same_length)) loop.invariant
-    (residue-same (ap₂ (λ y z. plus p y (times p (mk p a.c) z)) (ap (mk p) (word_kept _ _ _ _ loop.invariant) ∙ sym (poly-at p a.out.now loop.k))
-    (sym (poly-at p a.a.now loop.k))) turn.ensures)
+    (residue_same (ap₂ (λ y z. plus p y (times p (mk p a.c) z)) (ap (mk p) (word_kept _ _ _ _ loop.invariant) ∙ sym (poly_at p a.out.now loop.k))
+    (sym (poly_at p a.a.now loop.k))) turn.ensures)
 
 same_length : tie.Need-same-length invariant-loop decreases-loop
 same_length c =
@@ -85,7 +85,7 @@ returns c =
     let start = at-loop.before.before.before in
     let a = start.args in
     let loop = at-loop.loop in
-    stored-all a.m.p _ a.out.now loop.out loop.k (prepared-positive start.requires.0.0) (omega (arith, loop.invariant.same_length)) loop.invariant
+    stored_all a.m.p _ a.out.now loop.out loop.k (prepared_positive start.requires.0.0) (omega (arith, loop.invariant.same_length)) loop.invariant
 
 pub add-reduced-spec : {M : Type 1} → statement M
 add-reduced-spec = tie.close (tie.spec invariant-loop decreases-loop loop-holds mul-plus-multiple slice-read-plus-multiple mul-plus-multiple-2

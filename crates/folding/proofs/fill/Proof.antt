@@ -3,11 +3,11 @@ use mathlib.Core.Path.{◌≡◌, ◌∙◌, ap}
 use Prim.Native.Nat.{ℕ, ◌+◌, ◌-◌, ◌*◌, ◌≤◌}
 use native.Mathlib.Omega.{arith}
 use lib.ListN.{length, get_or, take, drop, length-take, length-drop}
-use Rattle.barrett.specs.Modulus.{prepared-positive}
-use Rattle.rows.specs.Room.{zero-at}
+use Rattle.barrett.specs.Modulus.{prepared_positive}
+use Rattle.rows.specs.Room.{zero_at}
 use Rattle.modulo.specs.Modulo.{RemainderOf}
-use Rattle.modulo.specs.Power.{x-to}
-use Rattle.folding.specs.Table.{BegunTable, monic-of, row_inside, cleared-behind, begins, begun-none, begun_all}
+use Rattle.modulo.specs.Power.{x_to}
+use Rattle.folding.specs.Table.{BegunTable, monic_of, row_inside, cleared_behind, begins, begun_none, begun_all}
 use borrow.Author.Rules.{rules}
 use Rattle.folding.proofs.fill.Statement.{statement}
 use Rattle.folding.proofs.fill.Tie as tie
@@ -15,7 +15,7 @@ use Rattle.folding.proofs.fill.Tie as tie
 abbrev invariant-loop : tie.invariant-loop
 invariant-loop r₀ n t₀ m d i₀ r t i =
     (length r ≡ length n) × (length t ≡ length t₀) × (i ≤ length n) × BegunTable m.p n i t
-    × RemainderOf m.p (length n) (monic-of m.p n) (x-to m.p (length n + i)) r
+    × RemainderOf m.p (length n) (monic_of m.p n) (x_to m.p (length n + i)) r
 
 abbrev decreases-loop : tie.decreases-loop
 decreases-loop r₀ n t₀ m d i₀ r t i = length n - i
@@ -63,12 +63,12 @@ loop-holds c =
     let len = length t - d * d in
     let part = at_clear.clear.new.0 in
     let fits = row_inside d d (omega arith) in
-    let zeros : (j : ℕ) → get_or part j 0 ≡ 0 = λ j. ap (λ l. get_or l j 0) at_clear.clear.ensures ∙ zero-at (length (take len (drop (d * d) t))) j in
-    let behind = cleared-behind t part (d * d) len (omega (arith, pre.2)) (omega (arith, length-take len (drop (d * d) t), length-drop (d * d) t)) zeros in (
+    let zeros : (j : ℕ) → get_or part j 0 ≡ 0 = λ j. ap (λ l. get_or l j 0) at_clear.clear.ensures ∙ zero_at (length (take len (drop (d * d) t))) j in
+    let behind = cleared_behind t part (d * d) len (omega (arith, pre.2)) (omega (arith, length-take len (drop (d * d) t), length-drop (d * d) t)) zeros in (
       omega (arith, pre.1),
       search rules,
       omega arith,
-      begun-none p n _ (λ k l. omega (arith, behind k l, prepared-positive pre.0)),
+      begun_none p n _ (λ k l. omega (arith, behind k l, prepared_positive pre.0)),
       begins n pre.3 (omega (arith, pre.1)) (at_copy.copy.ensures p pre.3),
     )
 
@@ -80,8 +80,8 @@ fill-row-requires c κs =
     let inv = at-loop.loop.invariant in
     ((pre.0, omega arith, inv.0, omega (arith, pre.2, inv.1), pre.3), (inv.3, inv.4))
 
-add-i : tie.Need-overflow-add-i invariant-loop decreases-loop
-add-i c = search rules
+add_i : tie.Need-overflow-add-i invariant-loop decreases-loop
+add_i c = search rules
 
 loop-less : tie.Need-loop-smaller invariant-loop decreases-loop
 loop-less c = search rules
@@ -109,4 +109,4 @@ returns c =
 
 pub fill_spec : {M : Type 1} → statement M
 fill_spec = tie.close (tie.spec invariant-loop decreases-loop mul-clear mul-clear-2 sub-clear part-clear-start part-clear-end clear-requires copy-requires loop-holds
-    fill-row-requires add-i loop-less loop-again same_length same-length-2 returns)
+    fill-row-requires add_i loop-less loop-again same_length same-length-2 returns)

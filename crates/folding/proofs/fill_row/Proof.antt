@@ -4,8 +4,8 @@ use Prim.Native.Nat.{◌+◌, ◌-◌, ◌*◌}
 use native.Mathlib.Omega.{arith}
 use lib.ListN.{length, drop, length-take, length-drop}
 use Rattle.modulo.specs.Modulo.{RemainderOf}
-use Rattle.modulo.specs.Power.{x-to}
-use Rattle.folding.specs.Table.{monic-of, row_inside, next_power, begun_more}
+use Rattle.modulo.specs.Power.{x_to}
+use Rattle.folding.specs.Table.{monic_of, row_inside, next_power, begun_more}
 use borrow.Author.Rules.{rules}
 use Rattle.folding.proofs.fill_row.Statement.{statement}
 use Rattle.folding.proofs.fill_row.Tie as tie
@@ -69,7 +69,7 @@ returns c =
     ) in (
       begun_more a.m.p a.n.now a.t.now a.i (at + d - at) a.r.now widened.new.1.0 pre.0.1 pre.0.3 (omega arith) same
           pre.1.0 pre.1.1 (λ k l. widened.ensures k (omega arith)),
-      subst (λ e. RemainderOf a.m.p d (monic-of a.m.p a.n.now) (x-to a.m.p e) at-times-x.times-x.new.0) (omega arith)
+      subst (λ e. RemainderOf a.m.p d (monic_of a.m.p a.n.now) (x_to a.m.p e) at-times-x.times-x.new.0) (omega arith)
           (next_power (d + a.i) pre.1.1 at-times-x.times-x.ensures),
     )
 

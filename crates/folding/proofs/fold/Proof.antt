@@ -5,9 +5,9 @@ use native.Mathlib.Nat as N
 use native.Mathlib.Omega.{arith}
 use lib.ListN.{length, drop, length-take, length-drop}
 use Rattle.slices.specs.Filling.{Filled}
-use Rattle.slices.specs.Stored.{part-below}
+use Rattle.slices.specs.Stored.{part_below}
 use Rattle.folding.specs.Table.{row_inside}
-use Rattle.folding.specs.Fold.{fold_more, from, Folded, folded-none, fold-fits, folded_more, folded-all}
+use Rattle.folding.specs.Fold.{fold_more, from, Folded, folded_none, fold_fits, folded_more, folded_all}
 use borrow.Author.Rules.{rules}
 use Rattle.folding.proofs.fold.Statement.{statement}
 use Rattle.folding.proofs.fold.Tie as tie
@@ -22,7 +22,7 @@ loop-holds : tie.Need-loop-init invariant-loop decreases-loop
 loop-holds c =
     let start = c.before.before.before in
     let a = start.args in
-    (refl, omega arith, folded-none a.p a.q.now a.t.now a.acc.now start.requires.1.3)
+    (refl, omega arith, folded_none a.p a.q.now a.t.now a.acc.now start.requires.1.3)
 
 mul-fold-four : tie.Need-overflow-mul-fold-four invariant-loop decreases-loop
 mul-fold-four c =
@@ -73,13 +73,13 @@ fold-four-requires c κs =
         ),
         pre.1.0,
         pre.1.1,
-        part-below t (i * d) (length t - i * d) a.p (omega (arith, pre.1.1 0)) pre.1.2,
+        part_below t (i * d) (length t - i * d) a.p (omega (arith, pre.1.1 0)) pre.1.2,
       ),
-      fold-fits a.p a.q.now t a.acc.now pre.1.1 pre.1.2 i loop.acc (omega arith) pre.1.0 loop.invariant.2,
+      fold_fits a.p a.q.now t a.acc.now pre.1.1 pre.1.2 i loop.acc (omega arith) pre.1.0 loop.invariant.2,
     )
 
-add-i : tie.Need-overflow-add-i invariant-loop decreases-loop
-add-i c = search rules
+add_i : tie.Need-overflow-add-i invariant-loop decreases-loop
+add_i c = search rules
 
 loop-less : tie.Need-loop-smaller invariant-loop decreases-loop
 loop-less c = search rules
@@ -113,9 +113,9 @@ returns c =
     let a = start.args in
     let pre = start.requires in
     let loop = at-loop.loop in
-    folded-all a.p a.q.now a.t.now a.acc.now pre.1.1 pre.1.2 loop.i loop.acc (omega arith) pre.1.0 loop.invariant.2 pre.0.0
+    folded_all a.p a.q.now a.t.now a.acc.now pre.1.1 pre.1.2 loop.i loop.acc (omega arith) pre.1.0 loop.invariant.2 pre.0.0
     (omega arith) loop.invariant.0
 
 pub fold-spec : {M : Type 1} → statement M
 fold-spec = tie.close (tie.spec invariant-loop decreases-loop loop-holds mul-fold-four mul-fold-four-2 sub-fold-four part-fold-four-start part-fold-four-end
-    fold-four-requires add-i loop-less loop-again same_length returns)
+    fold-four-requires add_i loop-less loop-again same_length returns)

@@ -4,9 +4,9 @@ use Prim.Native.Nat.{ℕ, ◌+◌, ◌-◌, ◌*◌, ◌^◌, ◌<◌}
 use native.Mathlib.Nat.{lt_of_le_of_lt}
 use native.Mathlib.Omega.{arith}
 use lib.ListN.{length, get_or}
-use Rattle.slices.specs.Stored.{part-below}
-use Rattle.rows.specs.Rows.{four-more, of_words}
-use Rattle.folding.specs.Fold.{from, four_are, four-le}
+use Rattle.slices.specs.Stored.{part_below}
+use Rattle.rows.specs.Rows.{four_more, of_words}
+use Rattle.folding.specs.Fold.{from, four_are, four_le}
 use borrow.Author.Rules.{rules}
 use Rattle.folding.proofs.fold_four.Statement.{statement}
 use Rattle.folding.proofs.fold_four.Tie as tie
@@ -89,14 +89,14 @@ four-requires c κs =
     let x : at-word2.word2.result < p = omega (arith, at-word2.word2.ensures, pre.0.3 (1 + a.i)) in
     let y : at-word3.word3.result < p = omega (arith, at-word3.word3.ensures, pre.0.3 (2 + a.i)) in
     let z : at-word4.word4.result < p = omega (arith, at-word4.word4.ensures, pre.0.3 (3 + a.i)) in
-    let low : (u j : ℕ) → get_or (from t u) j 0 < p = λ u. part-below t u (length t - u) p (omega arith) pre.0.4 in
+    let low : (u j : ℕ) → get_or (from t u) j 0 < p = λ u. part_below t u (length t - u) p (omega arith) pre.0.4 in
     let short : (n : ℕ) → n < p → n < 2 ^ 32 = λ n l. omega (arith, pre.0.2) in (
       (omega arith, search rules, search rules, search rules),
       (
         (λ j. short _ (pre.0.4 j), λ j. short _ (low _ j), λ j. short _ (low _ j), λ j. short _ (low _ j)),
         (
           (short _ w, short _ x, short _ y, short _ z),
-          λ j l. lt_of_le_of_lt (four-le p _ _ _ _ _ _ _ _ _ w x y z (pre.0.4 j) (low _ j) (low _ j) (low _ j)) (pre.1 j),
+          λ j l. lt_of_le_of_lt (four_le p _ _ _ _ _ _ _ _ _ w x y z (pre.0.4 j) (low _ j) (low _ j) (low _ j)) (pre.1 j),
         ),
       ),
     )
@@ -117,7 +117,7 @@ returns c =
     let t = a.t.now in
     let four = at-four.four in
     λ k l. of_words a.q.now a.i _ _ _ _ at-word.word.ensures at-word2.word2.ensures at-word3.word3.ensures at-word4.word4.ensures
-    (λ w x y z. get_or four.new.0 k 0 ≡ four-more a.acc.now t (from t d) (from t (2 * d)) (from t (3 * d)) w x y z k) (four.ensures k l)
+    (λ w x y z. get_or four.new.0 k 0 ≡ four_more a.acc.now t (from t d) (from t (2 * d)) (from t (3 * d)) w x y z k) (four.ensures k l)
     ∙ four_are d a.acc.now a.q.now t a.i start.requires.0.1 k l
 
 pub fold-four-spec : {M : Type 1} → statement M

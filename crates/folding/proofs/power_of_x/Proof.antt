@@ -7,9 +7,9 @@ use Rattle.series.specs.Series.{conv}
 use Rattle.series.specs.Reversal.{shift}
 use Rattle.zmod.specs.Zmod.{Zmod}
 use Rattle.zmod.specs.Residues.{poly}
-use Rattle.barrett.specs.Modulus.{prepared-below}
+use Rattle.barrett.specs.Modulus.{prepared_below}
 use Rattle.modulo.specs.Modulo.{RemainderOf}
-use Rattle.modulo.specs.Power.{x-to, power-turn, power-ends}
+use Rattle.modulo.specs.Power.{x_to, power_turn, power_ends}
 use Rattle.folding.specs.Table.{Table}
 use borrow.Author.Rules.{rules}
 use Rattle.folding.proofs.power_of_x.Statement.{statement}
@@ -18,7 +18,7 @@ use Rattle.folding.proofs.power_of_x.Tie as tie
 abbrev invariant-loop : tie.invariant-loop
 invariant-loop g r₀ n q₀ t e₀ acc₀ m i₀ r q e acc i =
     (length r ≡ length g - 1) × (length q ≡ length q₀) × (length e ≡ length e₀) × (length acc ≡ length acc₀) × (i ≤ 28)
-    × RemainderOf m.p (length g - 1) (poly m.p g) (x-to m.p (m.p / 2 ^ i)) r
+    × RemainderOf m.p (length g - 1) (poly m.p g) (x_to m.p (m.p / 2 ^ i)) r
 
 abbrev decreases-loop : tie.decreases-loop
 decreases-loop g r₀ n q₀ t e₀ acc₀ m i₀ r q e acc i = i
@@ -33,7 +33,7 @@ begin-requires : tie.Need-begin-requires invariant-loop decreases-loop
 begin-requires c κs =
     let at-prepare = c.before.before.before.before.before.before.before in
     let pre = at-prepare.before.before.before.before.before.before.before.before.before.before.before.requires in
-    (omega (arith, pre.0.3, pre.1.0), pre.0.1, prepared-below pre.0.0)
+    (omega (arith, pre.0.3, pre.1.0), pre.0.1, prepared_below pre.0.0)
 
 loop-holds : tie.Need-loop-init invariant-loop decreases-loop
 loop-holds c =
@@ -50,7 +50,7 @@ loop-holds c =
       refl,
       refl,
       begin.ensures.0,
-      subst (λ k. RemainderOf p k (poly p a.g.now) (x-to p (p / 2 ^ begin.result)) begin.new.0) same (begin.ensures.1 (poly p a.g.now)),
+      subst (λ k. RemainderOf p k (poly p a.g.now) (x_to p (p / 2 ^ begin.result)) begin.new.0) same (begin.ensures.1 (poly p a.g.now)),
     )
 
 sub-i : tie.Need-overflow-sub-i invariant-loop decreases-loop
@@ -113,7 +113,7 @@ loop-again c =
       omega (arith, inv.2, square.auto),
       omega (arith, inv.3, square.auto),
       omega (arith, inv.4),
-      power-turn p d g p loop.i loop.r s (omega (arith, at-loop-test.loop-test)) inv.5 squared,
+      power_turn p d g p loop.i loop.r s (omega (arith, at-loop-test.loop-test)) inv.5 squared,
     )
 
 same_length : tie.Need-same-length invariant-loop decreases-loop
@@ -141,7 +141,7 @@ returns c =
     let a = at-prepare.before.before.before.before.before.before.before.before.before.before.before.args in
     let loop = at-loop.loop in
     let p = a.m.p in
-    power-ends p (length a.g.now - 1) (poly p a.g.now) p loop.i loop.r (omega arith) loop.invariant.5
+    power_ends p (length a.g.now - 1) (poly p a.g.now) p loop.i loop.r (omega arith) loop.invariant.5
 
 pub power-of-x-spec : {M : Type 1} → statement M
 power-of-x-spec = tie.close (tie.spec invariant-loop decreases-loop prepare-requires begin-requires loop-holds sub-i shr-square-modulo cast-square-modulo

@@ -6,7 +6,7 @@ use lib.ListN.{length}
 use Rattle.series.specs.Degree.{Monic}
 use Rattle.zmod.specs.Zmod.{Zmod}
 use Rattle.zmod.specs.Residues.{poly}
-use Rattle.folding.specs.Table.{Table, is-monic-of}
+use Rattle.folding.specs.Table.{Table, is_monic_of}
 use borrow.Author.Rules.{rules}
 use Rattle.folding.proofs.prepare.Statement.{statement}
 use Rattle.folding.proofs.prepare.Tie as tie
@@ -45,7 +45,7 @@ returns c =
     let degree : length a.g.now - 1 ≡ length n = omega (arith, pre.2, pre.3) in (
       at_fill_lem.fill.ensures.0,
       subst (λ k. Table p k g k t) (omega (arith, pre.3)) (subst (λ f. Table p (length n) f (length n) t)
-          (is-monic-of (subst (λ k. Monic (Zmod p) k g) degree pre.1.monic) at-negated.negated.ensures) at_fill_lem.fill.ensures.1),
+          (is_monic_of (subst (λ k. Monic (Zmod p) k g) degree pre.1.monic) at-negated.negated.ensures) at_fill_lem.fill.ensures.1),
     )
 
 pub prepare-spec : {M : Type 1} → statement M

@@ -4,15 +4,15 @@ use Prim.Native.Nat.{ℕ, ◌+◌, ◌-◌, ◌*◌, ◌^◌, ◌≤◌, ◌<◌
 use native.Mathlib.Omega.{arith}
 use lib.ListN.{length, get_or, take, drop, length-take, length-drop}
 use lib.Seq.{take_at, length-take-le}
-use Rattle.slices.specs.Stored.{part-below}
+use Rattle.slices.specs.Stored.{part_below}
 use Rattle.series.specs.Series.{sums}
 use Rattle.zmod.specs.Zmod.{Zmod}
-use Rattle.zmod.specs.Residues.{poly, Residues, reduced-take}
-use Rattle.barrett.specs.Modulus.{Prepared, prepared-positive, prepared-below}
+use Rattle.zmod.specs.Residues.{poly, Residues, reduced_take}
+use Rattle.barrett.specs.Modulus.{Prepared, prepared_positive, prepared_below}
 use Rattle.rows.specs.Sums.{Sums, products_low}
 use Rattle.folding.specs.Combination.{combination}
 use Rattle.folding.specs.Table.{rows}
-use Rattle.folding.specs.Square.{remainder-folded}
+use Rattle.folding.specs.Square.{remainder_folded}
 use borrow.Author.Rules.{rules}
 use Rattle.folding.proofs.remainder.Statement.{statement}
 use Rattle.folding.proofs.remainder.Tie as tie
@@ -37,10 +37,10 @@ remainders-requires c κs =
     let p = a.m.p in
     let acc = a.acc.now in
     let d = length a.r.now in
-    let pos = prepared-positive pre.0.0 in (
+    let pos = prepared_positive pre.0.0 in (
       (pre.0.0, omega (arith, length-take (length acc - d) (drop d acc), length-drop d acc, pre.0.2, pre.0.3)),
-      part-below acc d (length acc - d) (2 ^ 36 * p) (omega (arith, pos)) (λ j.
-          products_low 32 p (get_or acc j 0) pos (omega (arith, prepared-below pre.0.0)) (pre.1.1 j)),
+      part_below acc d (length acc - d) (2 ^ 36 * p) (omega (arith, pos)) (λ j.
+          products_low 32 p (get_or acc j 0) pos (omega (arith, prepared_below pre.0.0)) (pre.1.1 j)),
     )
 
 slice-relend-prefix-fold : tie.Need-slice-relend-prefix-fold
@@ -63,10 +63,10 @@ fold-requires c κs =
     let size : length (take d acc) ≡ d = length-take-le d acc (omega (arith, pre.0.2)) in (
       (omega (arith, size, pre.0.3), omega (arith, size, pre.0.1), subst (λ n. length a.t.now ≡ n * (n + 3)) (sym size) pre.0.4),
       (
-        omega (arith, prepared-below pre.0.0),
+        omega (arith, prepared_below pre.0.0),
         at-upper.remainders.ensures.reduced,
         pre.1.0,
-        λ k. omega (arith, reduced-take {p = 1 + 32 * ((p - 1) * (p - 1))} acc (omega arith) d (λ j. omega (arith, pre.1.1 j)) k),
+        λ k. omega (arith, reduced_take {p = 1 + 32 * ((p - 1) * (p - 1))} acc (omega arith) d (λ j. omega (arith, pre.1.1 j)) k),
       ),
     )
 
@@ -118,7 +118,7 @@ returns c =
     let q = at-upper.remainders.new.1.0 in
     let part = at-fold.fold.new.0 in
     let r = at-lower.remainders2.new.1.0 in
-    remainder-folded p d (length acc - d) acc q a.t.now part r pre.0.2 (omega (arith, pre.0.2)) (omega (arith, pre.0.3)) (omega (arith, size))
+    remainder_folded p d (length acc - d) acc q a.t.now part r pre.0.2 (omega (arith, pre.0.2)) (omega (arith, pre.0.3)) (omega (arith, size))
     (omega arith) at-upper.remainders.ensures
     (subst (λ n. Sums p (sums (Zmod p) (poly p (take d acc)) (combination (Zmod p) n (poly p q) (rows p n a.t.now))) part) size at-fold.fold.ensures)
     (subst (λ l. Residues p (poly p l) r) (take_at part (drop d acc) d (omega (arith, size))) at-lower.remainders2.ensures)

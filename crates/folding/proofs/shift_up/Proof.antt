@@ -5,8 +5,8 @@ use Prim.Native.Nat.{◌-◌}
 use native.Mathlib.Numerals.{add-one}
 use native.Mathlib.Omega.{arith}
 use lib.ListN.{length, get_or}
-use Rattle.slices.specs.Stored.{Stored, stored-none, stored_more, word_kept}
-use Rattle.folding.specs.Table.{Before, before-all}
+use Rattle.slices.specs.Stored.{Stored, stored_none, stored_more, word_kept}
+use Rattle.folding.specs.Table.{Before, before_all}
 use borrow.Author.Rules.{rules}
 use Rattle.folding.proofs.shift_up.Statement.{statement}
 use Rattle.folding.proofs.shift_up.Tie as tie
@@ -18,7 +18,7 @@ abbrev decreases-loop : tie.decreases-loop
 decreases-loop r₀ c₀ k₀ r c k = length r₀ - k
 
 loop-holds : tie.Need-loop-init invariant-loop decreases-loop
-loop-holds c = (refl, stored-none _ _)
+loop-holds c = (refl, stored_none _ _)
 
 mul_next : tie.Need-overflow-mul-next invariant-loop decreases-loop
 mul_next c = search rules
@@ -64,7 +64,7 @@ returns c =
     let at-loop = c.before in
     let start = at-loop.before in
     let loop = at-loop.loop in
-    λ p low. before-all p start.args.r.now loop.r loop.k (omega (arith, loop.invariant.1.same_length)) loop.invariant.1 low
+    λ p low. before_all p start.args.r.now loop.r loop.k (omega (arith, loop.invariant.1.same_length)) loop.invariant.1 low
 
 pub shift-up-spec : {M : Type 1} → statement M
 shift-up-spec = tie.close (tie.spec invariant-loop decreases-loop loop-holds mul_next slice-read-next mul-r slice-write-r add-k loop-less loop-again same_length returns)

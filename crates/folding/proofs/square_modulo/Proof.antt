@@ -2,9 +2,9 @@
 use mathlib.Core.Path.{subst}
 use native.Mathlib.Omega.{arith}
 use lib.ListN.{length}
-use Rattle.barrett.specs.Modulus.{prepared-positive, prepared-below}
+use Rattle.barrett.specs.Modulus.{prepared_positive, prepared_below}
 use Rattle.modulo.specs.Modulo.{RemainderOf}
-use Rattle.folding.specs.Square.{square-whole}
+use Rattle.folding.specs.Square.{square_whole}
 use borrow.Author.Rules.{rules}
 use Rattle.folding.proofs.square_modulo.Statement.{statement}
 use Rattle.folding.proofs.square_modulo.Tie as tie
@@ -14,7 +14,7 @@ square-sums-requires c κs =
     let start = c.before.before.before.before.before.before.before.before in
     let pre = start.requires in (
       (pre.0.1, pre.0.2, pre.0.3, pre.0.4, pre.0.6),
-      (prepared-positive pre.0.0, omega (arith, prepared-below pre.0.0), pre.1.0),
+      (prepared_positive pre.0.0, omega (arith, prepared_below pre.0.0), pre.1.0),
     )
 
 remainder-requires : tie.Need-remainder-requires
@@ -48,7 +48,7 @@ returns c =
     let p = a.m.p in
     λ g table.
     subst (λ f. RemainderOf p (length a.r.now) g f at-remainder.remainder.new.1.1.1.0)
-    (square-whole p 32 a.bit a.r.now at-sums.square-sums.new.1.1.1.0 pre.0.1 pre.0.2 (omega (arith, pre.0.4))
+    (square_whole p 32 a.bit a.r.now at-sums.square-sums.new.1.1.1.0 pre.0.1 pre.0.2 (omega (arith, pre.0.4))
     at-sums.square-sums.ensures) (at-remainder.remainder.ensures g table)
 
 pub square-modulo-spec : {M : Type 1} → statement M

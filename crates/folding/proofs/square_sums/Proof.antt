@@ -6,7 +6,7 @@ use Rattle.series.specs.Series.{conv}
 use Rattle.zmod.specs.Zmod.{Zmod}
 use Rattle.zmod.specs.Residues.{poly}
 use Rattle.rows.specs.Room.{turns_fit}
-use Rattle.folding.specs.Square.{moved-sums, product-sums-mono}
+use Rattle.folding.specs.Square.{moved_sums, product_sums_mono}
 use borrow.Author.Rules.{rules}
 use Rattle.folding.proofs.square_sums.Statement.{statement}
 use Rattle.folding.proofs.square_sums.Tie as tie
@@ -54,9 +54,9 @@ returns c =
     let p = a.p in
     let f = conv (Zmod p) (poly p a.r.now) (poly p a.r.now) in
     let square = at-square.square in
-    moved-sums p 32 a.bit (length (set a.acc.now 0 0) - a.bit) f a.acc.now square.new.1.1.0 pre.0.0 (omega arith)
+    moved_sums p 32 a.bit (length (set a.acc.now 0 0) - a.bit) f a.acc.now square.new.1.1.0 pre.0.0 (omega arith)
     (omega (arith, length-set a.acc.now 0 0)) (omega (arith, length-set a.acc.now 0 0))
-    (product-sums-mono (omega arith) square.ensures)
+    (product_sums_mono (omega arith) square.ensures)
 
 pub square-sums-spec : {M : Type 1} → statement M
 square-sums-spec = tie.close (tie.spec slice-write-acc mul-square sub-square part-square-start part-square-end square-requires same_length same-length-2

@@ -1,7 +1,7 @@
 -- `folding::times_x` meets its contract. Assumes nothing.
 use mathlib.Core.Path.{refl}
 use native.Mathlib.Omega.{arith}
-use Rattle.folding.specs.Table.{times-x-is}
+use Rattle.folding.specs.Table.{times_x_is}
 use borrow.Author.Rules.{rules}
 use Rattle.folding.proofs.times_x.Statement.{statement}
 use Rattle.folding.proofs.times_x.Tie as tie
@@ -33,15 +33,15 @@ same_length c = search rules
 
 returns : tie.Need-returns
 returns c =
-    let at-add = c.before.before in
-    let at-shift-up = at-add.before.before.before.before in
+    let at_add = c.before.before in
+    let at-shift-up = at_add.before.before.before.before in
     let start = at-shift-up.before.before.before.before.before in
     let a = start.args in
     let pre = start.requires in
     let p = a.m.p in
     let shifted = at-shift-up.shift-up in
-    let added = at-add.add-reduced in
-    times-x-is p _ a.n.now a.r.now shifted.new.0 added.new.0 pre.1 pre.2 (omega (arith, pre.2)) (omega (arith, pre.2)) refl
+    let added = at_add.add-reduced in
+    times_x_is p _ a.n.now a.r.now shifted.new.0 added.new.0 pre.1 pre.2 (omega (arith, pre.2)) (omega (arith, pre.2)) refl
     (shifted.ensures p pre.3) added.ensures
 
 pub times-x-spec : {M : Type 1} → statement M

@@ -8,8 +8,8 @@ use Rattle.ring.specs.Ring
 use Rattle.ring.specs.Ring.{CRing, cast}
 use Rattle.ring.specs.Identity.{solve3}
 use Rattle.ring.specs.Identity.Ex.{◌:-◌, ◌:*◌}
-use Rattle.zmod.specs.Zmod.{Zmod, eq-mk, cast-mk}
-use Rattle.zmod.specs.Prime.{Prime, prime-pos, cancel}
+use Rattle.zmod.specs.Zmod.{Zmod, eq_mk, cast_mk}
+use Rattle.zmod.specs.Prime.{Prime, prime_pos, cancel}
 
 -- for k from 1 to n; for all of them but e
 abbrev pub Cancels : CRing → ℕ → Type 0
@@ -19,8 +19,8 @@ abbrev pub CancelsBut : CRing → ℕ → ℕ → Type 0
 CancelsBut R n e = (k : ℕ) → 1 ≤ k → k ≤ n → k ≢ e → (x : R.Car) → R.mul (cast R k) x ≡ R.𝟘 → x ≡ R.𝟘
 
 -- k x = k y gives x = y
-pub cancel-same : (R : CRing) (n : ℕ) → Cancels R n → (k : ℕ) → 1 ≤ k → k ≤ n → (x y : R.Car) → R.mul (cast R k) x ≡ R.mul (cast R k) y → x ≡ y
-cancel-same R n cancels k l m x y e =
+pub cancel_same : (R : CRing) (n : ℕ) → Cancels R n → (k : ℕ) → 1 ≤ k → k ≤ n → (x y : R.Car) → R.mul (cast R k) x ≡ R.mul (cast R k) y → x ≡ y
+cancel_same R n cancels k l m x y e =
     Ring.sub-zero R x y
     (cancels k l m (R.add x (R.neg y))
     (solve3 R (λ k x y. k :* (x :- y)) (λ k x y. k :* x :- k :* y) tt (cast R k) x y
@@ -32,7 +32,7 @@ module _ {p : ℕ} (P : Prime p) where
   nonzero k l h ne z = go (dec_le p k)
     where
       r : k % p ≡ 0 % p
-      r = eq-mk (prime-pos P) k 0 (sym (cast-mk p k) ∙ z)
+      r = eq_mk (prime_pos P) k 0 (sym (cast_mk p k) ∙ z)
 
       n : 0 % p ≡ 0
       n = Nat.zero-mod p
@@ -49,5 +49,5 @@ module _ {p : ℕ} (P : Prime p) where
   pub cancels : (n : ℕ) → n < p → Cancels (Zmod p) n
   cancels n small k l h x = cancel P (cast (Zmod p) k) x (nonzero k l (omega arith) (omega arith))
 
-  pub cancels-but : (n : ℕ) → n < 2 * p → CancelsBut (Zmod p) n p
-  cancels-but n small k l h ne x = cancel P (cast (Zmod p) k) x (nonzero k l (omega arith) ne)
+  pub cancels_but : (n : ℕ) → n < 2 * p → CancelsBut (Zmod p) n p
+  cancels_but n small k l h ne x = cancel P (cast (Zmod p) k) x (nonzero k l (omega arith) ne)

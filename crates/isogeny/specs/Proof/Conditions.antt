@@ -6,16 +6,16 @@ use Rattle.std.proofs.Common.{sym, ◌∙◌, ap, ap₂, arith}
 use Rattle.std.proofs.Math.Path.{fun_ext}
 use Rattle.ring.specs.Ring.{CRing, cast}
 use Rattle.series.specs.Series.{Series, Seq, Euler, const, tail, zeros}
-use Rattle.series.specs.ConstantTerm.{cancel-first}
-use Rattle.series.specs.Indeterminate.{ind, D-ind, D-const}
+use Rattle.series.specs.ConstantTerm.{cancel_first}
+use Rattle.series.specs.Indeterminate.{ind, D_ind, D_const}
 use Rattle.isogeny.specs.Rules.{Question, R1, R3, N}
-use Rattle.isogeny.specs.Expansion.{sum_to, recurrence, Recurs, power-sums, expansion, Short}
+use Rattle.isogeny.specs.Expansion.{sum_to, recurrence, Recurs, power_sums_of, expansion, Short}
 use Rattle.isogeny.specs.Proof.Equation as E
 use Rattle.isogeny.specs.Proof.Infinity as I
 use Rattle.isogeny.specs.Proof.Infinity.{quot, Ψ}
 use Rattle.isogeny.specs.Proof.Recurrence as Rec
 use Rattle.isogeny.specs.Proof.ExpansionAtInfinity as X
-use Rattle.isogeny.specs.Proof.Sums.{square-from, h-is, h-series}
+use Rattle.isogeny.specs.Proof.Sums.{square_from, h_is, h_series}
 
 module _ (R : CRing) (q : Question R) (d≥1 : 1 ≤ q.d) (g : Seq R) (r1 : R1 R q g) where
   open q use {A, B, Ã, B̃, d}
@@ -31,16 +31,16 @@ module _ (R : CRing) (q : Question R) (d≥1 : 1 ≤ q.d) (g : Seq R) (r1 : R1 R
   # n = cast R n
 
   abbrev u : Seq R
-  u = quot R q (I.power-sums R q g)
+  u = quot R q (I.power_sums_of R q g)
 
   abbrev h : Seq R
-  h = expansion R A B (power-sums R d g)
+  h = expansion R A B (power_sums_of R d g)
 
-  pub u-first : u 0 ≡ 𝟙
-  u-first = X.u-zero R q d≥1 g r1
+  pub u_first : u 0 ≡ 𝟙
+  u_first = X.u_zero R q d≥1 g r1
 
-  pub u-second : u 1 ≡ 𝟘
-  u-second = X.u-one R q d≥1 g r1
+  pub u_second : u 1 ≡ 𝟘
+  u_second = X.u_one R q d≥1 g r1
 
   -- ── document 01's recurrence at k = j + 3 is that of `Recurrence`
 
@@ -50,7 +50,7 @@ module _ (R : CRing) (q : Question R) (d≥1 : 1 ≤ q.d) (g : Seq R) (r1 : R1 R
 
     pub left_is : # (k - 2) ⊗ # (2 * k + 3) ⊗ h k ≡ # (suc j) ⊗ # (2 * j + 9) ⊗ u (suc k)
     left_is =
-        ap₂ (λ m n. # m ⊗ # n ⊗ h k) (omega arith) (omega arith) ∙ ap (λ x. # (suc j) ⊗ # (2 * j + 9) ⊗ x) (h-is R q d≥1 g r1 k)
+        ap₂ (λ m n. # m ⊗ # n ⊗ h k) (omega arith) (omega arith) ∙ ap (λ x. # (suc j) ⊗ # (2 * j + 9) ⊗ x) (h_is R q d≥1 g r1 k)
 
     pub right_is : recurrence R A B h k ≡ Rec.right R q u j
     right_is =
@@ -59,33 +59,33 @@ module _ (R : CRing) (q : Question R) (d≥1 : 1 ≤ q.d) (g : Seq R) (r1 : R1 R
         ∙ ap₂ (λ m n. # 3 ⊗ sum_to R (λ i. h i ⊗ h (suc (suc j) - i)) (suc j) ⊖ # (suc j) ⊗ # m ⊗ A ⊗ h (suc j) ⊖ # 2 ⊗ # (suc j) ⊗ # n ⊗ B ⊗ h n)
         (omega arith) (omega arith)
         ∙ ap (λ a. # 3 ⊗ sum_to R (λ i. a i ⊗ a (suc (suc j) - i)) (suc j) ⊖ # (suc j) ⊗ # (2 * j + 3) ⊗ A ⊗ a (suc j) ⊖ # 2 ⊗ # (suc j) ⊗ # j ⊗ B ⊗ a j)
-        (h-series R q d≥1 g r1)
+        (h_series R q d≥1 g r1)
         ∙ ap (λ x. # 3 ⊗ x ⊖ # (suc j) ⊗ # (2 * j + 3) ⊗ A ⊗ u (suc (suc j)) ⊖ # 2 ⊗ # (suc j) ⊗ # j ⊗ B ⊗ u (suc j))
-        (sym (square-from R (tail R u) (suc j) u-second))
+        (sym (square_from R (tail R u) (suc j) u_second))
 
   -- ── from R3
 
   module _ (r3 : R3 R q g (N R q g)) where
-    abbrev Φ-zero : I.Φ R q u ≡ zeros R
-    Φ-zero = I.Φ-zero R q g r1 r3
+    abbrev Φ_zero : I.Φ R q u ≡ zeros R
+    Φ_zero = I.Φ_zero R q g r1 r3
 
-    pub Ψ-zero : Ψ R q u ≡ zeros R
-    Ψ-zero =
-        cancel-first R _ _ (Rec.v-first R q u u-first)
+    pub Ψ_zero : Ψ R q u ≡ zeros R
+    Ψ_zero =
+        cancel_first R _ _ (Rec.v_first R q u u_first)
         (E.differentiated (Series R) (Euler R) (ind R) (const R A) (const R B) (const R Ã) (const R B̃) u
-        (D-ind R) (fun_ext (D-const R A)) (fun_ext (D-const R B)) (fun_ext (D-const R Ã)) (fun_ext (D-const R B̃)) Φ-zero)
+        (D_ind R) (fun_ext (D_const R A)) (fun_ext (D_const R B)) (fun_ext (D_const R Ã)) (fun_ext (D_const R B̃)) Φ_zero)
 
     pub first : # 5 ⊗ h 1 ≡ A ⊖ Ã
-    first = ap (λ y. # 5 ⊗ y) (h-is R q d≥1 g r1 1) ∙ Rec.first R q u u-first u-second Φ-zero
+    first = ap (λ y. # 5 ⊗ y) (h_is R q d≥1 g r1 1) ∙ Rec.first R q u u_first u_second Φ_zero
 
     pub second : # 7 ⊗ h 2 ≡ B ⊖ B̃
-    second = ap (λ y. # 7 ⊗ y) (h-is R q d≥1 g r1 2) ∙ Rec.second R q u u-first u-second Φ-zero
+    second = ap (λ y. # 7 ⊗ y) (h_is R q d≥1 g r1 2) ∙ Rec.second R q u u_first u_second Φ_zero
 
     pub recurs : (k : ℕ) → 3 ≤ k → Recurs R A B h k
     recurs zero l = absurd (omega arith)
     recurs (suc zero) l = absurd (omega arith)
     recurs (suc (suc zero)) l = absurd (omega arith)
-    recurs (suc (suc (suc j))) l = left_is j ∙ Rec.recurrence R q u u-first Ψ-zero j ∙ sym (right_is j)
+    recurs (suc (suc (suc j))) l = left_is j ∙ Rec.recurrence R q u u_first Ψ_zero j ∙ sym (right_is j)
 
-    pub conditions : Short R q (expansion R A B (power-sums R d g))
+    pub conditions : Short R q (expansion R A B (power_sums_of R d g))
     conditions = record { first = first; second = second; recurs = λ k l m. recurs k l }

@@ -7,10 +7,10 @@ use Rattle.ring.specs.Ring.{CRing, cast, pow}
 use Rattle.ring.specs.Identity.Ex.{var, num, :0, :1, ◌:+◌, ◌:*◌, ◌:^◌}
 use Rattle.ring.specs.Derivative.{derive}
 use Rattle.series.specs.Series.{Series, Seq, Formal, const, ∂}
-use Rattle.series.specs.Degree.{Poly, Polys, poly-const, poly-eval}
+use Rattle.series.specs.Degree.{Poly, Polys, poly_const, poly_eval}
 use Rattle.series.specs.Indeterminate.{ind, ∂-ind, ∂-const}
-use Rattle.series.specs.Value.{at, at-eval, at-const}
-use Rattle.series.specs.Binomial.{poly-ind, ind-value}
+use Rattle.series.specs.Value.{at, at_eval, at_const}
+use Rattle.series.specs.Binomial.{poly_ind, ind_value}
 use Rattle.isogeny.specs.Rules.{Question, f}
 
 module _ (R : CRing) (q : Question R) where
@@ -37,11 +37,11 @@ module _ (R : CRing) (q : Question R) where
   names = x ∷ κ A ∷ κ B ∷ []
 
   abbrev polys : Polys R names
-  polys = (poly-ind R, (poly-const R A, (poly-const R B, tt)))
+  polys = (poly_ind R, (poly_const R A, (poly_const R B, tt)))
 
-  pub poly-f : Poly R (f R q)
+  pub poly_f : Poly R (f R q)
   unfolding f
-  poly-f = poly-eval R names polys (var 0 :^ 3 :+ var 1 :* var 0 :+ var 2)
+  poly_f = poly_eval R names polys (var 0 :^ 3 :+ var 1 :* var 0 :+ var 2)
 
   pub ∂-f : ∂ R (f R q) ≡ # 3 ⊗ x ^ 2 ⊕ κ A
   unfolding f
@@ -49,9 +49,9 @@ module _ (R : CRing) (q : Question R) where
       derive (Series R) (Formal R) names (:1 ∷ :0 ∷ :0 ∷ []) (∂-ind R, (∂-const R A, (∂-const R B, tt)))
       (var 0 :^ 3 :+ var 1 :* var 0 :+ var 2) (num 3 :* var 0 :^ 2 :+ var 1) tt tt
 
-  pub f-at : (u : R.Car) → at R (f R q) poly-f u ≡ R.add (R.add (pow R u 3) (R.mul A u)) B
+  pub f_at : (u : R.Car) → at R (f R q) poly_f u ≡ R.add (R.add (pow R u 3) (R.mul A u)) B
   unfolding f
-  f-at u =
-      at-eval R names polys (var 0 :^ 3 :+ var 1 :* var 0 :+ var 2) poly-f u
-      ∙ ap₂ (λ y a. R.add (R.add (pow R y 3) (R.mul a y)) (at R (κ B) (poly-const R B) u)) (ind-value R u) (at-const R A (poly-const R A) u)
-      ∙ ap (R.add (R.add (pow R u 3) (R.mul A u))) (at-const R B (poly-const R B) u)
+  f_at u =
+      at_eval R names polys (var 0 :^ 3 :+ var 1 :* var 0 :+ var 2) poly_f u
+      ∙ ap₂ (λ y a. R.add (R.add (pow R y 3) (R.mul a y)) (at R (κ B) (poly_const R B) u)) (ind_value R u) (at_const R A (poly_const R A) u)
+      ∙ ap (R.add (R.add (pow R u 3) (R.mul A u))) (at_const R B (poly_const R B) u)

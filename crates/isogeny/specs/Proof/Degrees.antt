@@ -10,8 +10,8 @@ use Rattle.ring.specs.Identity.{solve3, solve5}
 use Rattle.ring.specs.Identity.Ex.{num, :1, ◌:+◌, ◌:-◌, ◌:*◌, ◌:^◌}
 use Rattle.series.specs.Series.{Series, Seq, const, D, ∂}
 use Rattle.series.specs.Degree.{Below}
-use Rattle.series.specs.Indeterminate.{ind, D-is}
-use Rattle.series.specs.Reversal.{rev, Reversed, r-degree, r-left, r-right, r-add, r-neg, r-mul, r-pow, r-up, r-const, r-cast, r-ind, r-down, r-D}
+use Rattle.series.specs.Indeterminate.{ind, D_is}
+use Rattle.series.specs.Reversal.{rev, Reversed, r_degree, r_left, r_right, r_add, r_neg, r_mul, r_pow, r_up, r_const, r_cast, r_ind, r_down, r_D}
 use Rattle.isogeny.specs.Rules.{Question, R3, ℓ, f, W, left, right}
 
 module _ (R : CRing) (q : Question R) where
@@ -41,12 +41,12 @@ module _ (R : CRing) (q : Question R) where
   unfoldable pub F : Seq R
   F = 𝟙 ⊕ κ A ⊗ x ^ 2 ⊕ κ B ⊗ x ^ 3
 
-  pub r-f : Reversed R 3 (f R q) F
+  pub r_f : Reversed R 3 (f R q) F
   unfolding f F
-  r-f =
-      r-right R
+  r_f =
+      r_right R
       (solve3 (Series R) (λ t a b. :1 :^ 3 :+ t :* (t :* (a :* :1)) :+ t :* (t :* (t :* b))) (λ t a b. :1 :+ a :* t :^ 2 :+ b :* t :^ 3) tt x (κ A) (κ B))
-      (r-add R (r-add R (r-pow R (r-ind R) 3) (r-up R (r-up R (r-mul R (r-const R A) (r-ind R))))) (r-up R (r-up R (r-up R (r-const R B)))))
+      (r_add R (r_add R (r_pow R (r_ind R) 3) (r_up R (r_up R (r_mul R (r_const R A) (r_ind R))))) (r_up R (r_up R (r_up R (r_const R B)))))
 
   module _ (g n : Seq R) where
     pub xW : x ⊗ W R q g n ≡ D R n ⊗ g ⊖ # 2 ⊗ n ⊗ D R g
@@ -54,14 +54,14 @@ module _ (R : CRing) (q : Question R) where
     xW =
         solve5 (Series R) (λ x n n' g g'. x :* (n' :* g :- num 2 :* n :* g')) (λ x n n' g g'. x :* n' :* g :- num 2 :* n :* (x :* g')) tt
         x n (∂ R n) g (∂ R g)
-        ∙ ap₂ (λ y z. y ⊗ g ⊖ # 2 ⊗ n ⊗ z) (D-is R n) (D-is R g)
+        ∙ ap₂ (λ y z. y ⊗ g ⊖ # 2 ⊗ n ⊗ z) (D_is R n) (D_is R g)
 
-    module _ (g-below : Below R (suc d) g) (n-below : Below R (suc (ℓ R q)) n) where
-      r-g : Reversed R d g (rev R d g)
-      r-g = record { below = g-below; same = refl }
+    module _ (g_below : Below R (suc d) g) (n_below : Below R (suc (ℓ R q)) n) where
+      r_g : Reversed R d g (rev R d g)
+      r_g = record { below = g_below; same = refl }
 
-      r-n : Reversed R (ℓ R q) n (rev R (ℓ R q) n)
-      r-n = record { below = n-below; same = refl }
+      r_n : Reversed R (ℓ R q) n (rev R (ℓ R q) n)
+      r_n = record { below = n_below; same = refl }
 
       -- what stands on the right does not matter here
       abbrev w : Seq R
@@ -69,28 +69,28 @@ module _ (R : CRing) (q : Question R) where
           (# (ℓ R q) ⊗ rev R (ℓ R q) n ⊖ D R (rev R (ℓ R q) n)) ⊗ rev R d g
           ⊖ # 2 ⊗ rev R (ℓ R q) n ⊗ (# d ⊗ rev R d g ⊖ D R (rev R d g))
 
-      r-W : Reversed R (3 * d) (W R q g n) w
-      r-W =
-          r-down R (r-degree R (omega arith) (r-left R (sym xW)
-          (r-add R (r-mul R (r-D R r-n) r-g) (r-neg R (r-degree R (omega arith) (r-mul R (r-mul R (r-cast R 2) r-n) (r-D R r-g)))))))
+      r_W : Reversed R (3 * d) (W R q g n) w
+      r_W =
+          r_down R (r_degree R (omega arith) (r_left R (sym xW)
+          (r_add R (r_mul R (r_D R r_n) r_g) (r_neg R (r_degree R (omega arith) (r_mul R (r_mul R (r_cast R 2) r_n) (r_D R r_g)))))))
 
-      pub W-below : Below R (suc (3 * d)) (W R q g n)
-      W-below = r-W.below
+      pub W_below : Below R (suc (3 * d)) (W R q g n)
+      W_below = r_W.below
 
       pub left_below : Below R (suc (3 * ℓ R q)) (left R q g n)
       unfolding left
-      left_below = (r-degree R {n = 3 * ℓ R q} (omega arith) (r-mul R r-f (r-pow R r-W 2))).below
+      left_below = (r_degree R {n = 3 * ℓ R q} (omega arith) (r_mul R r_f (r_pow R r_W 2))).below
 
-      pub right-below : Below R (suc (3 * ℓ R q)) (right R q g n)
+      pub right_below : Below R (suc (3 * ℓ R q)) (right R q g n)
       unfolding right
-      right-below =
-          (r-add R
-          (r-add R (r-pow R r-n 3) (r-degree R (omega arith) (r-up R (r-up R (r-mul R (r-mul R (r-const R Ã) r-n) (r-pow R r-g 4))))))
-          (r-degree R (omega arith) (r-up R (r-up R (r-up R (r-mul R (r-const R B̃) (r-pow R r-g 6))))))).below
+      right_below =
+          (r_add R
+          (r_add R (r_pow R r_n 3) (r_degree R (omega arith) (r_up R (r_up R (r_mul R (r_mul R (r_const R Ã) r_n) (r_pow R r_g 4))))))
+          (r_degree R (omega arith) (r_up R (r_up R (r_up R (r_mul R (r_const R B̃) (r_pow R r_g 6))))))).below
 
-      pub R3-bounded : ((i : ℕ) → i ≤ 3 * ℓ R q → left R q g n i ≡ right R q g n i) → R3 R q g n
-      R3-bounded h i = go (dec_le i (3 * ℓ R q))
+      pub R3_bounded : ((i : ℕ) → i ≤ 3 * ℓ R q → left R q g n i ≡ right R q g n i) → R3 R q g n
+      R3_bounded h i = go (dec_le i (3 * ℓ R q))
         where
           go : Dec (i ≤ 3 * ℓ R q) → left R q g n i ≡ right R q g n i
           go (yes l) = h i l
-          go (no l) = left_below i (omega arith) ∙ sym (right-below i (omega arith))
+          go (no l) = left_below i (omega arith) ∙ sym (right_below i (omega arith))

@@ -7,7 +7,7 @@ use mathlib.Core.List.{List, [], ◌∷◌}
 use Rattle.ring.specs.Ring.{CRing, cast}
 use Rattle.ring.specs.Identity.{Ex, eval, ring, at, solve1}
 use Rattle.ring.specs.Identity.Ex.{var, num, :0, :1, ◌:+◌, ◌:-◌, ◌:*◌, :-◌, ◌:^◌}
-use Rattle.ring.specs.Derivation.{Derivation, d-zero}
+use Rattle.ring.specs.Derivation.{Derivation, d_zero}
 use Rattle.ring.specs.Derivative.{derive}
 
 -- t, a, b, ã, b̃, u, and the first two derivatives of u
@@ -83,5 +83,5 @@ module _ (K : CRing) (δ : Derivation K) where
   pub differentiated : (t a b ã b̃ u : Car) → d t ≡ t → d a ≡ 𝟘 → d b ≡ 𝟘 → d ã ≡ 𝟘 → d b̃ ≡ 𝟘
       → Φ t a b ã b̃ u ≡ 𝟘 → (u ⊕ neg (d u)) ⊗ Ψ t a b ã b̃ u ≡ 𝟘
   differentiated t a b ã b̃ u dt da db dã db̃ z =
-      identity t a b ã b̃ u dt da db dã db̃ ∙ ap₂ (λ x y. cast K 3 ⊗ x ⊕ neg y) z (ap d z ∙ d-zero K δ)
+      identity t a b ã b̃ u dt da db dã db̃ ∙ ap₂ (λ x y. cast K 3 ⊗ x ⊕ neg y) z (ap d z ∙ d_zero K δ)
       ∙ solve1 K (λ x. num 3 :* :0 :- :0) (λ x. :0) tt 𝟘

@@ -11,9 +11,9 @@ use Rattle.ring.specs.Identity.Ex.{◌:+◌, ◌:-◌}
 use Rattle.series.specs.Series.{Seq, sum_same}
 use Rattle.series.specs.Recursion.{Local, fix, fix_is}
 use Rattle.isogeny.specs.Rules.{Question}
-use Rattle.isogeny.specs.Expansion.{sum_to, Newton, recurrence, Recurs, from-sums}
+use Rattle.isogeny.specs.Expansion.{sum_to, Newton, recurrence, Recurs, from_sums}
 use Rattle.isogeny.specs.Solution.{Computed}
-use Rattle.isogeny.specs.Proof.Terms.{recurrence-same}
+use Rattle.isogeny.specs.Proof.Terms.{recurrence_same}
 
 module _ (R : CRing) (q : Question R) where
   open q use {A, B, Ã, B̃, d, σ}
@@ -33,78 +33,78 @@ module _ (R : CRing) (q : Question R) where
   Units inv = (k : ℕ) → 1 ≤ k → k ≤ 2 * d + 1 → # k ⊗ inv k ≡ 𝟙
 
   module _ (inv : ℕ → Car) where
-    unfoldable pub h-step : ℕ → Seq R → Car
-    h-step zero h = 𝟘
-    h-step (suc zero) h = inv 5 ⊗ (A ⊖ Ã)
-    h-step (suc (suc zero)) h = inv 7 ⊗ (B ⊖ B̃)
-    h-step (suc (suc (suc j))) h = inv (suc j) ⊗ (inv (2 * suc (suc (suc j)) + 3) ⊗ recurrence R A B h (suc (suc (suc j))))
+    unfoldable pub h_step : ℕ → Seq R → Car
+    h_step zero h = 𝟘
+    h_step (suc zero) h = inv 5 ⊗ (A ⊖ Ã)
+    h_step (suc (suc zero)) h = inv 7 ⊗ (B ⊖ B̃)
+    h_step (suc (suc (suc j))) h = inv (suc j) ⊗ (inv (2 * suc (suc (suc j)) + 3) ⊗ recurrence R A B h (suc (suc (suc j))))
 
     unfoldable pub h : Seq R
-    h = fix Car 𝟘 h-step
+    h = fix Car 𝟘 h_step
 
     -- s_(i + 1), where i = j + 1 in the last line
-    unfoldable pub s-step : ℕ → Seq R → Car
-    s-step zero s = # (2 * d)
-    s-step (suc zero) s = σ
-    s-step (suc (suc j)) s =
+    unfoldable pub s_step : ℕ → Seq R → Car
+    s_step zero s = # (2 * d)
+    s_step (suc zero) s = σ
+    s_step (suc (suc j)) s =
         inv (2 * suc j + 1) ⊗ (h (suc j) ⊖ # (2 * suc j - 1) ⊗ A ⊗ s (suc j - 1) ⊖ # (2 * suc j - 2) ⊗ B ⊗ s (suc j - 2))
 
     unfoldable pub s : Seq R
-    s = fix Car 𝟘 s-step
+    s = fix Car 𝟘 s_step
 
-    unfoldable pub c-step : ℕ → Seq R → Car
-    c-step zero c = 𝟙
-    c-step (suc j) c = inv (2 * suc j) ⊗ neg (sum_to R (λ i. s i ⊗ c (suc j - i)) (suc j))
+    unfoldable pub c_step : ℕ → Seq R → Car
+    c_step zero c = 𝟙
+    c_step (suc j) c = inv (2 * suc j) ⊗ neg (sum_to R (λ i. s i ⊗ c (suc j - i)) (suc j))
 
     unfoldable pub c : Seq R
-    c = fix Car 𝟘 c-step
+    c = fix Car 𝟘 c_step
 
     -- each step reads only the terms before
 
-    h-local : Local Car h-step
-    unfolding h-step
-    h-local zero a b e = refl
-    h-local (suc zero) a b e = refl
-    h-local (suc (suc zero)) a b e = refl
-    h-local (suc (suc (suc j))) a b e =
-        ap (λ x. inv (suc j) ⊗ (inv (2 * suc (suc (suc j)) + 3) ⊗ x)) (recurrence-same R A B (suc (suc (suc j))) (omega arith) a b e)
+    h_local : Local Car h_step
+    unfolding h_step
+    h_local zero a b e = refl
+    h_local (suc zero) a b e = refl
+    h_local (suc (suc zero)) a b e = refl
+    h_local (suc (suc (suc j))) a b e =
+        ap (λ x. inv (suc j) ⊗ (inv (2 * suc (suc (suc j)) + 3) ⊗ x)) (recurrence_same R A B (suc (suc (suc j))) (omega arith) a b e)
 
-    s-local : Local Car s-step
-    unfolding s-step
-    s-local zero a b e = refl
-    s-local (suc zero) a b e = refl
-    s-local (suc (suc j)) a b e = cc (e (suc j - 1) (omega arith), e (suc j - 2) (omega arith))
+    s_local : Local Car s_step
+    unfolding s_step
+    s_local zero a b e = refl
+    s_local (suc zero) a b e = refl
+    s_local (suc (suc j)) a b e = cc (e (suc j - 1) (omega arith), e (suc j - 2) (omega arith))
 
-    c-local : Local Car c-step
-    unfolding c-step
-    c-local zero a b e = refl
-    c-local (suc j) a b e =
+    c_local : Local Car c_step
+    unfolding c_step
+    c_local zero a b e = refl
+    c_local (suc j) a b e =
         cc (sum_same R (λ i. s (suc i) ⊗ a (suc j - suc i)) (λ i. s (suc i) ⊗ b (suc j - suc i)) (suc j)
         (λ i l. ap (λ x. s (suc i) ⊗ x) (e (suc j - suc i) (omega arith))))
 
-    h-obeys : (n : ℕ) → h n ≡ h-step n h
+    h_obeys : (n : ℕ) → h n ≡ h_step n h
     unfolding h
-    h-obeys = fix_is Car 𝟘 h-step h-local
+    h_obeys = fix_is Car 𝟘 h_step h_local
 
-    s-obeys : (n : ℕ) → s n ≡ s-step n s
+    s_obeys : (n : ℕ) → s n ≡ s_step n s
     unfolding s
-    s-obeys = fix_is Car 𝟘 s-step s-local
+    s_obeys = fix_is Car 𝟘 s_step s_local
 
-    c-obeys : (n : ℕ) → c n ≡ c-step n c
+    c_obeys : (n : ℕ) → c n ≡ c_step n c
     unfolding c
-    c-obeys = fix_is Car 𝟘 c-step c-local
+    c_obeys = fix_is Car 𝟘 c_step c_local
 
     module _ (units : Units inv) where
       undo : (k : ℕ) (y : Car) → 1 ≤ k → k ≤ 2 * d + 1 → # k ⊗ (inv k ⊗ y) ≡ y
       undo k y l g = sym (mul_assoc (# k) (inv k) y) ∙ ap (λ x. x ⊗ y) (units k l g) ∙ Ring.one-mul R y
 
-      h-recurs : (k : ℕ) → 3 ≤ k → k < d → Recurs R A B h k
-      unfolding h-step
-      h-recurs zero l m = absurd (omega arith)
-      h-recurs (suc zero) l m = absurd (omega arith)
-      h-recurs (suc (suc zero)) l m = absurd (omega arith)
-      h-recurs (suc (suc (suc j))) l m =
-          ap (λ x. # (k - 2) ⊗ # (2 * k + 3) ⊗ x) (h-obeys k)
+      h_recurs : (k : ℕ) → 3 ≤ k → k < d → Recurs R A B h k
+      unfolding h_step
+      h_recurs zero l m = absurd (omega arith)
+      h_recurs (suc zero) l m = absurd (omega arith)
+      h_recurs (suc (suc zero)) l m = absurd (omega arith)
+      h_recurs (suc (suc (suc j))) l m =
+          ap (λ x. # (k - 2) ⊗ # (2 * k + 3) ⊗ x) (h_obeys k)
           ∙ ap (λ n. # n ⊗ # (2 * k + 3) ⊗ (inv (suc j) ⊗ (inv (2 * k + 3) ⊗ recurrence R A B h k))) (omega arith)
           ∙ four (# (suc j)) (# (2 * k + 3)) (inv (suc j)) _
           ∙ undo (suc j) _ (omega arith) (omega arith) ∙ undo (2 * k + 3) _ (omega arith) (omega arith)
@@ -115,31 +115,31 @@ module _ (R : CRing) (q : Question R) where
           four : (x y z w : Car) → x ⊗ y ⊗ (z ⊗ w) ≡ x ⊗ (z ⊗ (y ⊗ w))
           four x y z w = mul_assoc x y (z ⊗ w) ∙ ap (λ t. x ⊗ t) (Ring.mul_left_comm R y z w)
 
-      s-expands : (i : ℕ) → 1 ≤ i → i < d → from-sums R A B s i ≡ h i
-      unfolding s-step
-      s-expands zero l m = absurd (omega arith)
-      s-expands (suc j) l m =
+      s_expands : (i : ℕ) → 1 ≤ i → i < d → from_sums R A B s i ≡ h i
+      unfolding s_step
+      s_expands zero l m = absurd (omega arith)
+      s_expands (suc j) l m =
           ap (λ x. # (2 * suc j + 1) ⊗ x ⊕ # (2 * suc j - 1) ⊗ A ⊗ s (suc j - 1) ⊕ # (2 * suc j - 2) ⊗ B ⊗ s (suc j - 2))
-          (ap s (omega arith) ∙ s-obeys (suc (suc j)))
+          (ap s (omega arith) ∙ s_obeys (suc (suc j)))
           ∙ ap (λ x. x ⊕ # (2 * suc j - 1) ⊗ A ⊗ s (suc j - 1) ⊕ # (2 * suc j - 2) ⊗ B ⊗ s (suc j - 2)) (undo (2 * suc j + 1) _ (omega arith) (omega arith))
           ∙ solve3 R (λ x y z. x :- y :- z :+ y :+ z) (λ x y z. x) tt (h (suc j)) (# (2 * suc j - 1) ⊗ A ⊗ s (suc j - 1))
           (# (2 * suc j - 2) ⊗ B ⊗ s (suc j - 2))
 
-      c-newton : (k : ℕ) → 1 ≤ k → k ≤ d → Newton R c s k
-      unfolding c-step
-      c-newton zero l m = absurd (omega arith)
-      c-newton (suc j) l m = ap (λ x. # (2 * suc j) ⊗ x) (c-obeys (suc j)) ∙ undo (2 * suc j) _ (omega arith) (omega arith)
+      c_newton : (k : ℕ) → 1 ≤ k → k ≤ d → Newton R c s k
+      unfolding c_step
+      c_newton zero l m = absurd (omega arith)
+      c_newton (suc j) l m = ap (λ x. # (2 * suc j) ⊗ x) (c_obeys (suc j)) ∙ undo (2 * suc j) _ (omega arith) (omega arith)
 
       pub computes : Computed R q h s c
-      unfolding h-step s-step c-step
+      unfolding h_step s_step c_step
       computes = record {
-        h-zero = h-obeys 0;
-        h-first = λ l. ap (λ x. # 5 ⊗ x) (h-obeys 1) ∙ undo 5 _ (omega arith) (omega arith);
-        h-second = λ l. ap (λ x. # 7 ⊗ x) (h-obeys 2) ∙ undo 7 _ (omega arith) (omega arith);
-        h-more = h-recurs;
-        s-zero = s-obeys 0;
-        s-one = s-obeys 1;
-        s-more = s-expands;
-        c-zero = c-obeys 0;
-        c-more = c-newton;
+        h_zero = h_obeys 0;
+        h_first = λ l. ap (λ x. # 5 ⊗ x) (h_obeys 1) ∙ undo 5 _ (omega arith) (omega arith);
+        h_second = λ l. ap (λ x. # 7 ⊗ x) (h_obeys 2) ∙ undo 7 _ (omega arith) (omega arith);
+        h_more = h_recurs;
+        s_zero = s_obeys 0;
+        s_one = s_obeys 1;
+        s_more = s_expands;
+        c_zero = c_obeys 0;
+        c_more = c_newton;
       }

@@ -11,16 +11,16 @@ use Rattle.ring.specs.Identity.Ex.{var, num, :0, :1, ◌:+◌, ◌:-◌, ◌:*�
 use Rattle.ring.specs.Derivation as Deriv
 use Rattle.ring.specs.Derivative.{Along, deriv, rules, derive}
 use Rattle.series.specs.Series.{Series, Seq, Formal, const, ∂}
-use Rattle.series.specs.Degree.{Below, Poly, Monic, leading, monic-mul, factor-below, poly-cast, poly-const, poly-eval, poly-∂}
-use Rattle.series.specs.ConstantTerm.{cancel-first, pow-first}
+use Rattle.series.specs.Degree.{Below, Poly, Monic, leading, monic_mul, factor_below, poly_cast, poly_const, poly_eval, poly_∂}
+use Rattle.series.specs.ConstantTerm.{cancel_first, pow_first}
 use Rattle.series.specs.Indeterminate.{ind, ∂-ind, ∂-const}
-use Rattle.series.specs.Binomial.{poly-ind}
-use Rattle.series.specs.Reversal.{rev, Reversed, r-degree, r-left, r-mul, r-pow}
+use Rattle.series.specs.Binomial.{poly_ind}
+use Rattle.series.specs.Reversal.{rev, Reversed, r_degree, r_left, r_mul, r_pow}
 use Rattle.isogeny.specs.Rules.{Question, R1, ℓ, f, N, W}
-use Rattle.isogeny.specs.Proof.Cubic.{poly-f, ∂-f}
+use Rattle.isogeny.specs.Proof.Cubic.{poly_f, ∂-f}
 use Rattle.isogeny.specs.Proof.Infinity as I
 use Rattle.isogeny.specs.Proof.Infinity.{reversed, quot, Ψ}
-use Rattle.isogeny.specs.Proof.Second.{second, r-second}
+use Rattle.isogeny.specs.Proof.Second.{second, r_second}
 
 module _ (R : CRing) (q : Question R) where
   open q use {A, B, Ã, d, σ}
@@ -102,7 +102,7 @@ module _ (R : CRing) (q : Question R) where
 
     along : Along (Series R) (Formal R) (at (Series R) xs) xs es
     along =
-        (∂-ind R, (∂-const R A, (∂-f R q, (Deriv.d-cast (Series R) (Formal R) (ℓ R q), (∂-const R σ, (∂-const R Ã, (refl, (refl, (refl, (refl, tt))))))))))
+        (∂-ind R, (∂-const R A, (∂-f R q, (Deriv.d_cast (Series R) (Formal R) (ℓ R q), (∂-const R σ, (∂-const R Ã, (refl, (refl, (refl, (refl, tt))))))))))
 
     -- the derivative of an expression
     abbrev :∂ : Ex → Ex
@@ -128,17 +128,17 @@ module _ (R : CRing) (q : Question R) where
     unfolding N
     N' = derive (Series R) (Formal R) xs es along :N (:∂ :N) tt tt
 
-    W-is : W R q g (N R q g) ≡ value :W
+    W_is : W R q g (N R q g) ≡ value :W
     unfolding W N
-    W-is = ap (λ y. y ⊗ g ⊖ # 2 ⊗ N R q g ⊗ g₁) N'
+    W_is = ap (λ y. y ⊗ g ⊖ # 2 ⊗ N R q g ⊗ g₁) N'
 
     W' : ∂ R (W R q g (N R q g)) ≡ value (:∂ :W)
-    W' = ap (∂ R) W-is ∙ derive (Series R) (Formal R) xs es along :W (:∂ :W) tt tt
+    W' = ap (∂ R) W_is ∙ derive (Series R) (Formal R) xs es along :W (:∂ :W) tt tt
 
     pub second_is : second R q g ≡ g ^ 2 ⊗ M
     unfolding second N M
     second_is =
-        ap₂ (λ w w'. (# 3 ⊗ x ^ 2 ⊕ κ A) ⊗ w ⊗ g ⊕ # 2 ⊗ f R q ⊗ (w' ⊗ g ⊖ # 3 ⊗ w ⊗ g₁) ⊖ # 3 ⊗ N R q g ^ 2 ⊖ κ Ã ⊗ g ^ 4) W-is W'
+        ap₂ (λ w w'. (# 3 ⊗ x ^ 2 ⊕ κ A) ⊗ w ⊗ g ⊕ # 2 ⊗ f R q ⊗ (w' ⊗ g ⊖ # 3 ⊗ w ⊗ g₁) ⊖ # 3 ⊗ N R q g ^ 2 ⊖ κ Ã ⊗ g ^ 4) W_is W'
         ∙ ring (Series R) (at (Series R) xs)
         (:f' :* :W :* :g :+ num 2 :* :f :* (:∂ :W :* :g :- num 3 :* :W :* :g₁) :- num 3 :* :N :^ 2 :- :ã :* :g :^ 4)
         (:g :^ 2 :* :M) tt
@@ -150,26 +150,26 @@ module _ (R : CRing) (q : Question R) where
     G = reversed R q g
 
     abbrev u : Seq R
-    u = quot R q (I.power-sums R q g)
+    u = quot R q (I.power_sums_of R q g)
 
-    M-poly : Poly R (M g)
+    M_poly : Poly R (M g)
     unfolding M
-    M-poly =
+    M_poly =
         let p : Poly R g = (suc d, r1.degree) in
-        let p₁ : Poly R (∂ R g) = poly-∂ R g p in
-        let p₂ : Poly R (∂ R (∂ R g)) = poly-∂ R _ p₁ in
-        let p₃ : Poly R (∂ R (∂ R (∂ R g))) = poly-∂ R _ p₂ in
-        poly-eval R (xs g) (
-          poly-ind R,
-          (poly-const R A, (poly-f R q, (poly-cast R (ℓ R q), (poly-const R σ, (poly-const R Ã, (p, (p₁, (p₂, (p₃, (poly-∂ R _ p₃, tt)))))))))),
+        let p₁ : Poly R (∂ R g) = poly_∂ R g p in
+        let p₂ : Poly R (∂ R (∂ R g)) = poly_∂ R _ p₁ in
+        let p₃ : Poly R (∂ R (∂ R (∂ R g))) = poly_∂ R _ p₂ in
+        poly_eval R (xs g) (
+          poly_ind R,
+          (poly_const R A, (poly_f R q, (poly_cast R (ℓ R q), (poly_const R σ, (poly_const R Ã, (p, (p₁, (p₂, (p₃, (poly_∂ R _ p₃, tt)))))))))),
         )
         (:M g)
 
     -- g² is monic, so M has the degree of g² M less 2d
-    M-below : Below R (suc (suc (ℓ R q))) (M g)
-    M-below =
-        factor-below R (d + d) (g ⊗ g) (M g) (leading R (d + d) (g ⊗ g) (monic-mul R d d g g monic monic)) M-poly (suc (suc (ℓ R q)))
-        (λ i l. ap (λ a. a i) (sym (second_is g ∙ ap (λ y. y ⊗ M g) square)) ∙ (r-second R q g r1).below i (omega arith))
+    M_below : Below R (suc (suc (ℓ R q))) (M g)
+    M_below =
+        factor_below R (d + d) (g ⊗ g) (M g) (leading R (d + d) (g ⊗ g) (monic_mul R d d g g monic monic)) M_poly (suc (suc (ℓ R q)))
+        (λ i l. ap (λ a. a i) (sym (second_is g ∙ ap (λ y. y ⊗ M g) square)) ∙ (r_second R q g r1).below i (omega arith))
       where
         monic : Monic R d g
         monic = record { below = r1.degree; one = r1.leading }
@@ -177,20 +177,20 @@ module _ (R : CRing) (q : Question R) where
         square : g ^ 2 ≡ g ⊗ g
         square = solve3 (Series R) (λ y z w. y :^ 2) (λ y z w. y :* y) tt g g g
 
-    pub r-M : Reversed R (suc (ℓ R q)) (M g) (G ^ 2 ⊗ Ψ R q u)
-    r-M = record {
-      below = M-below;
+    pub r_M : Reversed R (suc (ℓ R q)) (M g) (G ^ 2 ⊗ Ψ R q u)
+    r_M = record {
+      below = M_below;
       same =
           Ring.sub-zero (Series R) _ _
-          (cancel-first R (G ^ 2) _ (pow-first R G (I.G-first R q g r1) 2)
+          (cancel_first R (G ^ 2) _ (pow_first R G (I.G_first R q g r1) 2)
           (solve3 (Series R) (λ g m y. g :^ 2 :* (m :- g :^ 2 :* y)) (λ g m y. g :^ 2 :* m :- g :^ 4 :* y) tt G (rev R (suc (ℓ R q)) (M g)) (Ψ R q u)
           ∙ ap (λ y. y ⊖ G ^ 4 ⊗ Ψ R q u) both ∙ (Series R).add-neg _));
     }
       where
         whole : Reversed R (2 * ℓ R q) (second R q g) (G ^ 2 ⊗ rev R (suc (ℓ R q)) (M g))
         whole =
-            r-left R (sym (second_is g))
-            (r-degree R (omega arith) (r-mul R (r-pow R (I.r-g R q g r1) 2) (record { below = M-below; same = refl })))
+            r_left R (sym (second_is g))
+            (r_degree R (omega arith) (r_mul R (r_pow R (I.r_g R q g r1) 2) (record { below = M_below; same = refl })))
 
         both : G ^ 2 ⊗ rev R (suc (ℓ R q)) (M g) ≡ G ^ 4 ⊗ Ψ R q u
-        both = sym whole.same ∙ (r-second R q g r1).same
+        both = sym whole.same ∙ (r_second R q g r1).same

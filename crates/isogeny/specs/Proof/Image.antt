@@ -5,18 +5,18 @@ use Rattle.std.proofs.Common.{sym, ◌∙◌, arith}
 use Rattle.std.proofs.Math.Path.{ap, ap₂, fun_ext}
 use Rattle.ring.specs.Ring
 use Rattle.ring.specs.Ring.{CRing, cast, pow, pow-zero, pow-suc}
-use Rattle.ring.specs.Field.{Inverse, unit-cancel}
+use Rattle.ring.specs.Field.{Inverse, unit_cancel}
 use Rattle.ring.specs.Identity.{solve2, solve3, solve5}
 use Rattle.ring.specs.Identity.Ex.{var, num, :1, ◌:+◌, ◌:-◌, ◌:*◌, ◌:^◌}
 use Rattle.series.specs.Series.{Seq, const, ∂}
-use Rattle.series.specs.Degree.{Below, Poly, Polys, poly-const, ∂-below}
-use Rattle.series.specs.Value.{value, at_same, at-eval, at-const}
+use Rattle.series.specs.Degree.{Below, Poly, Polys, poly_const, ∂-below}
+use Rattle.series.specs.Value.{value, at_same, at_eval, at_const}
 use Rattle.isogeny.specs.Curve.{OnCurve}
-use Rattle.isogeny.specs.Rules.{Question, R3, ℓ, f, W, left, right, g-at, N-at, W-at, Image}
-use Rattle.isogeny.specs.Proof.Cubic.{poly-f, f-at}
-use Rattle.isogeny.specs.Proof.Degrees.{W-below, left_below, right-below}
+use Rattle.isogeny.specs.Rules.{Question, R3, ℓ, f, W, left, right, g_at, N_at, W_at, Image}
+use Rattle.isogeny.specs.Proof.Cubic.{poly_f, f_at}
+use Rattle.isogeny.specs.Proof.Degrees.{W_below, left_below, right_below}
 
-module _ (R : CRing) (q : Question R) (g n : Seq R) (g-below : Below R (suc q.d) g) (n-below : Below R (suc (ℓ R q)) n) (u : R.Car) where
+module _ (R : CRing) (q : Question R) (g n : Seq R) (g_below : Below R (suc q.d) g) (n_below : Below R (suc (ℓ R q)) n) (u : R.Car) where
   open q use {A, B, Ã, B̃, d}
   open R use {Car, 𝟘, 𝟙, add as ◌⊕◌, mul as ◌⊗◌, neg, add-zero, add-neg}
 
@@ -35,30 +35,30 @@ module _ (R : CRing) (q : Question R) (g n : Seq R) (g-below : Below R (suc q.d)
 
   -- g(u), N(u), W(u)
   abbrev G : Car
-  G = g-at R q g u
+  G = g_at R q g u
 
   abbrev N : Car
-  N = N-at R q n u
+  N = N_at R q n u
 
   abbrev w : Car
-  w = W-at R q g n u
+  w = W_at R q g n u
 
-  abbrev poly-g : Poly R g
-  poly-g = (suc d, g-below)
+  abbrev poly_g : Poly R g
+  poly_g = (suc d, g_below)
 
-  abbrev poly-n : Poly R n
-  poly-n = (suc (ℓ R q), n-below)
+  abbrev poly_n : Poly R n
+  poly_n = (suc (ℓ R q), n_below)
 
-  abbrev poly-w : Poly R (W R q g n)
-  poly-w = (suc (3 * d), W-below R q g n g-below n-below)
+  abbrev poly_w : Poly R (W R q g n)
+  poly_w = (suc (3 * d), W_below R q g n g_below n_below)
 
   -- W(u) = N'(u) g(u) − 2 N(u) g'(u)
-  pub W-at-is : W-at R q g n u ≡ value R (suc (ℓ R q)) (∂ R n) u ⊗ g-at R q g u ⊖ # 2 ⊗ N-at R q n u ⊗ value R (suc d) (∂ R g) u
+  pub W_at_is : W_at R q g n u ≡ value R (suc (ℓ R q)) (∂ R n) u ⊗ g_at R q g u ⊖ # 2 ⊗ N_at R q n u ⊗ value R (suc d) (∂ R g) u
   unfolding W
-  W-at-is =
-      at-eval R (∂ R n ∷ g ∷ n ∷ ∂ R g ∷ [])
-      ((suc (ℓ R q), λ i l. ∂-below R (ℓ R q) n n-below i (omega arith)), (poly-g, (poly-n, ((suc d, λ i l. ∂-below R d g g-below i (omega arith)), tt))))
-      (var 0 :* var 1 :- num 2 :* var 2 :* var 3) poly-w u
+  W_at_is =
+      at_eval R (∂ R n ∷ g ∷ n ∷ ∂ R g ∷ [])
+      ((suc (ℓ R q), λ i l. ∂-below R (ℓ R q) n n_below i (omega arith)), (poly_g, (poly_n, ((suc d, λ i l. ∂-below R d g g_below i (omega arith)), tt))))
+      (var 0 :* var 1 :- num 2 :* var 2 :* var 3) poly_w u
 
   -- ── R3 at u
 
@@ -66,59 +66,59 @@ module _ (R : CRing) (q : Question R) (g n : Seq R) (g-below : Below R (suc q.d)
   names = f R q ∷ const R Ã ∷ const R B̃ ∷ g ∷ n ∷ W R q g n ∷ []
 
   abbrev polys : Polys R names
-  polys = (poly-f R q, (poly-const R Ã, (poly-const R B̃, (poly-g, (poly-n, (poly-w, tt))))))
+  polys = (poly_f R q, (poly_const R Ã, (poly_const R B̃, (poly_g, (poly_n, (poly_w, tt))))))
 
   left_at : (below : Below R (suc (3 * ℓ R q)) (left R q g n)) → value R (suc (3 * ℓ R q)) (left R q g n) u ≡ (u ^ 3 ⊕ A ⊗ u ⊕ B) ⊗ w ^ 2
   unfolding left
-  left_at below = at-eval R names polys (var 0 :* var 5 :^ 2) (suc (3 * ℓ R q), below) u ∙ ap (λ y. y ⊗ w ^ 2) (f-at R q u)
+  left_at below = at_eval R names polys (var 0 :* var 5 :^ 2) (suc (3 * ℓ R q), below) u ∙ ap (λ y. y ⊗ w ^ 2) (f_at R q u)
 
-  right-at : (below : Below R (suc (3 * ℓ R q)) (right R q g n)) → value R (suc (3 * ℓ R q)) (right R q g n) u ≡ N ^ 3 ⊕ Ã ⊗ N ⊗ G ^ 4 ⊕ B̃ ⊗ G ^ 6
+  right_at : (below : Below R (suc (3 * ℓ R q)) (right R q g n)) → value R (suc (3 * ℓ R q)) (right R q g n) u ≡ N ^ 3 ⊕ Ã ⊗ N ⊗ G ^ 4 ⊕ B̃ ⊗ G ^ 6
   unfolding right
-  right-at below =
-      at-eval R names polys (var 4 :^ 3 :+ var 1 :* var 4 :* var 3 :^ 4 :+ var 2 :* var 3 :^ 6) (suc (3 * ℓ R q), below) u
-      ∙ ap₂ (λ a b. N ^ 3 ⊕ a ⊗ N ⊗ G ^ 4 ⊕ b ⊗ G ^ 6) (at-const R Ã (poly-const R Ã) u) (at-const R B̃ (poly-const R B̃) u)
+  right_at below =
+      at_eval R names polys (var 4 :^ 3 :+ var 1 :* var 4 :* var 3 :^ 4 :+ var 2 :* var 3 :^ 6) (suc (3 * ℓ R q), below) u
+      ∙ ap₂ (λ a b. N ^ 3 ⊕ a ⊗ N ⊗ G ^ 4 ⊕ b ⊗ G ^ 6) (at_const R Ã (poly_const R Ã) u) (at_const R B̃ (poly_const R B̃) u)
 
   -- f(u) W(u)² = N(u)³ + Ã N(u) g(u)⁴ + B̃ g(u)⁶
-  pub R3-at : R3 R q g n → (u ^ 3 ⊕ A ⊗ u ⊕ B) ⊗ w ^ 2 ≡ N ^ 3 ⊕ Ã ⊗ N ⊗ G ^ 4 ⊕ B̃ ⊗ G ^ 6
-  R3-at r3 =
-      sym (left_at (left_below R q g n g-below n-below))
-      ∙ at_same R (left R q g n) (right R q g n) (suc (3 * ℓ R q), left_below R q g n g-below n-below) (suc (3 * ℓ R q), right-below R q g n g-below n-below) u
+  pub R3_at : R3 R q g n → (u ^ 3 ⊕ A ⊗ u ⊕ B) ⊗ w ^ 2 ≡ N ^ 3 ⊕ Ã ⊗ N ⊗ G ^ 4 ⊕ B̃ ⊗ G ^ 6
+  R3_at r3 =
+      sym (left_at (left_below R q g n g_below n_below))
+      ∙ at_same R (left R q g n) (right R q g n) (suc (3 * ℓ R q), left_below R q g n g_below n_below) (suc (3 * ℓ R q), right_below R q g n g_below n_below) u
       (fun_ext r3)
-      ∙ right-at (right-below R q g n g-below n-below)
+      ∙ right_at (right_below R q g n g_below n_below)
 
   -- ── where g(u) is invertible
 
   module _ (inverse : Inverse R G) where
-    cancel-power : (k : ℕ) (y : Car) → G ^ k ⊗ y ≡ 𝟘 → y ≡ 𝟘
-    cancel-power zero y e = sym (Ring.one-mul R y) ∙ ap (λ z. z ⊗ y) (sym (pow-zero R G)) ∙ e
-    cancel-power (suc k) y e = cancel-power k y (unit-cancel R G (G ^ k ⊗ y) inverse
+    cancel_power : (k : ℕ) (y : Car) → G ^ k ⊗ y ≡ 𝟘 → y ≡ 𝟘
+    cancel_power zero y e = sym (Ring.one-mul R y) ∙ ap (λ z. z ⊗ y) (sym (pow-zero R G)) ∙ e
+    cancel_power (suc k) y e = cancel_power k y (unit_cancel R G (G ^ k ⊗ y) inverse
         (sym (R.mul_assoc G (G ^ k) y) ∙ ap (λ z. z ⊗ y) (sym (pow-suc R G k)) ∙ e))
 
-    same-quotient : (k : ℕ) (y z : Car) → y ⊗ G ^ k ≡ z ⊗ G ^ k → y ≡ z
-    same-quotient k y z e =
+    same_quotient : (k : ℕ) (y z : Car) → y ⊗ G ^ k ≡ z ⊗ G ^ k → y ≡ z
+    same_quotient k y z e =
         Ring.sub-zero R y z
-        (cancel-power k (y ⊖ z) (solve3 R (λ g y z. g :* (y :- z)) (λ g y z. y :* g :- z :* g) tt (G ^ k) y z ∙ ap (λ t. t ⊖ z ⊗ G ^ k) e ∙ add-neg _))
+        (cancel_power k (y ⊖ z) (solve3 R (λ g y z. g :* (y :- z)) (λ g y z. y :* g :- z :* g) tt (G ^ k) y z ∙ ap (λ t. t ⊖ z ⊗ G ^ k) e ∙ add-neg _))
 
     -- the image is on the codomain
     pub push : R3 R q g n → (v u' v' : Car) → OnCurve R A B u v → Image R q g n u v u' v' → OnCurve R Ã B̃ u' v'
     unfolding OnCurve
     push r3 v u' v' on image =
         Ring.sub-zero R (v' ^ 2) (u' ^ 3 ⊕ Ã ⊗ u' ⊕ B̃)
-        (cancel-power 6 _
+        (cancel_power 6 _
         (solve5 R (λ g x y a b. g :^ 6 :* (y :^ 2 :- (x :^ 3 :+ a :* x :+ b)))
         (λ g x y a b. (y :* g :^ 3) :^ 2 :- ((x :* g :^ 2) :^ 3 :+ a :* (x :* g :^ 2) :* g :^ 4 :+ b :* g :^ 6)) tt
         G u' v' Ã B̃
         ∙ ap₂ (λ x y. y ^ 2 ⊖ (x ^ 3 ⊕ Ã ⊗ x ⊗ G ^ 4 ⊕ B̃ ⊗ G ^ 6)) image.abscissa image.ordinate
         ∙ ap (λ x. x ⊖ (N ^ 3 ⊕ Ã ⊗ N ⊗ G ^ 4 ⊕ B̃ ⊗ G ^ 6)) (solve2 R (λ v w. (v :* w) :^ 2) (λ v w. v :^ 2 :* w :^ 2) tt v w ∙ ap (λ x. x ⊗ w ^ 2) on
-        ∙ R3-at r3)
+        ∙ R3_at r3)
         ∙ add-neg _))
 
-    pub image-unique : (v u' v' u'' v'' : Car) → Image R q g n u v u' v' → Image R q g n u v u'' v'' → (u' ≡ u'') × (v' ≡ v'')
-    image-unique v u' v' u'' v'' a b =
-        (same-quotient 2 u' u'' (a.abscissa ∙ sym b.abscissa), same-quotient 3 v' v'' (a.ordinate ∙ sym b.ordinate))
+    pub image_unique : (v u' v' u'' v'' : Car) → Image R q g n u v u' v' → Image R q g n u v u'' v'' → (u' ≡ u'') × (v' ≡ v'')
+    image_unique v u' v' u'' v'' a b =
+        (same_quotient 2 u' u'' (a.abscissa ∙ sym b.abscissa), same_quotient 3 v' v'' (a.ordinate ∙ sym b.ordinate))
 
-    pub image-exists : G ≢ 𝟘 → (v : Car) → (u' : Car) × (v' : Car) × Image R q g n u v u' v'
-    image-exists nonzero v =
+    pub image_exists : G ≢ 𝟘 → (v : Car) → (u' : Car) × (v' : Car) × Image R q g n u v u' v'
+    image_exists nonzero v =
         let y : Car = inverse.0 in
         (N ⊗ y ^ 2, v ⊗ w ⊗ y ^ 3, record { defined = nonzero; abscissa = quotient2; ordinate = quotient3 })
       where

@@ -9,8 +9,8 @@ use Rattle.ring.specs.Ring.{CRing, cast}
 use Rattle.ring.specs.Identity.{solve1, solve2}
 use Rattle.ring.specs.Identity.Ex.{:0, :1, ◌:+◌, ◌:-◌, ◌:*◌, :-◌}
 use Rattle.series.specs.Series as S
-use Rattle.series.specs.Series.{Seq, conv, negs, tail, D, D-at, D-zero}
-use Rattle.series.specs.Local.{conv-local}
+use Rattle.series.specs.Series.{Seq, conv, negs, tail, D, D_at, D_zero}
+use Rattle.series.specs.Local.{conv_local}
 use Rattle.series.specs.Recursion.{Local, fix, fix_is}
 
 module _ (R : CRing) where
@@ -20,39 +20,39 @@ module _ (R : CRing) where
   infixl 70 ◌⊗◌
   module _ (G : Seq R) where
     -- P₀ = 0, and P_k = −k G_k − (sum of P_j G_(k − j), j from 0 to k − 1)
-    unfoldable pub power-step : ℕ → Seq R → Car
-    power-step zero p = 𝟘
-    power-step (suc n) p = neg (cast R (suc n) ⊗ G (suc n)) ⊕ neg (conv R p (tail R G) n)
+    unfoldable pub power_step : ℕ → Seq R → Car
+    power_step zero p = 𝟘
+    power_step (suc n) p = neg (cast R (suc n) ⊗ G (suc n)) ⊕ neg (conv R p (tail R G) n)
 
-    power-local : Local Car power-step
-    unfolding power-step
-    power-local zero a b h = refl
-    power-local (suc n) a b h =
-        ap (λ x. neg (cast R (suc n) ⊗ G (suc n)) ⊕ neg x) (conv-local R n a b (tail R G) (tail R G) (λ i g. h i (omega arith)) (λ i g. refl))
+    power_local : Local Car power_step
+    unfolding power_step
+    power_local zero a b h = refl
+    power_local (suc n) a b h =
+        ap (λ x. neg (cast R (suc n) ⊗ G (suc n)) ⊕ neg x) (conv_local R n a b (tail R G) (tail R G) (λ i g. h i (omega arith)) (λ i g. refl))
 
     unfoldable pub powers : Seq R
-    powers = fix Car 𝟘 power-step
+    powers = fix Car 𝟘 power_step
 
-    powers-is : (n : ℕ) → powers n ≡ power-step n powers
+    powers_is : (n : ℕ) → powers n ≡ power_step n powers
     unfolding powers
-    powers-is n = fix_is Car 𝟘 power-step power-local n
+    powers_is n = fix_is Car 𝟘 power_step power_local n
 
-    pub powers-zero : powers 0 ≡ 𝟘
-    unfolding power-step
-    powers-zero = powers-is 0
+    pub powers_zero : powers 0 ≡ 𝟘
+    unfolding power_step
+    powers_zero = powers_is 0
 
-    pub powers-suc : (n : ℕ) → powers (suc n) ≡ neg (cast R (suc n) ⊗ G (suc n)) ⊕ neg (conv R powers (tail R G) n)
-    unfolding power-step
-    powers-suc n = powers-is (suc n)
+    pub powers_suc : (n : ℕ) → powers (suc n) ≡ neg (cast R (suc n) ⊗ G (suc n)) ⊕ neg (conv R powers (tail R G) n)
+    unfolding power_step
+    powers_suc n = powers_is (suc n)
 
     pub newton : G 0 ≡ 𝟙 → D R G ≡ negs R (conv R powers G)
     newton e = fun_ext go
       where
         go : (n : ℕ) → D R G n ≡ neg (conv R powers G n)
         go zero =
-            D-zero R G
-            ∙ sym (ap neg (S.conv-zero R powers G ∙ ap (λ x. x ⊗ G 0) powers-zero) ∙ solve1 R (λ x. :- (:0 :* x)) (λ x. :0) tt (G 0))
+            D_zero R G
+            ∙ sym (ap neg (S.conv_zero R powers G ∙ ap (λ x. x ⊗ G 0) powers_zero) ∙ solve1 R (λ x. :- (:0 :* x)) (λ x. :0) tt (G 0))
         go (suc n) =
-            D-at R G (suc n)
-            ∙ sym (ap neg (S.conv-last R powers G n ∙ ap₂ (λ x y. x ⊗ y ⊕ conv R powers (tail R G) n) (powers-suc n) e)
+            D_at R G (suc n)
+            ∙ sym (ap neg (S.conv_last R powers G n ∙ ap₂ (λ x y. x ⊗ y ⊕ conv R powers (tail R G) n) (powers_suc n) e)
             ∙ solve2 R (λ x y. :- ((:- x :- y) :* :1 :+ y)) (λ x y. x) tt (cast R (suc n) ⊗ G (suc n)) (conv R powers (tail R G) n))

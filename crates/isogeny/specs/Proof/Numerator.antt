@@ -31,9 +31,9 @@ module _ (K : CRing) (δ : Derivation K) where
   unfoldable pub slope : Car → Car → Car
   slope n G = n ⊗ G ⊖ d G
 
-  slope-at : (n G : Car) → slope n G ≡ n ⊗ G ⊖ d G
+  slope_at : (n G : Car) → slope n G ≡ n ⊗ G ⊖ d G
   unfolding slope
-  slope-at n G = refl
+  slope_at n G = refl
 
   unfoldable pub bend : Car → Car → Car
   bend n G = slope n (slope n G) ⊖ slope n G
@@ -46,9 +46,9 @@ module _ (K : CRing) (δ : Derivation K) where
   quotient lin quad F S = lin ⊖ quad ⊗ S ⊕ # 2 ⊗ F ⊗ (S ⊕ d S)
 
   module _ (n G P : Car) (dn : d n ≡ 𝟘) (dG : d G ≡ neg (P ⊗ G)) where
-    slope-is : slope n G ≡ (n ⊕ P) ⊗ G
+    slope_is : slope n G ≡ (n ⊕ P) ⊗ G
     unfolding slope
-    slope-is = ap (λ x. n ⊗ G ⊖ x) dG ∙ solve3 K (λ n G P. n :* G :- :- (P :* G)) (λ n G P. (n :+ P) :* G) tt n G P
+    slope_is = ap (λ x. n ⊗ G ⊖ x) dG ∙ solve3 K (λ n G P. n :* G :- :- (P :* G)) (λ n G P. (n :+ P) :* G) tt n G P
 
     -- the derivative of an expression in n, G, P, u is one in those, d P and d u
     module _ (u : Car) where
@@ -58,23 +58,23 @@ module _ (K : CRing) (δ : Derivation K) where
       abbrev laws : List Ex
       laws = :0 ∷ :- (var 2 :* var 1) ∷ var 4 ∷ var 5 ∷ []
 
-      d-by-laws : (a b : Ex) → T (known laws a) → T (same (deriv (rules laws) a) b) → d (eval K (at K names) a) ≡ eval K (at K names) b
-      d-by-laws = derive K δ names laws (dn, (dG, (refl, (refl, tt))))
+      d_by_laws : (a b : Ex) → T (known laws a) → T (same (deriv (rules laws) a) b) → d (eval K (at K names) a) ≡ eval K (at K names) b
+      d_by_laws = derive K δ names laws (dn, (dG, (refl, (refl, tt))))
 
-      d-slope : d ((n ⊕ P) ⊗ G) ≡ (d P ⊖ (n ⊕ P) ⊗ P) ⊗ G
-      d-slope = d-by-laws ((var 0 :+ var 2) :* var 1) ((var 4 :- (var 0 :+ var 2) :* var 2) :* var 1) tt tt
+      d_slope : d ((n ⊕ P) ⊗ G) ≡ (d P ⊖ (n ⊕ P) ⊗ P) ⊗ G
+      d_slope = d_by_laws ((var 0 :+ var 2) :* var 1) ((var 4 :- (var 0 :+ var 2) :* var 2) :* var 1) tt tt
 
-      d-power : d (# 2 ⊗ (n ⊕ P)) ≡ # 2 ⊗ d P
-      d-power = d-by-laws (num 2 :* (var 0 :+ var 2)) (num 2 :* var 4) tt tt
+      d_power : d (# 2 ⊗ (n ⊕ P)) ≡ # 2 ⊗ d P
+      d_power = d_by_laws (num 2 :* (var 0 :+ var 2)) (num 2 :* var 4) tt tt
 
-      d-numerator : d (u ⊗ G ^ 2) ≡ (d u ⊖ # 2 ⊗ P ⊗ u) ⊗ G ^ 2
-      d-numerator = d-by-laws (var 3 :* var 1 :^ 2) ((var 5 :- num 2 :* var 2 :* var 3) :* var 1 :^ 2) tt tt
+      d_numerator : d (u ⊗ G ^ 2) ≡ (d u ⊖ # 2 ⊗ P ⊗ u) ⊗ G ^ 2
+      d_numerator = d_by_laws (var 3 :* var 1 :^ 2) ((var 5 :- num 2 :* var 2 :* var 3) :* var 1 :^ 2) tt tt
 
-    bend-is : bend n G ≡ ((n ⊕ P) ^ 2 ⊖ (n ⊕ P) ⊖ d P) ⊗ G
+    bend_is : bend n G ≡ ((n ⊕ P) ^ 2 ⊖ (n ⊕ P) ⊖ d P) ⊗ G
     unfolding bend slope
-    bend-is =
-        ap (λ s. n ⊗ s ⊖ d s ⊖ s) slope-is
-        ∙ ap (λ y. n ⊗ ((n ⊕ P) ⊗ G) ⊖ y ⊖ (n ⊕ P) ⊗ G) (d-slope 𝟘)
+    bend_is =
+        ap (λ s. n ⊗ s ⊖ d s ⊖ s) slope_is
+        ∙ ap (λ y. n ⊗ ((n ⊕ P) ⊗ G) ⊖ y ⊖ (n ⊕ P) ⊗ G) (d_slope 𝟘)
         ∙ solve4 K (λ n G P e. n :* ((n :+ P) :* G) :- (e :- (n :+ P) :* P) :* G :- (n :+ P) :* G) (λ n G P e. ((n :+ P) :^ 2 :- (n :+ P) :- e) :* G) tt
         n G P (d P)
 
@@ -83,18 +83,18 @@ module _ (K : CRing) (δ : Derivation K) where
         ≡ quotient lin quad F (power n P) ⊗ G ^ 2
     unfolding quotient power
     numerator lin quad F =
-        ap₂ (λ s b. lin ⊗ G ^ 2 ⊖ # 2 ⊗ quad ⊗ G ⊗ s ⊖ # 4 ⊗ F ⊗ (G ⊗ b ⊖ s ^ 2)) slope-is bend-is
+        ap₂ (λ s b. lin ⊗ G ^ 2 ⊖ # 2 ⊗ quad ⊗ G ⊗ s ⊖ # 4 ⊗ F ⊗ (G ⊗ b ⊖ s ^ 2)) slope_is bend_is
         ∙ solve7 K
         (λ n G P e l q f. l :* G :^ 2 :- num 2 :* q :* G :* ((n :+ P) :* G) :- num 4 :* f :*
         (G :* (((n :+ P) :^ 2 :- (n :+ P) :- e) :* G) :- ((n :+ P) :* G) :^ 2))
         (λ n G P e l q f. (l :- q :* (num 2 :* (n :+ P)) :+ num 2 :* f :* (num 2 :* (n :+ P) :+ num 2 :* e)) :* G :^ 2) tt
         n G P (d P) lin quad F
-        ∙ ap (λ y. (lin ⊖ quad ⊗ (# 2 ⊗ (n ⊕ P)) ⊕ # 2 ⊗ F ⊗ (# 2 ⊗ (n ⊕ P) ⊕ y)) ⊗ G ^ 2) (sym (d-power 𝟘))
+        ∙ ap (λ y. (lin ⊖ quad ⊗ (# 2 ⊗ (n ⊕ P)) ⊕ # 2 ⊗ F ⊗ (# 2 ⊗ (n ⊕ P) ⊕ y)) ⊗ G ^ 2) (sym (d_power 𝟘))
 
     -- x (N' g − 2 N g') reversed, where N reversed is u G²
     pub tangent : (u l : Car) → l ≡ # 2 ⊗ n ⊕ 𝟙 → slope l (u ⊗ G ^ 2) ⊗ G ⊖ # 2 ⊗ (u ⊗ G ^ 2) ⊗ slope n G ≡ (u ⊖ d u) ⊗ G ^ 3
     tangent u l e =
-        ap₂ (λ x y. x ⊗ G ⊖ # 2 ⊗ (u ⊗ G ^ 2) ⊗ y) (slope-at l (u ⊗ G ^ 2) ∙ ap₂ (λ l y. l ⊗ (u ⊗ G ^ 2) ⊖ y) e (d-numerator u)) slope-is
+        ap₂ (λ x y. x ⊗ G ⊖ # 2 ⊗ (u ⊗ G ^ 2) ⊗ y) (slope_at l (u ⊗ G ^ 2) ∙ ap₂ (λ l y. l ⊗ (u ⊗ G ^ 2) ⊖ y) e (d_numerator u)) slope_is
         ∙ solve5 K
         (λ n G P u e. ((num 2 :* n :+ :1) :* (u :* G :^ 2) :- (e :- num 2 :* P :* u) :* G :^ 2) :* G :- num 2 :* (u :* G :^ 2) :* ((n :+ P) :* G))
         (λ n G P u e. (u :- e) :* G :^ 3) tt n G P u (d u)

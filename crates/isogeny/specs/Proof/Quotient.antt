@@ -10,18 +10,18 @@ use Rattle.ring.specs.Ring.{CRing, pow}
 use Rattle.series.specs.Series as S
 use Rattle.series.specs.Series.{Series, Seq, conv, sum, sum_same}
 use Rattle.series.specs.Degree.{Monic}
-use Rattle.series.specs.ConstantTerm.{pow-first}
+use Rattle.series.specs.ConstantTerm.{pow_first}
 use Rattle.series.specs.Indeterminate.{ind}
-use Rattle.series.specs.Reversal.{rev-first, rev-sub, Reversed, r-degree, r-mul, r-pow, r-ind}
+use Rattle.series.specs.Reversal.{rev_first, rev_sub, Reversed, r_degree, r_mul, r_pow, r_ind}
 use Rattle.isogeny.specs.Rules.{Question, R1, ℓ, N, W}
-use Rattle.isogeny.specs.Expansion.{sum_to, expansion, PowerSums, power-sums}
+use Rattle.isogeny.specs.Expansion.{sum_to, expansion, PowerSums, power_sums_of}
 use Rattle.isogeny.specs.Proof.Infinity as I
 use Rattle.isogeny.specs.Proof.Infinity.{quot, reversed}
-use Rattle.isogeny.specs.Proof.Recurrence.{v-first}
-use Rattle.isogeny.specs.Proof.Sums.{G-first, sums-only, h-is}
-use Rattle.isogeny.specs.Proof.Terms.{expansion-same}
-use Rattle.isogeny.specs.Proof.Conditions.{u-first, u-second}
-use Rattle.isogeny.specs.Proof.Second.{r-W}
+use Rattle.isogeny.specs.Proof.Recurrence.{v_first}
+use Rattle.isogeny.specs.Proof.Sums.{G_first, sums_only, h_is}
+use Rattle.isogeny.specs.Proof.Terms.{expansion_same}
+use Rattle.isogeny.specs.Proof.Conditions.{u_first, u_second}
+use Rattle.isogeny.specs.Proof.Second.{r_W}
 
 module _ (R : CRing) (q : Question R) (d≥1 : 1 ≤ q.d) (g : Seq R) (r1 : R1 R q g) where
   open q use {A, B, d}
@@ -33,7 +33,7 @@ module _ (R : CRing) (q : Question R) (d≥1 : 1 ≤ q.d) (g : Seq R) (r1 : R1 R
   G = reversed R q g
 
   abbrev u : Seq R
-  u = quot R q (I.power-sums R q g)
+  u = quot R q (I.power_sums_of R q g)
 
   -- g², and its reversal
   abbrev g² : Seq R
@@ -45,36 +45,36 @@ module _ (R : CRing) (q : Question R) (d≥1 : 1 ≤ q.d) (g : Seq R) (r1 : R1 R
   abbrev 1ₛ : Seq R
   1ₛ = (Series R).𝟙
 
-  pub N-monic : Monic R (ℓ R q) (N R q g)
-  N-monic = record {
-    below = I.N-below R q g r1;
+  pub N_monic : Monic R (ℓ R q) (N R q g)
+  N_monic = record {
+    below = I.N_below R q g r1;
     one =
-        sym (rev-first R (ℓ R q) (N R q g)) ∙ ap (λ a. a 0) (I.r-N R q g r1).same ∙ S.conv-zero R u G²
-        ∙ ap₂ ◌⊗◌ (u-first R q d≥1 g r1) (pow-first R G (I.G-first R q g r1) 2) ∙ mul-one 𝟙;
+        sym (rev_first R (ℓ R q) (N R q g)) ∙ ap (λ a. a 0) (I.r_N R q g r1).same ∙ S.conv_zero R u G²
+        ∙ ap₂ ◌⊗◌ (u_first R q d≥1 g r1) (pow_first R G (I.G_first R q g r1) 2) ∙ mul-one 𝟙;
   }
 
-  pub W-monic : Monic R (3 * d) (W R q g (N R q g))
-  W-monic = record {
-    below = (r-W R q g r1).below;
+  pub W_monic : Monic R (3 * d) (W R q g (N R q g))
+  W_monic = record {
+    below = (r_W R q g r1).below;
     one =
-        sym (rev-first R (3 * d) (W R q g (N R q g))) ∙ ap (λ a. a 0) (r-W R q g r1).same ∙ S.conv-zero R _ _
-        ∙ ap₂ ◌⊗◌ (v-first R q u (u-first R q d≥1 g r1)) (pow-first R G (I.G-first R q g r1) 3) ∙ mul-one 𝟙;
+        sym (rev_first R (3 * d) (W R q g (N R q g))) ∙ ap (λ a. a 0) (r_W R q g r1).same ∙ S.conv_zero R _ _
+        ∙ ap₂ ◌⊗◌ (v_first R q u (u_first R q d≥1 g r1)) (pow_first R G (I.G_first R q g r1) 3) ∙ mul-one 𝟙;
   }
 
   -- ── the expansion
 
-  r-g² : Reversed R (2 * d) g² G²
-  r-g² = r-pow R (I.r-g R q g r1) 2
+  r_g² : Reversed R (2 * d) g² G²
+  r_g² = r_pow R (I.r_g R q g r1) 2
 
-  r-xg² : Reversed R (ℓ R q) (conv R (ind R) g²) (conv R 1ₛ G²)
-  r-xg² = r-degree R (omega arith) (r-mul R (r-ind R) r-g²)
+  r_xg² : Reversed R (ℓ R q) (conv R (ind R) g²) (conv R 1ₛ G²)
+  r_xg² = r_degree R (omega arith) (r_mul R (r_ind R) r_g²)
 
   -- u G² at k, where u = 1 + h₁ t² + h₂ t³ + ..
   product : (k : ℕ) → conv R u G² (suc k) ≡ G² (suc k) ⊕ sum R (λ j. u (suc (suc j)) ⊗ G² (suc k - suc (suc j))) k
   product k =
-      S.conv-sum R u G² (suc k) ∙ S.sum_first R (λ j. u j ⊗ G² (suc k - j)) (suc k)
-      ∙ ap₂ (λ y z. y ⊗ G² (suc k - 0) ⊕ z) (u-first R q d≥1 g r1)
-      (S.sum_first R (λ j. u (suc j) ⊗ G² (suc k - suc j)) k ∙ ap (λ y. y ⊗ G² (suc k - 1) ⊕ rest) (u-second R q d≥1 g r1))
+      S.conv_sum R u G² (suc k) ∙ S.sum_first R (λ j. u j ⊗ G² (suc k - j)) (suc k)
+      ∙ ap₂ (λ y z. y ⊗ G² (suc k - 0) ⊕ z) (u_first R q d≥1 g r1)
+      (S.sum_first R (λ j. u (suc j) ⊗ G² (suc k - suc j)) k ∙ ap (λ y. y ⊗ G² (suc k - 1) ⊕ rest) (u_second R q d≥1 g r1))
       ∙ ap (λ m. 𝟙 ⊗ G² m ⊕ (𝟘 ⊗ G² (suc k - 1) ⊕ rest)) (omega arith)
       ∙ three (G² (suc k)) (G² (suc k - 1)) rest
     where
@@ -88,29 +88,29 @@ module _ (R : CRing) (q : Question R) (d≥1 : 1 ≤ q.d) (g : Seq R) (r1 : R1 R
     abbrev h : Seq R
     h = expansion R A B s
 
-    h-at : (j : ℕ) → suc j < ℓ R q → u (suc (suc j)) ≡ h (suc j)
-    h-at j l =
-        sym (h-is R q d≥1 g r1 (suc j))
-        ∙ sym (expansion-same R A B (ℓ R q) s (power-sums R d g) (sums-only R d g (G-first R q d≥1 g r1) (ℓ R q) s sums) (suc j) l)
+    h_at : (j : ℕ) → suc j < ℓ R q → u (suc (suc j)) ≡ h (suc j)
+    h_at j l =
+        sym (h_is R q d≥1 g r1 (suc j))
+        ∙ sym (expansion_same R A B (ℓ R q) s (power_sums_of R d g) (sums_only R d g (G_first R q d≥1 g r1) (ℓ R q) s sums) (suc j) l)
 
     terms : (m : ℕ) → sum R (λ j. u (suc (suc j)) ⊗ G² (suc (2 * d - m) - suc (suc j))) (2 * d - m) ≡ sum_to R (λ i. h i ⊗ g² (m + i)) (2 * d - m)
     terms m =
         sum_same R _ (λ j. h (suc j) ⊗ g² (m + suc j)) (2 * d - m)
-        (λ j l. ap₂ ◌⊗◌ (h-at j (omega arith))
-        (ap (λ f. f (suc (2 * d - m) - suc (suc j))) (sym r-g².same) ∙ rev-sub R (2 * d) (suc (2 * d - m) - suc (suc j)) g² (omega arith) ∙ ap g²
+        (λ j l. ap₂ ◌⊗◌ (h_at j (omega arith))
+        (ap (λ f. f (suc (2 * d - m) - suc (suc j))) (sym r_g².same) ∙ rev_sub R (2 * d) (suc (2 * d - m) - suc (suc j)) g² (omega arith) ∙ ap g²
         (omega arith)))
 
     -- the coefficient of x^m, for m up to 2 d, from ℓ - m = 2 d - m + 1 of the reversals
     inside : (m : ℕ) → m ≤ 2 * d → N R q g m ≡ conv R (ind R) g² m ⊕ sum_to R (λ i. h i ⊗ g² (m + i)) (2 * d - m)
     inside m l =
-        ap (N R q g) (omega arith) ∙ sym (rev-sub R (ℓ R q) (suc (2 * d - m)) (N R q g) (omega arith))
-        ∙ ap (λ a. a (suc (2 * d - m))) (I.r-N R q g r1).same ∙ product (2 * d - m)
+        ap (N R q g) (omega arith) ∙ sym (rev_sub R (ℓ R q) (suc (2 * d - m)) (N R q g) (omega arith))
+        ∙ ap (λ a. a (suc (2 * d - m))) (I.r_N R q g r1).same ∙ product (2 * d - m)
         ∙ ap₂ ◌⊕◌ first (terms m)
       where
         first : G² (suc (2 * d - m)) ≡ conv R (ind R) g² m
         first =
-            ap (λ a. a (suc (2 * d - m))) (sym (r-xg².same ∙ Ring.one-mul (Series R) G²))
-            ∙ rev-sub R (ℓ R q) (suc (2 * d - m)) (conv R (ind R) g²) (omega arith) ∙ ap (conv R (ind R) g²) (omega arith)
+            ap (λ a. a (suc (2 * d - m))) (sym (r_xg².same ∙ Ring.one-mul (Series R) G²))
+            ∙ rev_sub R (ℓ R q) (suc (2 * d - m)) (conv R (ind R) g²) (omega arith) ∙ ap (conv R (ind R) g²) (omega arith)
 
     -- from x^ℓ on no term of the sum is left
     outside : (m : ℕ) → 2 * d < m → N R q g m ≡ conv R (ind R) g² m
@@ -118,10 +118,10 @@ module _ (R : CRing) (q : Question R) (d≥1 : 1 ≤ q.d) (g : Seq R) (r1 : R1 R
       where
         go : Dec (m ≤ ℓ R q) → N R q g m ≡ conv R (ind R) g² m
         go (yes k) =
-            ap (N R q g) (omega arith) ∙ N-monic.one
-            ∙ sym (ap (conv R (ind R) g²) (omega arith) ∙ sym (rev-first R (ℓ R q) (conv R (ind R) g²))
-            ∙ ap (λ a. a 0) (r-xg².same ∙ Ring.one-mul (Series R) G²) ∙ pow-first R G (I.G-first R q g r1) 2)
-        go (no k) = N-monic.below m (omega arith) ∙ sym (r-xg².below m (omega arith))
+            ap (N R q g) (omega arith) ∙ N_monic.one
+            ∙ sym (ap (conv R (ind R) g²) (omega arith) ∙ sym (rev_first R (ℓ R q) (conv R (ind R) g²))
+            ∙ ap (λ a. a 0) (r_xg².same ∙ Ring.one-mul (Series R) G²) ∙ pow_first R G (I.G_first R q g r1) 2)
+        go (no k) = N_monic.below m (omega arith) ∙ sym (r_xg².below m (omega arith))
 
     pub expanded : (m : ℕ) → N R q g m ≡ conv R (ind R) g² m ⊕ sum_to R (λ i. h i ⊗ g² (m + i)) (2 * d - m)
     unfolding sum

@@ -5,21 +5,21 @@ use Rattle.std.specs.Prelude.{◌≡◌, refl, [], ◌∷◌, ℕ, ◌*◌, ◌�
 use Rattle.std.proofs.Common.{sym, ◌∙◌, ap, arith}
 use Rattle.std.proofs.Math.Path.{ap₂}
 use Rattle.ring.specs.Ring
-use Rattle.ring.specs.Ring.{CRing, cast, cast-mul, pow}
+use Rattle.ring.specs.Ring.{CRing, cast, cast_mul, pow}
 use Rattle.ring.specs.Identity.{Ex, ring, at, solve3}
 use Rattle.ring.specs.Identity.Ex.{var, num, :1, ◌:+◌, ◌:-◌, ◌:*◌, :-◌, ◌:^◌}
 use Rattle.series.specs.Series.{Series, Seq, Euler, const, D, ∂, zeros}
 use Rattle.ring.specs.Derivative.{derive}
-use Rattle.series.specs.Indeterminate.{ind, D-is}
-use Rattle.series.specs.Reversal.{Reversed, r-degree, r-left, r-right, r-add, r-neg, r-mul, r-pow, r-up, r-const, r-cast, r-ind, r-down, r-D, r_back, r-zero}
+use Rattle.series.specs.Indeterminate.{ind, D_is}
+use Rattle.series.specs.Reversal.{Reversed, r_degree, r_left, r_right, r_add, r_neg, r_mul, r_pow, r_up, r_const, r_cast, r_ind, r_down, r_D, r_back, r_zero}
 use Rattle.isogeny.specs.Rules.{Question, R1, Meets, ℓ, f, N, W}
 use Rattle.isogeny.specs.Proof.Numerator.{slope}
 use Rattle.isogeny.specs.Proof.Equation as E
 use Rattle.isogeny.specs.Proof.Equation.{:t, :a, :ã, :u, :u', :u'', :F, :v, :Ψ}
 use Rattle.isogeny.specs.Proof.Infinity as I
-use Rattle.isogeny.specs.Proof.Degrees.{F, r-f}
-use Rattle.isogeny.specs.Proof.Infinity.{quad, reversed, power-sums, quot, Ψ}
-use Rattle.isogeny.specs.Proof.Conditions.{Ψ-zero}
+use Rattle.isogeny.specs.Proof.Degrees.{F, r_f}
+use Rattle.isogeny.specs.Proof.Infinity.{quad, reversed, power_sums_of, quot, Ψ}
+use Rattle.isogeny.specs.Proof.Conditions.{Ψ_zero}
 
 module _ (R : CRing) (q : Question R) where
   open q use {A, B, Ã, B̃, d}
@@ -62,41 +62,41 @@ module _ (R : CRing) (q : Question R) where
     G = reversed R q g
 
     abbrev u : Seq R
-    u = quot R q (power-sums R q g)
+    u = quot R q (power_sums_of R q g)
 
     abbrev v : Seq R
     v = u ⊖ D R u
 
-    pub r-W : Reversed R (3 * d) (w g) (v ⊗ G ^ 3)
-    r-W = r-down R (r-degree R (omega arith) (I.r-xW R q g r1))
+    pub r_W : Reversed R (3 * d) (w g) (v ⊗ G ^ 3)
+    r_W = r_down R (r_degree R (omega arith) (I.r_x_W R q g r1))
 
-    x-second : x ⊗ second g
+    x_second : x ⊗ second g
         ≡ x ⊗ f' ⊗ w g ⊗ g ⊕ # 2 ⊗ f R q ⊗ (D R (w g) ⊗ g ⊖ # 3 ⊗ w g ⊗ D R g) ⊖ # 3 ⊗ (x ⊗ N R q g ^ 2) ⊖ x ⊗ (κ Ã ⊗ g ^ 4)
     unfolding second
-    x-second =
+    x_second =
         ring (Series R) (at (Series R) (x ∷ f' ∷ f R q ∷ w g ∷ ∂ R (w g) ∷ g ∷ ∂ R g ∷ N R q g ∷ κ Ã ∷ []))
         (var 0 :* (var 1 :* var 3 :* var 5 :+ num 2 :* var 2 :* (var 4 :* var 5 :- num 3 :* var 3 :* var 6) :- num 3 :* var 7 :^ 2 :- var 8 :* var 5 :^ 4))
         (var 0 :* var 1 :* var 3 :* var 5 :+ num 2 :* var 2 :* (var 0 :* var 4 :* var 5 :- num 3 :* var 3 :* (var 0 :* var 6))
         :- num 3 :* (var 0 :* var 7 :^ 2) :- var 0 :* (var 8 :* var 5 :^ 4)) tt
         ∙ ap₂ (λ y z. x ⊗ f' ⊗ w g ⊗ g ⊕ # 2 ⊗ f R q ⊗ (y ⊗ g ⊖ # 3 ⊗ w g ⊗ z) ⊖ # 3 ⊗ (x ⊗ N R q g ^ 2) ⊖ x ⊗ (κ Ã ⊗ g ^ 4))
-        (D-is R (w g)) (D-is R g)
+        (D_is R (w g)) (D_is R g)
 
-    D-tangent : D R (v ⊗ G ^ 3) ≡ (D R u ⊖ D R (D R u)) ⊗ G ^ 3 ⊕ # 3 ⊗ v ⊗ G ^ 2 ⊗ D R G
-    D-tangent =
+    D_tangent : D R (v ⊗ G ^ 3) ≡ (D R u ⊖ D R (D R u)) ⊗ G ^ 3 ⊕ # 3 ⊗ v ⊗ G ^ 2 ⊗ D R G
+    D_tangent =
         derive (Series R) (Euler R) (u ∷ D R u ∷ G ∷ D R (D R u) ∷ D R G ∷ []) (var 1 ∷ var 3 ∷ var 4 ∷ []) (refl, (refl, (refl, tt)))
         ((var 0 :- var 1) :* var 2 :^ 3) ((var 1 :- var 3) :* var 2 :^ 3 :+ num 3 :* (var 0 :- var 1) :* var 2 :^ 2 :* var 4) tt tt
 
     -- G⁴ Ψ is a polynomial of degree at most 2 ℓ
-    pub r-second : Reversed R (2 * ℓ R q) (second g) (G ^ 4 ⊗ Ψ R q u)
+    pub r_second : Reversed R (2 * ℓ R q) (second g) (G ^ 4 ⊗ Ψ R q u)
     unfolding E.Ψ F quad slope
-    r-second =
-        r-down R (r-degree R (omega arith) (r-left R (sym x-second) (r-right R same
-        (r-add R (r-add R (r-add R
-        (r-mul R (r-mul R (I.r-quad R q) r-W) (I.r-g R q g r1))
-        (r-degree R (omega arith) (r-mul R (r-mul R (r-cast R 2) (r-f R q))
-        (r-add R (r-mul R (r-D R r-W) (I.r-g R q g r1)) (r-neg R (r-degree R (omega arith) (r-mul R (r-mul R (r-cast R 3) r-W) (I.r-slope R q g r1))))))))
-        (r-neg R (r-degree R (omega arith) (r-mul R (r-cast R 3) (r-mul R (r-ind R) (r-pow R (I.r-N R q g r1) 2))))))
-        (r-neg R (r-degree R (omega arith) (r-up R (r-up R (r-mul R (r-ind R) (r-mul R (r-const R Ã) (r-pow R (I.r-g R q g r1) 4)))))))))))
+    r_second =
+        r_down R (r_degree R (omega arith) (r_left R (sym x_second) (r_right R same
+        (r_add R (r_add R (r_add R
+        (r_mul R (r_mul R (I.r_quad R q) r_W) (I.r_g R q g r1))
+        (r_degree R (omega arith) (r_mul R (r_mul R (r_cast R 2) (r_f R q))
+        (r_add R (r_mul R (r_D R r_W) (I.r_g R q g r1)) (r_neg R (r_degree R (omega arith) (r_mul R (r_mul R (r_cast R 3) r_W) (I.r_slope R q g r1))))))))
+        (r_neg R (r_degree R (omega arith) (r_mul R (r_cast R 3) (r_mul R (r_ind R) (r_pow R (I.r_N R q g r1) 2))))))
+        (r_neg R (r_degree R (omega arith) (r_up R (r_up R (r_mul R (r_ind R) (r_mul R (r_const R Ã) (r_pow R (I.r_g R q g r1) 4)))))))))))
       where
         :G : Ex
         :G = var 8
@@ -114,7 +114,7 @@ module _ (R : CRing) (q : Question R) where
         same =
             ap₂ (λ m y. quad R q ⊗ (v ⊗ G ^ 3) ⊗ G
             ⊕ # 2 ⊗ F R q ⊗ ((m ⊗ (v ⊗ G ^ 3) ⊖ y) ⊗ G ⊖ # 3 ⊗ (v ⊗ G ^ 3) ⊗ (# d ⊗ G ⊖ D R G))
-            ⊖ # 3 ⊗ (𝟙 ⊗ (u ⊗ G ^ 2) ^ 2) ⊖ t ⊗ (t ⊗ (𝟙 ⊗ (κ Ã ⊗ G ^ 4)))) (cast-mul (Series R) 3 d) D-tangent
+            ⊖ # 3 ⊗ (𝟙 ⊗ (u ⊗ G ^ 2) ^ 2) ⊖ t ⊗ (t ⊗ (𝟙 ⊗ (κ Ã ⊗ G ^ 4)))) (cast_mul (Series R) 3 d) D_tangent
             ∙ ring (Series R) (at (Series R) (t ∷ κ A ∷ κ B ∷ κ Ã ∷ κ B̃ ∷ u ∷ D R u ∷ D R (D R u) ∷ G ∷ D R G ∷ # d ∷ []))
             ((num 3 :+ :a :* :t :^ 2) :* (:v :* :G :^ 3) :* :G
             :+ num 2 :* :F
@@ -123,13 +123,13 @@ module _ (R : CRing) (q : Question R) where
             :- num 3 :* (:1 :* (:u :* :G :^ 2) :^ 2) :- :t :* (:t :* (:1 :* (:ã :* :G :^ 4))))
             (:G :^ 4 :* :Ψ) tt
 
-  pub second-zero : 1 ≤ d → (g : Seq R) → Meets R q g → second g ≡ zeros R
-  second-zero d≥1 g meets =
-      r_back R (ap (λ y. reversed R q g ^ 4 ⊗ y) (Ψ-zero R q d≥1 g meets.r1 meets.r3) ∙ Ring.mul-zero (Series R) _) (r-second g meets.r1)
-      (r-zero R (2 * ℓ R q))
+  pub second_zero : 1 ≤ d → (g : Seq R) → Meets R q g → second g ≡ zeros R
+  second_zero d≥1 g meets =
+      r_back R (ap (λ y. reversed R q g ^ 4 ⊗ y) (Ψ_zero R q d≥1 g meets.r1 meets.r3) ∙ Ring.mul-zero (Series R) _) (r_second g meets.r1)
+      (r_zero R (2 * ℓ R q))
 
   -- where g meets the rules, f' w g + 2 f (W' g − 3 w g') = 3 N² + Ã g⁴
   pub tangent : 1 ≤ d → (g : Seq R) → Meets R q g
       → f' ⊗ w g ⊗ g ⊕ # 2 ⊗ f R q ⊗ (∂ R (w g) ⊗ g ⊖ # 3 ⊗ w g ⊗ ∂ R g) ≡ # 3 ⊗ N R q g ^ 2 ⊕ κ Ã ⊗ g ^ 4
   unfolding second
-  tangent d≥1 g meets = Ring.sub-zero (Series R) _ _ (solve3 (Series R) (λ y n a. y :- (n :+ a)) (λ y n a. y :- n :- a) tt _ _ _ ∙ second-zero d≥1 g meets)
+  tangent d≥1 g meets = Ring.sub-zero (Series R) _ _ (solve3 (Series R) (λ y n a. y :- (n :+ a)) (λ y n a. y :- n :- a) tt _ _ _ ∙ second_zero d≥1 g meets)

@@ -9,20 +9,20 @@ use Rattle.ring.specs.Ring
 use Rattle.ring.specs.Ring.{CRing, pow, pow-zero, pow-suc}
 use Rattle.ring.specs.Identity.{solve3}
 use Rattle.ring.specs.Identity.Ex.{:1, ◌:+◌, ◌:-◌, ◌:*◌}
-use Rattle.series.specs.Series.{Series, Seq, tail, head-then}
-use Rattle.series.specs.Local.{conv-local}
+use Rattle.series.specs.Series.{Series, Seq, tail, head_then}
+use Rattle.series.specs.Local.{conv_local}
 use Rattle.series.specs.Recursion.{Before}
-use Rattle.series.specs.Degree.{Below, Monic, below-drop, negs-below}
-use Rattle.series.specs.ConstantTerm.{pow-first}
-use Rattle.series.specs.Indeterminate.{ind, conv-ind}
-use Rattle.series.specs.Reversal.{rev, rev-first, rev-sub, rev-past, Reversed, r-degree, r-left, r-right, r-add, r-neg, r-mul, r-pow, r-const, r-ind}
+use Rattle.series.specs.Degree.{Below, Monic, below_drop, negs_below}
+use Rattle.series.specs.ConstantTerm.{pow_first}
+use Rattle.series.specs.Indeterminate.{ind, conv_ind}
+use Rattle.series.specs.Reversal.{rev, rev_first, rev_sub, rev_past, Reversed, r_degree, r_left, r_right, r_add, r_neg, r_mul, r_pow, r_const, r_ind}
 use Rattle.isogeny.specs.Rules.{R1, N}
-use Rattle.isogeny.specs.Expansion.{expansion, power-sums}
+use Rattle.isogeny.specs.Expansion.{expansion, power_sums_of}
 use Rattle.isogeny.specs.Proof.Infinity as I
 use Rattle.isogeny.specs.Proof.Infinity.{quot, reversed}
-use Rattle.isogeny.specs.Proof.Conditions.{u-first}
-use Rattle.isogeny.specs.Proof.Sums.{h-series}
-use Rattle.kernel_sum.specs.WithoutSum.{with-sum, Found}
+use Rattle.isogeny.specs.Proof.Conditions.{u_first}
+use Rattle.isogeny.specs.Proof.Sums.{h_series}
+use Rattle.kernel_sum.specs.WithoutSum.{with_sum, Found}
 
 module _ (R : CRing) where
   open Series R use {𝟙, add as ◌⊕◌, mul as ◌⊗◌, neg, mul-one, mul_comm}
@@ -40,27 +40,27 @@ module _ (R : CRing) where
   x = ind R
 
   -- xᵏ reversed is 1
-  r-x : (k : ℕ) → Reversed R k (x ^ k) 𝟙
-  r-x zero = r-left R (sym (pow-zero (Series R) x)) (r-const R R.𝟙)
-  r-x (suc k) = r-left R (sym (pow-suc (Series R) x k)) (r-right R (mul-one 𝟙) (r-degree R (omega arith) (r-mul R (r-ind R) (r-x k))))
+  r_x : (k : ℕ) → Reversed R k (x ^ k) 𝟙
+  r_x zero = r_left R (sym (pow-zero (Series R) x)) (r_const R R.𝟙)
+  r_x (suc k) = r_left R (sym (pow-suc (Series R) x k)) (r_right R (mul-one 𝟙) (r_degree R (omega arith) (r_mul R (r_ind R) (r_x k))))
 
   -- a polynomial whose reversal begins with 0 has a smaller degree
-  r-drop : {n : ℕ} {P Q : Seq R} → Reversed R (suc n) P (x ⊗ Q) → Reversed R n P Q
+  r_drop : {n : ℕ} {P Q : Seq R} → Reversed R (suc n) P (x ⊗ Q) → Reversed R n P Q
   unfolding rev
-  r-drop {n} {P} {Q} h = record {
-    below = below-drop R (suc n) P h.below (ap (λ f. f 0) (h.same ∙ conv-ind R Q));
-    same = fun_ext λ i. ap (λ f. f (suc i)) (h.same ∙ conv-ind R Q);
+  r_drop {n} {P} {Q} h = record {
+    below = below_drop R (suc n) P h.below (ap (λ f. f 0) (h.same ∙ conv_ind R Q));
+    same = fun_ext λ i. ap (λ f. f (suc i)) (h.same ∙ conv_ind R Q);
   }
 
-  module _ (A B Ã B̃ : R.Car) (d : ℕ) (d≥1 : 1 ≤ d) (σ : R.Car) (g : Seq R) (r1 : R1 R (with-sum R A B Ã B̃ d σ) g) where
+  module _ (A B Ã B̃ : R.Car) (d : ℕ) (d≥1 : 1 ≤ d) (σ : R.Car) (g : Seq R) (r1 : R1 R (with_sum R A B Ã B̃ d σ) g) where
     abbrev n : Seq R
-    n = N R (with-sum R A B Ã B̃ d σ) g
+    n = N R (with_sum R A B Ã B̃ d σ) g
 
     abbrev G : Seq R
-    G = reversed R (with-sum R A B Ã B̃ d σ) g
+    G = reversed R (with_sum R A B Ã B̃ d σ) g
 
     abbrev u : Seq R
-    u = quot R (with-sum R A B Ã B̃ d σ) (I.power-sums R (with-sum R A B Ã B̃ d σ) g)
+    u = quot R (with_sum R A B Ã B̃ d σ) (I.power_sums_of R (with_sum R A B Ã B̃ d σ) g)
 
     -- 0, h₁, h₂, ..
     abbrev hs : Seq R
@@ -69,31 +69,31 @@ module _ (R : CRing) where
     abbrev pub M : Seq R
     M = n ⊖ x ⊗ g ^ 2
 
-    r-g² : Reversed R (2 * d) (g ^ 2) (G ^ 2)
-    r-g² = r-pow R (I.r-g R (with-sum R A B Ã B̃ d σ) g r1) 2
+    r_g² : Reversed R (2 * d) (g ^ 2) (G ^ 2)
+    r_g² = r_pow R (I.r_g R (with_sum R A B Ã B̃ d σ) g r1) 2
 
-    pub g²-monic : Monic R (2 * d) (g ^ 2)
-    g²-monic = record {
-      below = r-g².below;
-      one = sym (rev-first R (2 * d) (g ^ 2)) ∙ ap (λ f. f 0) r-g².same ∙ pow-first R G (I.G-first R (with-sum R A B Ã B̃ d σ) g r1) 2;
+    pub g²_monic : Monic R (2 * d) (g ^ 2)
+    g²_monic = record {
+      below = r_g².below;
+      one = sym (rev_first R (2 * d) (g ^ 2)) ∙ ap (λ f. f 0) r_g².same ∙ pow_first R G (I.G_first R (with_sum R A B Ã B̃ d σ) g r1) 2;
     }
 
-    u-is : u ≡ 𝟙 ⊕ x ⊗ hs
-    u-is = fun_ext go ∙ ap (λ y. 𝟙 ⊕ y) (sym (conv-ind R hs))
+    u_is : u ≡ 𝟙 ⊕ x ⊗ hs
+    u_is = fun_ext go ∙ ap (λ y. 𝟙 ⊕ y) (sym (conv_ind R hs))
       where
-        go : (i : ℕ) → u i ≡ R.add (𝟙 i) (head-then R R.𝟘 hs i)
-        go zero = u-first R (with-sum R A B Ã B̃ d σ) d≥1 g r1 ∙ sym (R.add-zero _)
+        go : (i : ℕ) → u i ≡ R.add (𝟙 i) (head_then R R.𝟘 hs i)
+        go zero = u_first R (with_sum R A B Ã B̃ d σ) d≥1 g r1 ∙ sym (R.add-zero _)
         go (suc i) = sym (Ring.zero-add R _)
 
-    r-M : Reversed R (2 * d) M (hs ⊗ G ^ 2)
-    r-M =
-        r-drop
-        (r-degree R (omega arith)
-        (r-right R
-        (ap (λ y. y ⊗ G ^ 2 ⊖ 𝟙 ⊗ G ^ 2) u-is ∙ solve3 (Series R) (λ x h g. (:1 :+ x :* h) :* g :- :1 :* g) (λ x h g. x :* (h :* g)) tt x hs (G ^ 2))
-        (r-add R (I.r-N R (with-sum R A B Ã B̃ d σ) g r1) (r-neg R (r-degree R (omega arith) (r-mul R (r-ind R) r-g²))))))
+    r_M : Reversed R (2 * d) M (hs ⊗ G ^ 2)
+    r_M =
+        r_drop
+        (r_degree R (omega arith)
+        (r_right R
+        (ap (λ y. y ⊗ G ^ 2 ⊖ 𝟙 ⊗ G ^ 2) u_is ∙ solve3 (Series R) (λ x h g. (:1 :+ x :* h) :* g :- :1 :* g) (λ x h g. x :* (h :* g)) tt x hs (G ^ 2))
+        (r_add R (I.r_N R (with_sum R A B Ã B̃ d σ) g r1) (r_neg R (r_degree R (omega arith) (r_mul R (r_ind R) r_g²))))))
 
-    module _ (h : Seq R) (same : Before R.Car (4 * d + 1) h (expansion R A B (power-sums R d g))) where
+    module _ (h : Seq R) (same : Before R.Car (4 * d + 1) h (expansion R A B (power_sums_of R d g))) where
       -- h₁ x^(4d − 1) + .. + h_(4d), and the rest
       abbrev H : Seq R
       H = rev R (4 * d) h
@@ -101,39 +101,39 @@ module _ (R : CRing) where
       abbrev E : Seq R
       E = g ^ 2 ⊗ H ⊕ neg M ⊗ x ^ (4 * d)
 
-      r-H : Reversed R (4 * d) H (rev R (4 * d) H)
-      r-H = record { below = λ i l. rev-past R (4 * d) i h l; same = refl }
+      r_H : Reversed R (4 * d) H (rev R (4 * d) H)
+      r_H = record { below = λ i l. rev_past R (4 * d) i h l; same = refl }
 
-      H-at : (i : ℕ) → i ≤ 4 * d → rev R (4 * d) H i ≡ hs i
-      H-at i l =
-          rev-sub R (4 * d) i H l ∙ rev-sub R (4 * d) (4 * d - i) h (omega arith) ∙ ap h (omega arith) ∙ same i (omega arith)
-          ∙ ap (λ f. f i) (h-series R (with-sum R A B Ã B̃ d σ) d≥1 g r1)
+      H_at : (i : ℕ) → i ≤ 4 * d → rev R (4 * d) H i ≡ hs i
+      H_at i l =
+          rev_sub R (4 * d) i H l ∙ rev_sub R (4 * d) (4 * d - i) h (omega arith) ∙ ap h (omega arith) ∙ same i (omega arith)
+          ∙ ap (λ f. f i) (h_series R (with_sum R A B Ã B̃ d σ) d≥1 g r1)
 
-      r-E : Reversed R (6 * d) E (G ^ 2 ⊗ rev R (4 * d) H ⊕ neg (hs ⊗ G ^ 2) ⊗ 𝟙)
-      r-E =
-          r-add R (r-degree R (omega arith) (r-mul R r-g² r-H)) (r-degree R (omega arith) (r-mul R (r-neg R r-M) (r-x (4 * d))))
+      r_E : Reversed R (6 * d) E (G ^ 2 ⊗ rev R (4 * d) H ⊕ neg (hs ⊗ G ^ 2) ⊗ 𝟙)
+      r_E =
+          r_add R (r_degree R (omega arith) (r_mul R r_g² r_H)) (r_degree R (omega arith) (r_mul R (r_neg R r_M) (r_x (4 * d))))
 
       begins : (i : ℕ) → i ≤ 4 * d → (G ^ 2 ⊗ rev R (4 * d) H ⊕ neg (hs ⊗ G ^ 2) ⊗ 𝟙) i ≡ R.𝟘
       begins i l =
-          ap₂ R.add (conv-local R i (G ^ 2) (G ^ 2) (rev R (4 * d) H) hs (λ j k. refl) (λ j k. H-at j (omega arith)))
+          ap₂ R.add (conv_local R i (G ^ 2) (G ^ 2) (rev R (4 * d) H) hs (λ j k. refl) (λ j k. H_at j (omega arith)))
           (ap (λ f. f i) (mul-one (neg (hs ⊗ G ^ 2))))
           ∙ ap (λ f. R.add (f i) (R.neg ((hs ⊗ G ^ 2) i))) (mul_comm (G ^ 2) hs) ∙ R.add-neg _
 
-      E-below : Below R (2 * d) E
-      E-below i l = go (dec_le i (6 * d))
+      E_below : Below R (2 * d) E
+      E_below i l = go (dec_le i (6 * d))
         where
           go : Dec (i ≤ 6 * d) → E i ≡ R.𝟘
           go (yes k) =
-              ap E (omega arith) ∙ sym (rev-sub R (6 * d) (6 * d - i) E (omega arith)) ∙ ap (λ f. f (6 * d - i)) r-E.same ∙ begins (6 * d - i) (omega arith)
-          go (no k) = r-E.below i (omega arith)
+              ap E (omega arith) ∙ sym (rev_sub R (6 * d) (6 * d - i) E (omega arith)) ∙ ap (λ f. f (6 * d - i)) r_E.same ∙ begins (6 * d - i) (omega arith)
+          go (no k) = r_E.below i (omega arith)
 
       pub approximant : Found R d h E (g ^ 2)
       approximant = record {
         s = neg M;
-        poly-s = (suc (2 * d), negs-below R (suc (2 * d)) M r-M.below);
+        poly_s = (suc (2 * d), negs_below R (suc (2 * d)) M r_M.below);
         is = refl;
-        r-below = E-below;
-        t-below = g²-monic.below;
+        r_below = E_below;
+        t_below = g²_monic.below;
       }
 
       -- with the cofactor −M

@@ -8,15 +8,15 @@ use Rattle.ring.specs.Field.{Field}
 use Rattle.ring.specs.Identity.{solve3}
 use Rattle.ring.specs.Identity.Ex.{var, num, ◌:+◌, ◌:-◌, ◌:*◌, :-◌, ◌:^◌}
 use Rattle.series.specs.Series.{Series, Seq, const, ∂}
-use Rattle.series.specs.Degree.{Polys, poly-eval, poly-const}
-use Rattle.series.specs.Indeterminate.{ind, cast-series, const-add, const-mul, const-pow}
-use Rattle.series.specs.Binomial.{poly-ind}
+use Rattle.series.specs.Degree.{Polys, poly_eval, poly_const}
+use Rattle.series.specs.Indeterminate.{ind, cast_series, const_add, const_mul, const_pow}
+use Rattle.series.specs.Binomial.{poly_ind}
 use Rattle.isogeny.specs.Curve.{Nonsingular, discriminant}
 use Rattle.isogeny.specs.Rules.{Question, f}
 use Rattle.isogeny.specs.Source.{quadratic}
 use Rattle.isogeny.specs.Proof.Cubic.{∂-f}
 use Rattle.divisibility.specs.Divides.{SquareFree}
-use Rattle.divisibility.specs.Coprime.{Bezout, bezout-unit, coprime-square-free}
+use Rattle.divisibility.specs.Coprime.{Bezout, bezout_unit, coprime_square_free}
 
 module _ (R : CRing) (q : Question R) where
   open q use {A, B}
@@ -45,7 +45,7 @@ module _ (R : CRing) (q : Question R) where
   xs = x ∷ κ A ∷ κ B ∷ []
 
   abbrev polys : Polys R xs
-  polys = (poly-ind R, (poly-const R A, (poly-const R B, tt)))
+  polys = (poly_ind R, (poly_const R A, (poly_const R B, tt)))
 
   -- 4 A³ + 27 B² = u f + v f'
   abbrev u : Seq R
@@ -62,19 +62,19 @@ module _ (R : CRing) (q : Question R) where
       :+ (num 4 :* a :^ 2 :+ num 3 :* (num 2 :* a :* x :- num 3 :* b) :* x) :* (num 3 :* x :^ 2 :+ a))
       (λ x a b. num 4 :* a :^ 3 :+ num 27 :* b :^ 2) tt x (κ A) (κ B)
       ∙ ap₂ ◌⊕◌
-      (ap₂ ◌⊗◌ (cast-series R 4) (const-pow R A 3) ∙ const-mul R _ _)
-      (ap₂ ◌⊗◌ (cast-series R 27) (const-pow R B 2) ∙ const-mul R _ _)
-      ∙ const-add R _ _
+      (ap₂ ◌⊗◌ (cast_series R 4) (const_pow R A 3) ∙ const_mul R _ _)
+      (ap₂ ◌⊗◌ (cast_series R 27) (const_pow R B 2) ∙ const_mul R _ _)
+      ∙ const_add R _ _
 
   bezout : Bezout R (f R q) (∂ R (f R q)) (κ (discriminant R A B))
   bezout = record {
     u = u;
     v = v;
-    poly-u = poly-eval R xs polys (:- (num 9 :* (num 2 :* var 1 :* var 0 :- num 3 :* var 2)));
-    poly-v = poly-eval R xs polys (num 4 :* var 1 :^ 2 :+ num 3 :* (num 2 :* var 1 :* var 0 :- num 3 :* var 2) :* var 0);
+    poly_u = poly_eval R xs polys (:- (num 9 :* (num 2 :* var 1 :* var 0 :- num 3 :* var 2)));
+    poly_v = poly_eval R xs polys (num 4 :* var 1 :^ 2 :+ num 3 :* (num 2 :* var 1 :* var 0 :- num 3 :* var 2) :* var 0);
     is = ap (λ y. u ⊗ f R q ⊕ v ⊗ y) (∂-f R q) ∙ combination;
   }
 
-  pub square-free-f : Field R → Nonsingular R A B → SquareFree R (f R q)
-  square-free-f F nonsingular =
-      coprime-square-free R F (f R q) (bezout-unit R (f R q) (∂ R (f R q)) (discriminant R A B) (F.invert (discriminant R A B) nonsingular) bezout)
+  pub square_free_f : Field R → Nonsingular R A B → SquareFree R (f R q)
+  square_free_f F nonsingular =
+      coprime_square_free R F (f R q) (bezout_unit R (f R q) (∂ R (f R q)) (discriminant R A B) (F.invert (discriminant R A B) nonsingular) bezout)

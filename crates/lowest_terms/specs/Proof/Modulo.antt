@@ -63,7 +63,7 @@ abbrev pub :T : Ex
 
 module _ (K : CRing) (δ : Derivation K) where
   open K use {Car, 𝟘, 𝟙, add as ◌⊕◌, mul as ◌⊗◌, neg}
-  open δ use {d, d-mul}
+  open δ use {d, d_mul}
 
   infixl 65 ◌⊕◌ ◌⊖◌
   infixl 70 ◌⊗◌
@@ -96,9 +96,9 @@ module _ (K : CRing) (δ : Derivation K) where
         (ring K (at K letters) (:f :* (num 2 :* :π' :* :k) :^ 2 :* :M :^ 2 :- (:M :^ 3 :+ :π :* :S)) (:1 :* :whole) tt)
 
     -- with π f and π M for f and M
-    rest-once : rest K δ π k (π ⊗ M) ≡ π ⊗ (π ⊗ (d M ⊗ k ⊖ # 2 ⊗ M ⊗ d k) ⊖ d π ⊗ k ⊗ M)
-    rest-once =
-        ap (λ x. π ⊗ (x ⊗ k ⊖ # 2 ⊗ (π ⊗ M) ⊗ d k) ⊖ # 2 ⊗ d π ⊗ k ⊗ (π ⊗ M)) (d-mul π M)
+    rest_once : rest K δ π k (π ⊗ M) ≡ π ⊗ (π ⊗ (d M ⊗ k ⊖ # 2 ⊗ M ⊗ d k) ⊖ d π ⊗ k ⊗ M)
+    rest_once =
+        ap (λ x. π ⊗ (x ⊗ k ⊖ # 2 ⊗ (π ⊗ M) ⊗ d k) ⊖ # 2 ⊗ d π ⊗ k ⊗ (π ⊗ M)) (d_mul π M)
         ∙ ring K (at K letters) (:π :* ((:π' :* :M :+ :π :* :M') :* :k :- num 2 :* (:π :* :M) :* :k') :- num 2 :* :π' :* :k :* (:π :* :M))
         (:π :* (:π :* :U :- :π' :* :k :* :M)) tt
 
@@ -106,18 +106,18 @@ module _ (K : CRing) (δ : Derivation K) where
     abbrev pub once : Car
     once = f ⊗ (π ⊗ (d M ⊗ k ⊖ # 2 ⊗ M ⊗ d k) ⊖ d π ⊗ k ⊗ M) ^ 2 ⊖ (M ^ 3 ⊕ ã ⊗ π ^ 2 ⊗ M ⊗ k ^ 4 ⊕ b̃ ⊗ π ^ 3 ⊗ k ^ 6)
 
-    pub once-zero : (π ⊗ f) ⊗ rest K δ π k (π ⊗ M) ^ 2 ≡ (π ⊗ M) ^ 3 ⊕ ã ⊗ π ^ 4 ⊗ (π ⊗ M) ⊗ k ^ 4 ⊕ b̃ ⊗ π ^ 6 ⊗ k ^ 6 → π ^ 3 ⊗ once ≡ 𝟘
-    once-zero e =
+    pub once_zero : (π ⊗ f) ⊗ rest K δ π k (π ⊗ M) ^ 2 ≡ (π ⊗ M) ^ 3 ⊕ ã ⊗ π ^ 4 ⊗ (π ⊗ M) ⊗ k ^ 4 ⊕ b̃ ⊗ π ^ 6 ⊗ k ^ 6 → π ^ 3 ⊗ once ≡ 𝟘
+    once_zero e =
         ring K (at K letters) (:π :^ 3 :* :once)
         ((:π :* :f) :* (:π :* (:π :* :U :- :π' :* :k :* :M)) :^ 2
         :- ((:π :* :M) :^ 3 :+ :ã :* :π :^ 4 :* (:π :* :M) :* :k :^ 4 :+ :b̃ :* :π :^ 6 :* :k :^ 6)) tt
-        ∙ ap (λ x. (π ⊗ f) ⊗ x ^ 2 ⊖ ((π ⊗ M) ^ 3 ⊕ ã ⊗ π ^ 4 ⊗ (π ⊗ M) ⊗ k ^ 4 ⊕ b̃ ⊗ π ^ 6 ⊗ k ^ 6)) (sym rest-once)
+        ∙ ap (λ x. (π ⊗ f) ⊗ x ^ 2 ⊖ ((π ⊗ M) ^ 3 ⊕ ã ⊗ π ^ 4 ⊗ (π ⊗ M) ⊗ k ^ 4 ⊕ b̃ ⊗ π ^ 6 ⊗ k ^ 6)) (sym rest_once)
         ∙ ap (λ x. x ⊖ ((π ⊗ M) ^ 3 ⊕ ã ⊗ π ^ 4 ⊗ (π ⊗ M) ⊗ k ^ 4 ⊕ b̃ ⊗ π ^ 6 ⊗ k ^ 6)) e
         ∙ K.add-neg _
 
-    pub modulo-once : once ≡ 𝟘 → f ⊗ (d π ⊗ k) ^ 2 ⊗ M ^ 2 ≡ M ^ 3 ⊕ π ⊗ S₁
+    pub modulo_once : once ≡ 𝟘 → f ⊗ (d π ⊗ k) ^ 2 ⊗ M ^ 2 ≡ M ^ 3 ⊕ π ⊗ S₁
     unfolding S₁
-    modulo-once e =
+    modulo_once e =
         combine1 K _ _ 𝟙 _ _ e
         (ring K (at K letters) (:f :* (:π' :* :k) :^ 2 :* :M :^ 2 :- (:M :^ 3 :+ :π :* :S₁)) (:1 :* (:once :- :0)) tt)
 

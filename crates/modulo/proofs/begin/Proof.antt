@@ -3,7 +3,7 @@ use mathlib.Core.Path.{sym, subst}
 use Prim.Native.Nat.{◌/◌, ◌^◌}
 use lib.ListN.{length, set}
 use Rattle.modulo.specs.Modulo.{RemainderOf}
-use Rattle.modulo.specs.Power.{x-to, power-begins}
+use Rattle.modulo.specs.Power.{x_to, power_begins}
 use borrow.Author.Rules.{rules}
 use Rattle.modulo.proofs.begin.Statement.{statement}
 use Rattle.modulo.proofs.begin.Tie as tie
@@ -39,8 +39,8 @@ returns c =
     let n = length a.r.now in (
       at-leading.leading-below.ensures.0,
       λ g.
-          subst (λ l. RemainderOf a.p n g (x-to a.p (a.p / 2 ^ i)) (set l (a.p / 2 ^ i) 1)) (sym at_clear.clear.ensures)
-          (power-begins a.p n (a.p / 2 ^ i) start.requires.1 at-leading.leading-below.ensures.1 g),
+          subst (λ l. RemainderOf a.p n g (x_to a.p (a.p / 2 ^ i)) (set l (a.p / 2 ^ i) 1)) (sym at_clear.clear.ensures)
+          (power_begins a.p n (a.p / 2 ^ i) start.requires.1 at-leading.leading-below.ensures.1 g),
     )
 
 pub begin-spec : {M : Type 1} → statement M

@@ -6,7 +6,7 @@ use lib.ListN.{length, length-set}
 use Rattle.slices.specs.Filling.{Filled, filled_none, filled_more}
 use Rattle.series.specs.Series.{negs}
 use Rattle.zmod.specs.Zmod.{Zmod, minus}
-use Rattle.zmod.specs.Residues.{poly, poly-at, residue-same, residues-filled}
+use Rattle.zmod.specs.Residues.{poly, poly_at, residue_same, residues_filled}
 use Rattle.poly.specs.Stored.{Of}
 use borrow.Author.Rules.{rules}
 use Rattle.modulo.proofs.negated.Statement.{statement}
@@ -61,7 +61,7 @@ loop-again c =
       simp length-set loop.invariant.0,
       omega arith,
       filled_more (Of a.p (negs (Zmod a.p) (poly a.p a.a.now))) loop.out loop.k _ (omega (arith, loop.invariant.0)) loop.invariant.2
-          (residue-same (ap (minus a.p) (sym (poly-at a.p a.a.now loop.k))) at-negate.negate.ensures),
+          (residue_same (ap (minus a.p) (sym (poly_at a.p a.a.now loop.k))) at-negate.negate.ensures),
     )
 
 same_length : tie.Need-same-length invariant-loop decreases-loop
@@ -73,7 +73,7 @@ returns c =
     let start = at-loop.before.before.before in
     let loop = at-loop.loop in
     let a = start.args in
-    residues-filled {a = negs (Zmod a.p) (poly a.p a.a.now)} (omega (arith, start.requires.1 0)) (λ j l. loop.invariant.2 j (omega (arith, loop.invariant.0)))
+    residues_filled {a = negs (Zmod a.p) (poly a.p a.a.now)} (omega (arith, start.requires.1 0)) (λ j l. loop.invariant.2 j (omega (arith, loop.invariant.0)))
 
 pub negated-spec : {M : Type 1} → statement M
 negated-spec = tie.close (tie.spec invariant-loop decreases-loop loop-holds mul-negate shared-slice-read-negate negate-requires mul-out slice-write-out add-k loop-less

@@ -1,6 +1,6 @@
 -- `naming::j_value` meets its contract. Assumes nothing.
 use borrow.Author.Rules.{rules}
-use Rattle.naming.proofs.JValues.{positive, j-is}
+use Rattle.naming.proofs.JValues.{positive, j_is}
 use Rattle.naming.proofs.j_value.Statement.{statement}
 use Rattle.naming.proofs.j_value.Tie as tie
 
@@ -33,7 +33,7 @@ returns c =
     let divisor = square.before.before in
     let start = divisor.before in (
       c.multiply5.ensures.below,
-      j-is start.args.p start.args.a start.args.b divisor.discriminant-of.ensures square.before.inverse.ensures square.multiply.ensures
+      j_is start.args.p start.args.a start.args.b divisor.discriminant-of.ensures square.before.inverse.ensures square.multiply.ensures
           c.before.before.before.multiply2.ensures c.before.before.multiply3.ensures c.before.multiply4.ensures c.multiply5.ensures,
     )
 

@@ -3,7 +3,7 @@ use borrow.Author.Rules.{rules}
 use native.Mathlib.Nat.{le_of_lt}
 use native.Mathlib.Omega.{arith}
 use Rattle.questions.specs.Tests.{refuted, shown}
-use Rattle.naming.proofs.Names.{no-prime, a-large, b-large, singular, named}
+use Rattle.naming.proofs.Names.{no_prime, a_large, b_large, singular, named}
 use Rattle.naming.proofs.name_number.Statement.{statement}
 use Rattle.naming.proofs.name_number.Tie as tie
 
@@ -13,19 +13,19 @@ prime-allowed-requires c κs = search rules
 returns : tie.Need-returns
 returns c =
     let start = c.before.before in
-    no-prime start.args.p start.args.a start.args.b (refuted c.before.prime-allowed.ensures c.if1.true)
+    no_prime start.args.p start.args.a start.args.b (refuted c.before.prime-allowed.ensures c.if1.true)
 
 returns-2 : tie.Need-returns-2
 returns-2 c =
     let one = c.before in
     let start = one.before.before in
-    a-large start.args.p start.args.a start.args.b (shown one.before.prime-allowed.ensures one.if1.false) (omega (arith, c.if2.true))
+    a_large start.args.p start.args.a start.args.b (shown one.before.prime-allowed.ensures one.if1.false) (omega (arith, c.if2.true))
 
 returns-3 : tie.Need-returns-3
 returns-3 c =
     let one = c.before.before in
     let start = one.before.before in
-    b-large start.args.p start.args.a start.args.b (shown one.before.prime-allowed.ensures one.if1.false) (omega (arith, c.if3.true))
+    b_large start.args.p start.args.a start.args.b (shown one.before.prime-allowed.ensures one.if1.false) (omega (arith, c.if3.true))
 
 nonsingular-requires : tie.Need-nonsingular-requires
 nonsingular-requires c κs =

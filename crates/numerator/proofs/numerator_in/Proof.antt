@@ -9,12 +9,12 @@ products-requires c κs = search rules
 sum-of-parts-requires : tie.Need-sum-of-parts-requires
 sum-of-parts-requires c κs =
     let at-products = c.before.before.before.before.before.before.before.before.before.before.before.before.before.before.before.before.before.before in
-    let at-start = at-products.before.before.before.before.before.before.before.before.before.before.before.before.before.before.before.before.before in
+    let at_start = at-products.before.before.before.before.before.before.before.before.before.before.before.before.before.before.before.before.before in
     let hold = at-products.products.ensures in (
-      at-start.pre.0.0,
-      hold.square-is.reduced,
-      hold.slope-is.reduced,
-      hold.bend-is.reduced,
+      at_start.pre.0.0,
+      hold.square_is.reduced,
+      hold.slope_is.reduced,
+      hold.bend_is.reduced,
     )
 
 same_length : tie.Need-same-length

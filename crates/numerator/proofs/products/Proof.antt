@@ -3,8 +3,8 @@
 use native.Mathlib.Omega.{arith}
 use borrow.Author.Rules.{rules}
 use Rattle.rows.specs.Room.{turns_fit}
-use Rattle.rules.specs.Over.{over-reduced, over-square}
-use Rattle.numerator.proofs.ProductSteps.{products-steps}
+use Rattle.rules.specs.Over.{over_reduced, over_square}
+use Rattle.numerator.proofs.ProductSteps.{products_steps}
 use Rattle.numerator.proofs.products.Statement.{statement}
 use Rattle.numerator.proofs.products.Tie as tie
 
@@ -36,7 +36,7 @@ square-requires c κs =
     let ready = begin.requires.0.0 in (
       (
         over.prepared,
-        over-reduced over a.g.now holds.reduced,
+        over_reduced over a.g.now holds.reduced,
         turns_fit _ _ _ (omega (arith, over.same, ready.prime)) (omega (
           arith,
           holds.count,
@@ -52,7 +52,7 @@ slope-of-requires c κs =
     let s = start first in (
       omega (arith, s.pre.0.0.prime.least),
       omega (arith, s.pre.0.0.prime),
-      (over-square s.pre.0.2 s.args.g.now first.square.new.1.1.1.0 first.square.ensures).reduced,
+      (over_square s.pre.0.2 s.args.g.now first.square.new.1.1.1.0 first.square.ensures).reduced,
       omega (arith, s.pre.0.0.degree, s.pre.1),
     )
 
@@ -68,7 +68,7 @@ square-requires-2 c κs =
     let ready = begin.pre.0.0 in (
       (
         over.prepared,
-        over-reduced over third.derivative.new.1.0 third.derivative.ensures.reduced,
+        over_reduced over third.derivative.new.1.0 third.derivative.ensures.reduced,
         turns_fit _ _ _ (omega (arith, over.same, ready.prime)) (omega (arith, ready.degree, begin.pre, third.derivative.auto)),
       ),
       (
@@ -86,7 +86,7 @@ bend-of-requires c κs =
       omega (arith, s.pre.0.0.prime.least),
       omega (arith, s.pre.0.0.prime),
       second.slope-of.ensures.reduced,
-      (over-square s.pre.0.2 (derivative fourth).derivative.last.1.0 fourth.square3.last.1.1.1.0 fourth.square3.ensures).reduced,
+      (over_square s.pre.0.2 (derivative fourth).derivative.last.1.0 fourth.square3.last.1.1.1.0 fourth.square3.ensures).reduced,
       omega (arith, s.pre.0.0.degree, s.pre.1),
     )
 
@@ -122,7 +122,7 @@ returns c =
     let ready = begin.pre.0.0 in
     let over = begin.pre.0.2 in
     let a = begin.args in
-    products-steps a.v.p a.g.now first.square.last.1.1.1.0 second.slope-of.last.1.0 third.derivative.last.1.0
+    products_steps a.v.p a.g.now first.square.last.1.1.1.0 second.slope-of.last.1.0 third.derivative.last.1.0
     fourth.square3.last.1.1.1.0 fifth.bend-of.new.1.1.0
     (omega (arith, begin.pre, first.square.kept))
     (omega (arith, begin.pre, first.square.kept, second.slope-of.kept))
@@ -130,8 +130,8 @@ returns c =
     (omega (arith, begin.pre, ready.degree, fourth.square3.kept, third.derivative.kept))
     (omega (arith, begin.pre, ready.degree, second.slope-of.kept, fifth.bend-of.auto))
     (omega (arith, begin.pre, ready.degree, third.derivative.kept, fifth.bend-of.auto))
-    (over-square over a.g.now first.square.last.1.1.1.0 first.square.ensures) second.slope-of.ensures third.derivative.ensures
-    (over-square over third.derivative.last.1.0 fourth.square3.last.1.1.1.0 fourth.square3.ensures)
+    (over_square over a.g.now first.square.last.1.1.1.0 first.square.ensures) second.slope-of.ensures third.derivative.ensures
+    (over_square over third.derivative.last.1.0 fourth.square3.last.1.1.1.0 fourth.square3.ensures)
     fifth.bend-of.ensures
 
 pub products-spec : {M : Type 1} → statement M

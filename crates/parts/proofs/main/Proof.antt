@@ -1,8 +1,8 @@
 -- `parts::main` meets its contract. Assumes nothing.
 use mathlib.Core.Path.{refl, ◌∙◌, ap}
 use borrow.Author.Rules.{rules}
-use Rattle.text.specs.Text.{hexLines}
-use Rattle.parts.specs.Parts.{parts_are, first-ready, first_holds}
+use Rattle.text.specs.Text.{hex_lines}
+use Rattle.parts.specs.Parts.{parts_are, first_ready, first_holds}
 use Rattle.parts.proofs.main.Statement.{statement}
 use Rattle.parts.proofs.main.Tie as tie
 
@@ -55,7 +55,7 @@ slice-aggregate-products-8 c = search rules
 products-requires : tie.Need-products-requires
 products-requires c κs =
     let m = c.before.before.before.before.before.before.before.before.modulus.ensures in
-    ((first-ready, first_holds, record { prepared = m.1; same = m.0 }), ((refl, refl, refl, refl), (refl, refl, refl)))
+    ((first_ready, first_holds, record { prepared = m.1; same = m.0 }), ((refl, refl, refl, refl), (refl, refl, refl)))
 
 slice-aggregate-fill : tie.Need-slice-aggregate-fill
 slice-aggregate-fill c = search rules
@@ -78,7 +78,7 @@ slice-aggregate-fill-6 c = search rules
 fill-requires : tie.Need-fill-requires
 fill-requires c κs =
     let hold = (formed c).products.ensures in
-    ((first-ready, hold.square-is.reduced, hold.slope-is.reduced, hold.bend-is.reduced), (refl, refl))
+    ((first_ready, hold.square_is.reduced, hold.slope_is.reduced, hold.bend_is.reduced), (refl, refl))
 
 slice-aggregate-lines : tie.Need-slice-aggregate-lines
 slice-aggregate-lines c = search rules
@@ -118,7 +118,7 @@ print-requires c κs =
     parts_are _ _ _ (call.kept.1.1.1.1.0, call.kept.1.1.1.1.1.0, call.kept.1.1.1.1.1.1.0)
     (call.ensures _ (formed after.before).products.ensures)
     in
-    (one.lines.ensures ∙ ap hexLines are.0, two.lines2.ensures ∙ ap hexLines are.1, three.lines3.ensures ∙ ap hexLines are.2)
+    (one.lines.ensures ∙ ap hex_lines are.0, two.lines2.ensures ∙ ap hex_lines are.1, three.lines3.ensures ∙ ap hex_lines are.2)
 
 returns : tie.Need-returns
 returns c = search rules

@@ -8,7 +8,7 @@ use borrow.Author.Rules.{rules}
 use Rattle.series.specs.Series.{zeros, const}
 use Rattle.zmod.specs.Zmod.{Zmod, mk}
 use Rattle.zmod.specs.Residues.{Reduced, poly}
-use Rattle.poles.specs.Poles.{blank-zeros, blank-one}
+use Rattle.poles.specs.Poles.{blank_zeros, blank_one}
 use Rattle.poles.proofs.begin.Statement.{statement}
 use Rattle.poles.proofs.begin.Tie as tie
 
@@ -42,8 +42,8 @@ returns c =
     let e = (first c).clear.ensures in
     let f = c.before.before.clear2.ensures in
     λ p large.
-    let one = blank-one p (length a.u.now) large (start c).requires in
-    let none = blank-zeros p (length a.t.now) (omega arith) in (
+    let one = blank_one p (length a.u.now) large (start c).requires in
+    let none = blank_zeros p (length a.t.now) (omega arith) in (
       subst (Reduced p) (sym e) none.0,
       subst (λ l. Reduced p (set l 0 1)) (sym f) one.0,
       subst (λ l. poly p l ≡ zeros (Zmod p)) (sym e) none.1,

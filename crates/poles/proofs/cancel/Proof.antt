@@ -6,9 +6,9 @@ use borrow.Author.Rules.{rules}
 use Rattle.series.specs.Degree.{Below}
 use Rattle.zmod.specs.Zmod.{Zmod, mk}
 use Rattle.zmod.specs.Residues.{poly}
-use Rattle.barrett.specs.Modulus.{prepared-positive}
+use Rattle.barrett.specs.Modulus.{prepared_positive}
 use Rattle.poles.specs.Rows.{combination}
-use Rattle.poles.specs.Front.{multiple-below}
+use Rattle.poles.specs.Front.{multiple_below}
 use Rattle.poles.proofs.cancel.Statement.{statement}
 use Rattle.poles.proofs.cancel.Tie as tie
 
@@ -25,7 +25,7 @@ short c =
     let at = start c in
     let a = at.args in
     let p = a.m.p in
-    multiple-below (Zmod p) a.len a.s (mk p a.b) (mk p c.negate.result) (poly p a.t.now) (poly p a.u.now) (omega arith)
+    multiple_below (Zmod p) a.len a.s (mk p a.b) (mk p c.negate.result) (poly p a.t.now) (poly p a.u.now) (omega arith)
     at.pre.1.1.0 at.pre.1.1.1
 
 negate-requires : tie.Need-negate-requires
@@ -35,7 +35,7 @@ combine-requires : tie.Need-combine-requires
 combine-requires c κs =
     let at = start c in
     let pre = at.pre.0 in
-    ((pre.0, pre.1, prepared-positive pre.0, c.negate.ensures.below, pre.3, pre.4, pre.5), (at.pre.1.0, (at.pre.1.1, short c)))
+    ((pre.0, pre.1, prepared_positive pre.0, c.negate.ensures.below, pre.3, pre.4, pre.5), (at.pre.1.0, (at.pre.1.1, short c)))
 
 same_length : tie.Need-same-length
 same_length c = search rules

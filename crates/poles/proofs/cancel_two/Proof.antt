@@ -5,7 +5,7 @@ use native.Mathlib.Omega.{arith}
 use borrow.Author.Rules.{rules}
 use Rattle.zmod.specs.Zmod.{Zmod, mk}
 use Rattle.zmod.specs.Residues.{poly}
-use Rattle.poles.specs.Front.{combination-below, cancelling-is}
+use Rattle.poles.specs.Front.{combination_below, cancelling_is}
 use Rattle.poles.proofs.cancel_two.Statement.{statement}
 use Rattle.poles.proofs.cancel_two.Tie as tie
 
@@ -47,7 +47,7 @@ combine-requires c κs =
         pre.1.0,
         (
           (pre.1.1.0, λ i l. pre.1.1.1 i (omega arith)),
-          combination-below (Zmod p) a.len (mk p at.multiply.result) (mk p y.result) (mk p z.result) (poly p a.t.now) (poly p a.u.now)
+          combination_below (Zmod p) a.len (mk p at.multiply.result) (mk p y.result) (mk p z.result) (poly p a.t.now) (poly p a.u.now)
               (search rules) pre.1.1.0 pre.1.1.1,
         ),
       ),
@@ -68,7 +68,7 @@ returns c =
     let a = (start at).args in
     let p = a.m.p in (
       call.combine.ensures.0,
-      call.combine.ensures.1 ∙ cancelling-is p a.a1 a.a0 a.b1 a.b0 at.multiply.result y.result z.result y₀.result z₀.result
+      call.combine.ensures.1 ∙ cancelling_is p a.a1 a.a0 a.b1 a.b0 at.multiply.result y.result z.result y₀.result z₀.result
           (poly p a.t.now) (poly p a.u.now) at.multiply.ensures.class y₀.ensures.class y.ensures.class z₀.ensures.class
           z.ensures.class,
     )

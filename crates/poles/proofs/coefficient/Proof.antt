@@ -6,10 +6,10 @@ use native.Mathlib.Omega.{arith}
 use lib.ListN.{length, take, drop, length-take, length-drop}
 use lib.Seq.{length-take-le}
 use borrow.Author.Rules.{rules}
-use Rattle.slices.specs.Stored.{part-below}
+use Rattle.slices.specs.Stored.{part_below}
 use Rattle.zmod.specs.Zmod.{mk}
-use Rattle.zmod.specs.Residues.{Residue, reduced-take, residue-same}
-use Rattle.poles.specs.Words.{correlation-remainder}
+use Rattle.zmod.specs.Residues.{Residue, reduced_take, residue_same}
+use Rattle.poles.specs.Words.{correlation_remainder}
 use Rattle.poles.proofs.coefficient.Statement.{statement}
 use Rattle.poles.proofs.coefficient.Tie as tie
 
@@ -17,10 +17,10 @@ size-t : (c : tie.Start) → length (take c.args.len c.args.t.now) ≡ c.args.le
 size-t c = length-take-le c.args.len c.args.t.now (omega arith)
 
 -- how many words of h are lent
-size-h : (c : tie.Start) →
+size_h : (c : tie.Start) →
     let h = c.args.h.now in
     length (take (length h - c.args.from) (drop c.args.from h)) ≡ length h - c.args.from
-size-h c =
+size_h c =
     let h = c.args.h.now in
     omega (arith, length-take (length h - c.args.from) (drop c.args.from h), length-drop c.args.from h)
 
@@ -44,10 +44,10 @@ dot-requires c κs =
     let at = c.before.before.before.before in
     let a = at.args in
     let low = at.requires.1 in (
-      (omega (arith, size-t at, size-h at), omega (arith, size-t at)),
+      (omega (arith, size-t at, size_h at), omega (arith, size-t at)),
       (
-        λ i. omega (arith, reduced-take a.t.now (omega arith) a.len low.0 i),
-        λ i. omega (arith, part-below a.h.now a.from (length a.h.now - a.from) a.p (omega arith) low.1 i),
+        λ i. omega (arith, reduced_take a.t.now (omega arith) a.len low.0 i),
+        λ i. omega (arith, part_below a.h.now a.from (length a.h.now - a.from) a.p (omega arith) low.1 i),
       ),
     )
 
@@ -63,7 +63,7 @@ returns c =
     let dot = c.before.before.dot in
     let at = c.before.before.before.before.before.before.before in
     let a = at.args in
-    residue-same (dot.ensures a.p ∙ correlation-remainder a.p a.h.now a.t.now a.len a.from (omega arith) (omega arith) (omega arith)
+    residue_same (dot.ensures a.p ∙ correlation_remainder a.p a.h.now a.t.now a.len a.from (omega arith) (omega arith) (omega arith)
     at.requires.1.2) (subst (Residue a.p (mk a.p dot.result)) (sym c.wide.ensures) reduce.ensures)
 
 pub coefficient-spec : {M : Type 1} → statement M

@@ -7,9 +7,9 @@ use lib.ListN.{length, take, drop, length-append, length-drop}
 use lib.Seq.{length-take-le}
 use borrow.Author.Rules.{rules}
 use Rattle.zmod.specs.Zmod.{mk}
-use Rattle.zmod.specs.Residues.{reduced-take}
-use Rattle.barrett.specs.Modulus.{prepared-positive}
-use Rattle.poles.specs.Front.{front-combined}
+use Rattle.zmod.specs.Residues.{reduced_take}
+use Rattle.barrett.specs.Modulus.{prepared_positive}
+use Rattle.poles.specs.Front.{front_combined}
 use Rattle.poles.proofs.combine.Statement.{statement}
 use Rattle.poles.proofs.combine.Tie as tie
 
@@ -40,9 +40,9 @@ add-multiple-requires c κs =
     let at = start c in
     let a = at.args in
     let pre = at.pre.0 in
-    let pos = prepared-positive pre.0 in (
+    let pos = prepared_positive pre.0 in (
       (pre.0, pre.1, pre.2, pre.3, omega (arith, size-u at), omega (arith, size-t at, size-u at)),
-      (reduced-take a.t.now pos a.len at.pre.1.0.0, reduced-take a.u.now pos (a.len - a.s) at.pre.1.0.1),
+      (reduced_take a.t.now pos a.len at.pre.1.0.0, reduced_take a.u.now pos (a.len - a.s) at.pre.1.0.1),
     )
 
 same_length : tie.Need-same-length
@@ -63,7 +63,7 @@ returns c =
     let at = start call.before in
     let a = at.args in
     let p = a.m.p in
-    front-combined p a.t.now a.u.now call.add-multiple.new.0 a.len a.s (mk p a.c) (mk p a.y) (mk p a.z) (omega arith)
+    front_combined p a.t.now a.u.now call.add-multiple.new.0 a.len a.s (mk p a.c) (mk p a.y) (mk p a.z) (omega arith)
     (omega arith) (omega arith) at.pre.1.0.0 at.pre.1.1.0.0 at.pre.1.1.0.1 at.pre.1.1.1
     (omega (arith, call.add-multiple.auto)) call.add-multiple.ensures
 

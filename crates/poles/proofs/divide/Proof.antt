@@ -7,11 +7,11 @@ use lib.ListN.{length}
 use borrow.Author.Rules.{rules}
 use Rattle.series.specs.Degree.{Below}
 use Rattle.zmod.specs.Zmod.{Zmod}
-use Rattle.zmod.specs.Prime.{Prime, prime-pos}
-use Rattle.zmod.specs.Residues.{Residue, Reduced, poly, residue-same}
-use Rattle.barrett.specs.Modulus.{prepared-below}
+use Rattle.zmod.specs.Prime.{Prime, prime_pos}
+use Rattle.zmod.specs.Residues.{Residue, Reduced, poly, residue_same}
+use Rattle.barrett.specs.Modulus.{prepared_below}
 use Rattle.poles.specs.Words.{remainder}
-use Rattle.poles.specs.Steps.{Highest, Left, left-start, left-next, left_end}
+use Rattle.poles.specs.Steps.{Highest, Left, left_start, left_next, left_end}
 use Rattle.poles.proofs.divide.Statement.{statement}
 use Rattle.poles.proofs.divide.Tie as tie
 
@@ -27,8 +27,8 @@ decreases-loop h t₀ u k l top b m n len i₀ w₀ t i w = i
 abbrev start : tie.At-loop invariant-loop decreases-loop → tie.Start invariant-loop decreases-loop
 start c = c.before.before.before.before
 
-abbrev in-turn : tie.After-cancel invariant-loop decreases-loop → tie.At-loop invariant-loop decreases-loop
-in-turn c = c.before.before.before
+abbrev in_turn : tie.After-cancel invariant-loop decreases-loop → tie.At-loop invariant-loop decreases-loop
+in_turn c = c.before.before.before
 
 abbrev cancelled : tie.After-coefficient invariant-loop decreases-loop → tie.After-cancel invariant-loop decreases-loop
 cancelled c = c.before.before.before.before
@@ -36,15 +36,15 @@ cancelled c = c.before.before.before.before
 -- the coefficient that comes next
 next_one : (c : tie.After-coefficient invariant-loop decreases-loop) →
     let call = cancelled c in
-    let at = in-turn call in
+    let at = in_turn call in
     let a = (start at).args in
     Residue a.m.p (remainder a.m.p a.h.now call.cancel.last.0 (at.loop.i - 1)) c.coefficient.result
 next_one c =
     let call = cancelled c in
-    let at = in-turn call in
+    let at = in_turn call in
     let a = (start at).args in
     let size = (start at).pre.0.3 in
-    residue-same (ap (remainder a.m.p a.h.now call.cancel.last.0) (omega (arith, at.loop.inv.0, at.loop.inv.3, size.words, size.most)))
+    residue_same (ap (remainder a.m.p a.h.now call.cancel.last.0) (omega (arith, at.loop.inv.0, at.loop.inv.3, size.words, size.most)))
     c.coefficient.ensures
 
 sub-n : tie.Need-overflow-sub-n invariant-loop decreases-loop
@@ -66,7 +66,7 @@ loop-holds c =
       pre.1.0.1,
       pre.1.1.1.0,
       search rules,
-      λ P high pos. left-start a.m.p a.h.now a.t.now a.u.now a.k a.l a.b P high pos a.top,
+      λ P high pos. left_start a.m.p a.h.now a.t.now a.u.now a.k a.l a.b P high pos a.top,
     )
 
 sub-cancel : tie.Need-overflow-sub-cancel invariant-loop decreases-loop
@@ -95,20 +95,20 @@ sub-i c = search rules
 
 sub-coefficient : tie.Need-overflow-sub-coefficient invariant-loop decreases-loop
 sub-coefficient c =
-    let at = in-turn c.before.before.before in
+    let at = in_turn c.before.before.before in
     let size = (start at).pre.0.3 in
     omega (arith, at.loop.inv.0, at.loop.inv.3, size.words, size.most)
 
 coefficient-requires : tie.Need-coefficient-requires invariant-loop decreases-loop
 coefficient-requires c κs =
     let call = c.before.before.before in
-    let at = in-turn call in
+    let at = in_turn call in
     let pre = (start at).pre in
     let inv = at.loop.inv in
     let size = pre.0.2 in (
       (
-        prime-pos pre.0.0,
-        omega (arith, prepared-below pre.0.1),
+        prime_pos pre.0.0,
+        omega (arith, prepared_below pre.0.1),
         omega (arith, inv.1, inv.4, size.words, size.room, size.least, call.cancel.auto),
         omega (arith, inv.1, size.words, size.few, size.least),
         omega (arith, inv.1, size.words, size.most),
@@ -123,7 +123,7 @@ loop-less c = search rules
 loop-again : tie.Need-loop-preserved invariant-loop decreases-loop
 loop-again c =
     let call = cancelled c in
-    let at = in-turn call in
+    let at = in_turn call in
     let a = (start at).args in
     let p = a.m.p in
     let inv = at.loop.inv in
@@ -137,7 +137,7 @@ loop-again c =
       call.cancel.ensures.1,
       c.coefficient.ensures.below,
       λ P high pos.
-          left-next p a.h.now a.t.now a.u.now a.k a.l a.b P high pos a.top i at.loop.t call.cancel.last.0 at.loop.w
+          left_next p a.h.now a.t.now a.u.now a.k a.l a.b P high pos a.top i at.loop.t call.cancel.last.0 at.loop.w
           (inv.8 P high pos) inv.2 inv.3 call.cancel.ensures.2 c.coefficient.result (omega (arith, call.before.before.loop-test))
           (next_one c),
     )
@@ -169,13 +169,13 @@ same_length c =
 returns : tie.Need-returns invariant-loop decreases-loop
 returns c =
     let call = c.before.before in
-    let at-end = call.before.before in
-    let at = at-end.before in
+    let at_end = call.before.before in
+    let at = at_end.before in
     let a = (start at).args in
     let p = a.m.p in
     let pre = (start at).requires in
     let inv = at.loop.invariant in
-    let end : at.loop.i ≡ a.l = omega (arith, inv.2, at-end.loop-test) in
+    let end : at.loop.i ≡ a.l = omega (arith, inv.2, at_end.loop-test) in
     let none : at.loop.i - a.l ≡ 0 = omega (arith, end) in (
       call.cancel2.ensures.0,
       left_end p a.h.now a.t.now a.u.now a.k a.l a.b pre.0.0 pre.1.1.0 pre.0.6 a.top at.loop.i at.loop.t

@@ -7,7 +7,7 @@ use lib.ListN.{length, get_or}
 use borrow.Author.Rules.{rules}
 use Rattle.zmod.specs.Zmod.{mk}
 use Rattle.rows.specs.Sums.{product_le}
-use Rattle.poles.specs.Words.{correlation, correlation-none, correlation-more}
+use Rattle.poles.specs.Words.{correlation, correlation_none, correlation_more}
 use Rattle.poles.proofs.dot.Statement.{statement}
 use Rattle.poles.proofs.dot.Tie as tie
 
@@ -25,7 +25,7 @@ abbrev start : tie.At-loop invariant-loop decreases-loop → tie.Start invariant
 start c = c.before.before.before
 
 loop-holds : tie.Need-loop-init invariant-loop decreases-loop
-loop-holds c = (search rules, search rules, λ p. correlation-none p _ _)
+loop-holds c = (search rules, search rules, λ p. correlation_none p _ _)
 
 mul-product : tie.Need-overflow-mul-product invariant-loop decreases-loop
 mul-product c = search rules
@@ -66,8 +66,8 @@ small c =
 add-s : tie.Need-overflow-add-s invariant-loop decreases-loop
 add-s c = omega (arith, small c, (in-loop c).loop.invariant.1, (in-loop c).loop.invariant.0, (start (in-loop c)).pre.0.1)
 
-add-i : tie.Need-overflow-add-i invariant-loop decreases-loop
-add-i c = search rules
+add_i : tie.Need-overflow-add-i invariant-loop decreases-loop
+add_i c = search rules
 
 loop-less : tie.Need-loop-smaller invariant-loop decreases-loop
 loop-less c = search rules
@@ -78,7 +78,7 @@ loop-again c =
     let a = (start at).args in (
       search rules,
       omega (arith, small c, at.loop.inv.1),
-      λ p. correlation-more p a.t.now a.h.now at.loop.i at.loop.s c.product.result
+      λ p. correlation_more p a.t.now a.h.now at.loop.i at.loop.s c.product.result
           (product_is c) (at.loop.inv.2 p),
     )
 
@@ -90,4 +90,4 @@ returns c =
 
 pub dot-spec : {M : Type 1} → statement M
 dot-spec = tie.close (tie.spec invariant-loop decreases-loop loop-holds mul-product shared-slice-read-product mul_wide shared-slice-read-wide wide-requires
-    product-requires add-s add-i loop-less loop-again returns)
+    product-requires add-s add_i loop-less loop-again returns)

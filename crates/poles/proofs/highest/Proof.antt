@@ -7,7 +7,7 @@ use native.Mathlib.Omega.{arith}
 use lib.ListN.{length}
 use borrow.Author.Rules.{rules}
 use Rattle.zmod.specs.Zmod.{mk}
-use Rattle.zmod.specs.Residues.{Residue, residue-same}
+use Rattle.zmod.specs.Residues.{Residue, residue_same}
 use Rattle.poles.specs.Words.{remainder}
 use Rattle.poles.proofs.highest.Statement.{statement}
 use Rattle.poles.proofs.highest.Tie as tie
@@ -31,18 +31,18 @@ from-one-less P i k here above j l g = go (dec_lt i j)
 abbrev start : tie.At-loop invariant-loop decreases-loop → tie.Start invariant-loop decreases-loop
 start c = c.before.before.before
 
-abbrev in-turn : tie.After-coefficient invariant-loop decreases-loop → tie.At-loop invariant-loop decreases-loop
-in-turn c = c.before.before
+abbrev in_turn : tie.After-coefficient invariant-loop decreases-loop → tie.At-loop invariant-loop decreases-loop
+in_turn c = c.before.before
 
 -- the coefficient of this turn
 found : (c : tie.After-coefficient invariant-loop decreases-loop) →
-    let a = (start (in-turn c)).args in
-    Residue a.p (remainder a.p a.h.now a.u.now ((in-turn c).loop.i - 1)) c.coefficient.result
+    let a = (start (in_turn c)).args in
+    Residue a.p (remainder a.p a.h.now a.u.now ((in_turn c).loop.i - 1)) c.coefficient.result
 found c =
-    let at = in-turn c in
+    let at = in_turn c in
     let a = (start at).args in
     let size = (start at).pre.0.2 in
-    residue-same (ap (remainder a.p a.h.now a.u.now) (omega (arith, at.loop.inv.0, size.words, size.most, at.loop.inv.4)))
+    residue_same (ap (remainder a.p a.h.now a.u.now) (omega (arith, at.loop.inv.0, size.words, size.most, at.loop.inv.4)))
     c.coefficient.ensures
 
 sub-n : tie.Need-overflow-sub-n invariant-loop decreases-loop
@@ -84,7 +84,7 @@ coefficient-requires c κs =
 
 returns : tie.Need-returns invariant-loop decreases-loop
 returns c =
-    let at = in-turn c.before in
+    let at = in_turn c.before in
     let inv = at.loop.inv in
     record {
       least = omega (arith, inv.0, inv.1, c.before.before.loop-test);
@@ -100,7 +100,7 @@ loop-less c = search rules
 loop-again : tie.Need-loop-preserved invariant-loop decreases-loop
 loop-again c =
     let at-coefficient = c.before in
-    let at = in-turn at-coefficient in
+    let at = in_turn at-coefficient in
     let a = (start at).args in
     let inv = at.loop.inv in
     let i = at.loop.i - 1 in

@@ -9,7 +9,7 @@ use Rattle.ring.specs.Identity.{solve3}
 use Rattle.ring.specs.Identity.Ex.{◌:*◌}
 use Rattle.ring.specs.Ring.{CRing}
 use Rattle.zmod.specs.Zmod.{Zmod, mk, minus, times}
-use Rattle.zmod.specs.Residues.{poly-at}
+use Rattle.zmod.specs.Residues.{poly_at}
 use Rattle.poles.proofs.quotient.Statement.{statement}
 use Rattle.poles.proofs.quotient.Tie as tie
 
@@ -65,10 +65,10 @@ returns-2 c =
     let last = get_or a.u.now (length a.u.now - 1) 0 in (
       omega (arith, at-else.if1.false),
       c.multiply.ensures.below,
-      ap₂ (times p) c.multiply.ensures.class (poly-at p a.u.now (length a.u.now - 1))
+      ap₂ (times p) c.multiply.ensures.class (poly_at p a.u.now (length a.u.now - 1))
           ∙ solve3 (Zmod p) (λ s i l. s :* i :* l) (λ s i l. s :* (l :* i)) tt (mk p second.result) (mk p inverse.result) (mk p last)
           ∙ ap (times p (mk p second.result)) inverse.ensures.unit ∙ CRing.mul-one (Zmod p) _
-          ∙ second.ensures.class ∙ ap (minus p) (sym (poly-at p a.u.now (length a.u.now - 1 - 1))),
+          ∙ second.ensures.class ∙ ap (minus p) (sym (poly_at p a.u.now (length a.u.now - 1 - 1))),
     )
 
 pub quotient-spec : {M : Type 1} → statement M

@@ -4,12 +4,12 @@ use mathlib.Core.Path.{refl, ap}
 use Prim.Native.Nat.{◌-◌, ◌<◌}
 use native.Mathlib.Omega.{arith}
 use borrow.Author.Rules.{rules}
-use Rattle.zmod.specs.Prime.{prime-pos}
-use Rattle.zmod.specs.Residues.{Residue, residue-same}
-use Rattle.barrett.specs.Modulus.{prepared-below}
+use Rattle.zmod.specs.Prime.{prime_pos}
+use Rattle.zmod.specs.Residues.{Residue, residue_same}
+use Rattle.barrett.specs.Modulus.{prepared_below}
 use Rattle.poles.specs.Words.{remainder}
 use Rattle.poles.specs.Steps.{Sized}
-use Rattle.poles.specs.Poles.{row_below, before-below, stepped-none, stepped-two, stepped-divided}
+use Rattle.poles.specs.Poles.{row_below, before_below, stepped_none, stepped_two, stepped_divided}
 use Rattle.poles.proofs.step.Statement.{statement}
 use Rattle.poles.proofs.step.Tie as tie
 
@@ -33,7 +33,7 @@ behind c =
     let at = searched c in
     let a = (start at).args in
     let size = (start at).pre.1.size in
-    residue-same (ap (remainder a.m.p a.h.now a.u.now) (omega (
+    residue_same (ap (remainder a.m.p a.h.now a.u.now) (omega (
       arith,
       size.words,
       at.highest.ensures.least,
@@ -48,10 +48,10 @@ highest-requires c κs =
     let a = at.args in
     let pre = at.requires in
     let run = pre.1 in (
-      (prime-pos pre.0.0, omega (arith, prepared-below pre.0.1), run.size),
+      (prime_pos pre.0.0, omega (arith, prepared_below pre.0.1), run.size),
       (
-        run.low-h,
-        run.low-u,
+        run.low_h,
+        run.low_u,
         row_below a.m.p a.h.now a.t.now a.u.now a.row.degree a.row.top a.row.next run,
       ),
     )
@@ -65,7 +65,7 @@ returns c =
       ended = λ _. (
         refl,
         refl,
-        stepped-none a.m.p a.h.now a.t.now a.u.now a.row.degree a.row.top a.row.next
+        stepped_none a.m.p a.h.now a.t.now a.u.now a.row.degree a.row.top a.row.next
             at.highest.result.degree at.highest.result.top pre.0.0 pre.1 at.highest.ensures c.if1.true,
       );
       going = λ l. absurd (omega arith);
@@ -90,14 +90,14 @@ coefficient-requires c κs =
     let size = run.size in
     let high = at.highest.ensures in (
       (
-        prime-pos pre.0.0,
-        omega (arith, prepared-below pre.0.1),
+        prime_pos pre.0.0,
+        omega (arith, prepared_below pre.0.1),
         omega (arith, size.words, size.room, size.least),
         omega (arith, size.words, size.few, size.least),
         omega (arith, size.words, size.most),
         omega (arith, size.words, size.most, high.least, high.inside (positive c)),
       ),
-      (run.low-u, run.low-h, row_below a.m.p a.h.now a.t.now a.u.now a.row.degree a.row.top a.row.next run),
+      (run.low_u, run.low_h, row_below a.m.p a.h.now a.t.now a.u.now a.row.degree a.row.top a.row.next run),
     )
 
 add-if2 : tie.Need-overflow-add-if2
@@ -125,7 +125,7 @@ cancel-two-requires c κs =
       (
         pre.0.1,
         run.top_below,
-        run.next-below,
+        run.next_below,
         (high.class pos).below,
         at-coefficient.coefficient.ensures.below,
         omega (arith, size.words, size.most, high.inside pos),
@@ -133,9 +133,9 @@ cancel-two-requires c κs =
         omega (arith, size.words, size.room, high.least),
       ),
       (
-        (run.low-t, run.low-u),
+        (run.low_t, run.low_u),
         (
-          λ i l. before-below a.m.p a.h.now a.t.now a.u.now a.row.degree a.row.top a.row.next run i (omega (
+          λ i l. before_below a.m.p a.h.now a.t.now a.u.now a.row.degree a.row.top a.row.next run i (omega (
             arith,
             high.inside pos,
           )),
@@ -168,11 +168,11 @@ divide-requires c κs =
     } in (
       (pre.0.0, pre.0.1, sized, size, high.inside pos, run.top_below, pos, (high.class pos).below),
       (
-        (run.low-h, run.low-t, run.low-u, run.same),
+        (run.low_h, run.low_t, run.low_u, run.same),
         (
           high,
           (
-            λ i l. before-below a.m.p a.h.now a.t.now a.u.now a.row.degree a.row.top a.row.next run i (omega (
+            λ i l. before_below a.m.p a.h.now a.t.now a.u.now a.row.degree a.row.top a.row.next run i (omega (
               arith,
               high.inside pos,
             )),
@@ -198,7 +198,7 @@ returns-2 c =
       ended = λ e. absurd (omega (arith, pos, e));
       going = λ _. (
         high.inside pos,
-        stepped-two a.m.p a.h.now a.t.now a.u.now a.row.degree a.row.top a.row.next
+        stepped_two a.m.p a.h.now a.t.now a.u.now a.row.degree a.row.top a.row.next
             at.highest.result.degree at.highest.result.top pre.0.0 pre.1 high pos at-coefficient.coefficient.result (behind at-coefficient)
             call.cancel-two.new.0 (omega (arith, call.cancel-two.auto)) call.cancel-two.ensures.0 call.before.before.if2.true
             call.cancel-two.ensures.1,
@@ -221,7 +221,7 @@ returns-3 c =
       ended = λ e. absurd (omega (arith, pos, e));
       going = λ _. (
         high.inside pos,
-        stepped-divided a.m.p a.h.now a.t.now a.u.now a.row.degree a.row.top a.row.next
+        stepped_divided a.m.p a.h.now a.t.now a.u.now a.row.degree a.row.top a.row.next
             at.highest.result.degree at.highest.result.top pre.0.0 pre.1 high pos at-coefficient.coefficient.result (behind at-coefficient)
             call.divide.new.1.0 (omega (arith, call.divide.auto)) call.divide.ensures.0
             (call.divide.ensures.1 a.row.next pre.1.rows),

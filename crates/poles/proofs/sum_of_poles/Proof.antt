@@ -5,9 +5,9 @@ use Prim.Native.Nat.{◌-◌, ◌<◌}
 use native.Mathlib.Omega.{arith}
 use lib.ListN.{length}
 use borrow.Author.Rules.{rules}
-use Rattle.barrett.specs.Modulus.{prepared-below}
+use Rattle.barrett.specs.Modulus.{prepared_below}
 use Rattle.poles.specs.Steps.{Sized}
-use Rattle.poles.specs.Poles.{Running, Ended, running-start, stepped-degree, stepped-ended, ended-last, ended-poles}
+use Rattle.poles.specs.Poles.{Running, Ended, running_start, stepped_degree, stepped_ended, ended_last, ended_poles}
 use Rattle.poles.proofs.sum_of_poles.Statement.{statement}
 use Rattle.poles.proofs.sum_of_poles.Tie as tie
 
@@ -31,8 +31,8 @@ from c = c.before.before.before
 abbrev origin : tie.At-loop invariant-loop decreases-loop → tie.Start invariant-loop decreases-loop
 origin c = start (begun (from c).before)
 
-abbrev in-turn : tie.After-step2 invariant-loop decreases-loop → tie.Then1 invariant-loop decreases-loop
-in-turn c = c.before.before.before
+abbrev in_turn : tie.After-step2 invariant-loop decreases-loop → tie.Then1 invariant-loop decreases-loop
+in_turn c = c.before.before.before
 
 abbrev stepped : tie.After-struct-known2 invariant-loop decreases-loop → tie.After-step2 invariant-loop decreases-loop
 stepped c = c.before.before.before
@@ -54,7 +54,7 @@ step-requires c κs =
     let pre = at.pre in
     let a = at.args in
     let size = pre.0.2 in
-    let rows = at-begin.begin.ensures a.m.p pre.0.0.above-one in
+    let rows = at-begin.begin.ensures a.m.p pre.0.0.above_one in
     let kept = at-begin.begin.kept in
     let sized : Sized a.h.now at-begin.begin.last.1.0 (length a.h.now - 1) = record {
       degree = size.degree;
@@ -66,14 +66,14 @@ step-requires c κs =
       most = size.most;
     } in (
       (pre.0.0, pre.0.1),
-      running-start a.m.p a.h.now at-begin.begin.last.0 at-begin.begin.last.1.0 pre.0.0.above-one sized
+      running_start a.m.p a.h.now at-begin.begin.last.0 at-begin.begin.last.1.0 pre.0.0.above_one sized
           (omega (arith, kept, pre.0.3)) pre.1.0 rows.0 rows.1 pre.1.1 rows.2 rows.3,
     )
 
 loop-holds : tie.Need-loop-init invariant-loop decreases-loop
 loop-holds c =
     let made = c.before.before.step.ensures in
-    (refl, refl, λ g. (made.going g).1, stepped-ended made)
+    (refl, refl, λ g. (made.going g).1, stepped_ended made)
 
 step-requires-2 : tie.Need-step-requires-2 invariant-loop decreases-loop
 step-requires-2 c κs =
@@ -85,12 +85,12 @@ step-requires-2 c κs =
 quotient-requires : tie.Need-quotient-requires invariant-loop decreases-loop
 quotient-requires c κs =
     let at-step = stepped c.before.before in
-    let at = (in-turn at-step).before.before in
+    let at = (in_turn at-step).before.before in
     let pre = (origin at).pre in
     let a = (origin at).args in
-    let end = stepped-ended at-step.step2.ensures c.before.if2.true in (
-      (pre.0.0, omega (arith, prepared-below pre.0.1), omega (arith, end.size.room, end.size.some), end.low-u),
-      ended-last a.m.p a.h.now at.loop.t at-step.step2.result.degree pre.0.0 end,
+    let end = stepped_ended at-step.step2.ensures c.before.if2.true in (
+      (pre.0.0, omega (arith, prepared_below pre.0.1), omega (arith, end.size.room, end.size.some), end.low_u),
+      ended_last a.m.p a.h.now at.loop.t at-step.step2.result.degree pre.0.0 end,
     )
 
 same_length : tie.Need-same-length invariant-loop decreases-loop
@@ -103,17 +103,17 @@ returns : tie.Need-returns invariant-loop decreases-loop
 returns c =
     let at-then = c.before.before in
     let at-step = stepped at-then.before in
-    let at = (in-turn at-step).before.before in
+    let at = (in_turn at-step).before.before in
     let pre = (origin at).pre in
     let a = (origin at).args in
-    ended-poles a.m.p a.h.now at.loop.t at-step.step2.result.degree pre.0.0
-    (stepped-ended at-step.step2.ensures at-then.if2.true) c.quotient.result c.quotient.ensures
+    ended_poles a.m.p a.h.now at.loop.t at-step.step2.result.degree pre.0.0
+    (stepped_ended at-step.step2.ensures at-then.if2.true) c.quotient.result c.quotient.ensures
 
 step-requires-3 : tie.Need-step-requires-3 invariant-loop decreases-loop
 step-requires-3 c κs =
     let at-else = c.before.before in
     let at-step = stepped at-else.before in
-    let pre = (origin (in-turn at-step).before.before).pre in
+    let pre = (origin (in_turn at-step).before.before).pre in
     ((pre.0.0, pre.0.1), (at-step.step2.ensures.going (omega (arith, at-else.if2.false))).1)
 
 loop-less : tie.Need-loop-smaller invariant-loop decreases-loop
@@ -121,16 +121,16 @@ loop-less c =
     let call = c.before.before in
     let at-else = call.before.before.before in
     let at-step = stepped at-else.before in
-    omega (arith, stepped-degree call.step3.ensures, (at-step.step2.ensures.going (omega (arith, at-else.if2.false))).0)
+    omega (arith, stepped_degree call.step3.ensures, (at-step.step2.ensures.going (omega (arith, at-else.if2.false))).0)
 
 loop-again : tie.Need-loop-preserved invariant-loop decreases-loop
 loop-again c =
     let call = c.before.before in
     let at-else = call.before.before.before in
     let at-step = stepped at-else.before in
-    let at = (in-turn at-step).before.before in
+    let at = (in_turn at-step).before.before in
     let made = call.step3.ensures in
-    (omega (arith, call.step3.auto, at.loop.inv.0), omega (arith, at-step.step2.kept, at.loop.inv.1), λ g. (made.going g).1, stepped-ended made)
+    (omega (arith, call.step3.auto, at.loop.inv.0), omega (arith, at-step.step2.kept, at.loop.inv.1), λ g. (made.going g).1, stepped_ended made)
 
 quotient-requires-2 : tie.Need-quotient-requires-2 invariant-loop decreases-loop
 quotient-requires-2 c κs =
@@ -139,8 +139,8 @@ quotient-requires-2 c κs =
     let pre = (origin at).requires in
     let a = (origin at).args in
     let end = at.loop.invariant.3 (omega (arith, at-else.if1.false)) in (
-      (pre.0.0, omega (arith, prepared-below pre.0.1), omega (arith, end.size.room, end.size.some), end.low-u),
-      ended-last a.m.p a.h.now at.loop.u at.loop.row.degree pre.0.0 end,
+      (pre.0.0, omega (arith, prepared_below pre.0.1), omega (arith, end.size.room, end.size.some), end.low_u),
+      ended_last a.m.p a.h.now at.loop.u at.loop.row.degree pre.0.0 end,
     )
 
 same-length-3 : tie.Need-same-length-3 invariant-loop decreases-loop
@@ -155,7 +155,7 @@ returns-2 c =
     let at = at-else.before.before in
     let pre = (origin at).requires in
     let a = (origin at).args in
-    ended-poles a.m.p a.h.now at.loop.u at.loop.row.degree pre.0.0 (at.loop.invariant.3 (omega (arith, at-else.if1.false)))
+    ended_poles a.m.p a.h.now at.loop.u at.loop.row.degree pre.0.0 (at.loop.invariant.3 (omega (arith, at-else.if1.false)))
     c.quotient2.result c.quotient2.ensures
 
 pub sum-of-poles-spec : {M : Type 1} → statement M

@@ -8,9 +8,9 @@ use lib.ListN.{length, get_or}
 use Rattle.series.specs.Series.{conv, sums}
 use Rattle.zmod.specs.Zmod.{Zmod}
 use Rattle.zmod.specs.Residues.{poly}
-use Rattle.slices.specs.Stored.{Stored, stored-none, stored_more, word_kept}
-use Rattle.poly.specs.Stored.{Of, stored-all}
-use Rattle.poly.proofs.Laws.{add-product-turn}
+use Rattle.slices.specs.Stored.{Stored, stored_none, stored_more, word_kept}
+use Rattle.poly.specs.Stored.{Of, stored_all}
+use Rattle.poly.proofs.Laws.{add_product_turn}
 use Rattle.poly.proofs.add_product.Statement.{statement}
 use Rattle.poly.proofs.add_product.Tie as tie
 
@@ -21,7 +21,7 @@ abbrev decreases-loop : tie.decreases-loop
 decreases-loop a b out₀ p k₀ out k = length out₀ - k
 
 loop-holds : tie.Need-loop-init invariant-loop decreases-loop
-loop-holds c = stored-none _ _
+loop-holds c = stored_none _ _
 
 mul-coefficient : tie.Need-overflow-mul-coefficient invariant-loop decreases-loop
 mul-coefficient c = search rules
@@ -53,7 +53,7 @@ loop-again c =
     let loop = c.before.before.before.loop in
     let at = c.before.before.before.before.before.before.before.args in
     stored_more _ at.out.now loop.out loop.k c.coefficient.result (search rules) loop.invariant
-    (add-product-turn at.p (get_or loop.out loop.k 0) c.coefficient.result at.out.now at.a.now at.b.now loop.k
+    (add_product_turn at.p (get_or loop.out loop.k 0) c.coefficient.result at.out.now at.a.now at.b.now loop.k
     (word_kept _ _ _ _ loop.invariant) c.coefficient.ensures)
 
 same_length : tie.Need-same-length invariant-loop decreases-loop
@@ -63,7 +63,7 @@ returns : tie.Need-returns invariant-loop decreases-loop
 returns c =
     let at = c.before.before.before.before.before.args in
     let loop = c.before.loop in
-    stored-all at.p _ at.out.now loop.out loop.k (search rules) (search rules) loop.invariant
+    stored_all at.p _ at.out.now loop.out loop.k (search rules) (search rules) loop.invariant
 
 pub add-product-spec : {M : Type 1} → statement M
 add-product-spec =

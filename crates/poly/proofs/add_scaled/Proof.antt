@@ -9,9 +9,9 @@ use lib.ListN.{length, get_or}
 use Rattle.series.specs.Series.{sums, scaled}
 use Rattle.zmod.specs.Zmod.{Zmod, mk}
 use Rattle.zmod.specs.Residues.{poly}
-use Rattle.slices.specs.Stored.{Stored, stored-none, stored_more, word_kept}
-use Rattle.poly.specs.Stored.{Of, stored-front}
-use Rattle.poly.proofs.Laws.{add_nothing, add-scaled-turn}
+use Rattle.slices.specs.Stored.{Stored, stored_none, stored_more, word_kept}
+use Rattle.poly.specs.Stored.{Of, stored_front}
+use Rattle.poly.proofs.Laws.{add_nothing, add_scaled_turn}
 use Rattle.poly.proofs.add_scaled.Statement.{statement}
 use Rattle.poly.proofs.add_scaled.Tie as tie
 
@@ -26,7 +26,7 @@ least-requires : tie.Need-least-requires invariant-loop decreases-loop
 least-requires c κs = search rules
 
 loop-holds : tie.Need-loop-init invariant-loop decreases-loop
-loop-holds c = (search rules, search rules, stored-none _ _)
+loop-holds c = (search rules, search rules, stored_none _ _)
 
 mul-plus-multiple : tie.Need-overflow-mul-plus-multiple invariant-loop decreases-loop
 mul-plus-multiple c = search rules
@@ -62,7 +62,7 @@ loop-again c =
       search rules,
       search rules,
       stored_more _ at.out.now loop.out loop.k c.plus-multiple.result (search rules) loop.invariant.2
-          (add-scaled-turn at.p at.c (get_or loop.out loop.k 0) c.plus-multiple.result at.out.now at.a.now loop.k
+          (add_scaled_turn at.p at.c (get_or loop.out loop.k 0) c.plus-multiple.result at.out.now at.a.now loop.k
           (word_kept _ _ _ _ loop.invariant.2) c.plus-multiple.ensures),
     )
 
@@ -73,7 +73,7 @@ returns : tie.Need-returns invariant-loop decreases-loop
 returns c =
     let at = c.before.before.before.before.before.args in
     let loop = c.before.loop in
-    stored-front at.p _ at.out.now loop.out loop.k (search rules) c.before.before.before.before.before.requires.1
+    stored_front at.p _ at.out.now loop.out loop.k (search rules) c.before.before.before.before.before.requires.1
     (λ j le lt. add_nothing at.p at.c at.out.now at.a.now j (omega arith)) loop.invariant.2
 
 pub add-scaled-spec : {M : Type 1} → statement M

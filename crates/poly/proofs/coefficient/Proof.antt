@@ -2,7 +2,7 @@
 use native.Mathlib.Omega.{arith}
 use borrow.Author.Rules.{rules}
 use Rattle.zmod.specs.Zmod.{mk}
-use Rattle.poly.proofs.Sums.{coefficient-class}
+use Rattle.poly.proofs.Sums.{coefficient_class}
 use Rattle.poly.proofs.coefficient.Statement.{statement}
 use Rattle.poly.proofs.coefficient.Tie as tie
 
@@ -31,7 +31,7 @@ returns : tie.Need-returns
 returns c =
     let at = c.before.before.before.before.before.before.before.args in
     let from = c.before.before.before.before.over in
-    coefficient-class at.p at.a.now at.b.now at.k (mk at.p at.start) from.result c.before.before.most.result c.reduce.result
+    coefficient_class at.p at.a.now at.b.now at.k (mk at.p at.start) from.result c.before.before.most.result c.reduce.result
     c.before.span.result
     from.ensures (omega arith) c.before.span.ensures.0 c.reduce.ensures
 

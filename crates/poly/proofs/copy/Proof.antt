@@ -5,9 +5,9 @@ use native.Mathlib.Omega.{arith}
 use borrow.Author.Rules.{rules}
 use lib.ListN.{length, get_or}
 use Rattle.zmod.specs.Zmod.{mk}
-use Rattle.zmod.specs.Residues.{poly, poly-at}
-use Rattle.slices.specs.Stored.{Stored, stored-none, stored_more}
-use Rattle.zmod.specs.Residues.{residues-filled}
+use Rattle.zmod.specs.Residues.{poly, poly_at}
+use Rattle.slices.specs.Stored.{Stored, stored_none, stored_more}
+use Rattle.zmod.specs.Residues.{residues_filled}
 use Rattle.poly.proofs.copy.Statement.{statement}
 use Rattle.poly.proofs.copy.Tie as tie
 
@@ -18,7 +18,7 @@ abbrev decreases-loop : tie.decreases-loop
 decreases-loop a out₀ k₀ out k = length out₀ - k
 
 loop-holds : tie.Need-loop-init invariant-loop decreases-loop
-loop-holds c = stored-none _ _
+loop-holds c = stored_none _ _
 
 word-requires : tie.Need-word-requires invariant-loop decreases-loop
 word-requires c κs = search rules
@@ -48,9 +48,9 @@ returns : tie.Need-returns invariant-loop decreases-loop
 returns c =
     let at = c.before.before.before.before.args in
     let loop = c.before.loop in
-    λ p low. residues-filled {a = poly p at.a.now} (omega (arith, low 0)) (λ j l.
+    λ p low. residues_filled {a = poly p at.a.now} (omega (arith, low 0)) (λ j l.
     let e : get_or loop.out j 0 ≡ get_or at.a.now j 0 = loop.invariant.filled j (omega arith) in
-    record { below = omega (arith, low j); class = ap (mk p) e ∙ sym (poly-at p at.a.now j) })
+    record { below = omega (arith, low j); class = ap (mk p) e ∙ sym (poly_at p at.a.now j) })
 
 pub copy_spec : {M : Type 1} → statement M
 copy_spec =

@@ -5,8 +5,8 @@ use lib.ListN.{length}
 use Rattle.series.specs.Series.{∂}
 use Rattle.zmod.specs.Zmod.{Zmod}
 use Rattle.zmod.specs.Residues.{poly}
-use Rattle.slices.specs.Stored.{Stored, stored-none, stored_more}
-use Rattle.poly.specs.Stored.{Of, stored-all}
+use Rattle.slices.specs.Stored.{Stored, stored_none, stored_more}
+use Rattle.poly.specs.Stored.{Of, stored_all}
 use Rattle.poly.proofs.derivative.Statement.{statement}
 use Rattle.poly.proofs.derivative.Tie as tie
 
@@ -17,7 +17,7 @@ abbrev decreases-loop : tie.decreases-loop
 decreases-loop a out₀ p k₀ out k = length out₀ - k
 
 loop-holds : tie.Need-loop-init invariant-loop decreases-loop
-loop-holds c = stored-none _ _
+loop-holds c = stored_none _ _
 
 derivative-coefficient-requires : tie.Need-derivative-coefficient-requires invariant-loop decreases-loop
 derivative-coefficient-requires c κs = search rules
@@ -47,7 +47,7 @@ returns : tie.Need-returns invariant-loop decreases-loop
 returns c =
     let at = c.before.before.before.before.args in
     let loop = c.before.loop in
-    stored-all at.p _ at.out.now loop.out loop.k (search rules) (search rules) loop.invariant
+    stored_all at.p _ at.out.now loop.out loop.k (search rules) (search rules) loop.invariant
 
 pub derivative-spec : {M : Type 1} → statement M
 derivative-spec =

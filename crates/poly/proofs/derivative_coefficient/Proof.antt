@@ -1,6 +1,6 @@
 -- `poly::derivative_coefficient` meets its contract. Assumes nothing.
 use borrow.Author.Rules.{rules}
-use Rattle.zmod.specs.Residues.{residue-same}
+use Rattle.zmod.specs.Residues.{residue_same}
 use Rattle.poly.proofs.Laws.{∂-word, ∂-past}
 use Rattle.poly.proofs.derivative_coefficient.Statement.{statement}
 use Rattle.poly.proofs.derivative_coefficient.Tie as tie
@@ -29,7 +29,7 @@ multiply-requires c κs = search rules
 returns : tie.Need-returns
 returns c =
     let at = c.before.before.before.before.args in
-    residue-same (∂-word at.p at.a.now at.k) c.multiply.ensures
+    residue_same (∂-word at.p at.a.now at.k) c.multiply.ensures
 
 returns-2 : tie.Need-returns-2
 returns-2 c =

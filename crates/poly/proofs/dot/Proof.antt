@@ -4,10 +4,10 @@ use mathlib.Core.Path.{◌≡◌, sym, ap, ◌∙◌}
 use Prim.Native.Nat.{ℕ, ◌-◌, ◌*◌, ◌≤◌}
 use native.Mathlib.Omega.{arith}
 use borrow.Author.Rules.{rules}
-use Rattle.zmod.specs.Zmod.{mk, plus, plus-zero}
+use Rattle.zmod.specs.Zmod.{mk, plus, plus_zero}
 use Rattle.poly.specs.Partial.{partial}
 use Rattle.rows.specs.Sums.{product_le}
-use Rattle.poly.proofs.Sums.{partial-more}
+use Rattle.poly.proofs.Sums.{partial_more}
 use Rattle.poly.proofs.dot.Statement.{statement}
 use Rattle.poly.proofs.dot.Tie as tie
 
@@ -19,7 +19,7 @@ abbrev decreases-loop : tie.decreases-loop
 decreases-loop a b from to k s₀ i₀ s i = to - i
 
 loop-holds : tie.Need-loop-init invariant-loop decreases-loop
-loop-holds c = (search rules, search rules, search rules, λ p. sym (plus-zero p _))
+loop-holds c = (search rules, search rules, search rules, λ p. sym (plus_zero p _))
 
 mul-product : tie.Need-overflow-mul-product invariant-loop decreases-loop
 mul-product c = search rules
@@ -49,8 +49,8 @@ small c =
 add-s : tie.Need-overflow-add-s invariant-loop decreases-loop
 add-s c = omega (arith, small c)
 
-add-i : tie.Need-overflow-add-i invariant-loop decreases-loop
-add-i c = search rules
+add_i : tie.Need-overflow-add-i invariant-loop decreases-loop
+add_i c = search rules
 
 loop-less : tie.Need-loop-smaller invariant-loop decreases-loop
 loop-less c = search rules
@@ -62,7 +62,7 @@ loop-again c =
       search rules,
       search rules,
       omega (arith, small c),
-      λ p. partial-more p at.a.now at.b.now at.k at.from loop.i loop.s c.product.result c.product.ensures (loop.invariant.3 p),
+      λ p. partial_more p at.a.now at.b.now at.k at.from loop.i loop.s c.product.result c.product.ensures (loop.invariant.3 p),
     )
 
 returns : tie.Need-returns invariant-loop decreases-loop
@@ -85,7 +85,7 @@ dot-spec =
     shared-slice-read-product-2
     product-requires
     add-s
-    add-i
+    add_i
     loop-less
     loop-again
     returns)

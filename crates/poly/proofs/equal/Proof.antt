@@ -6,7 +6,7 @@ use native.Mathlib.Omega.{arith}
 use borrow.Author.Count.{below_none, below_more}
 use borrow.Author.Rules.{rules}
 use lib.ListN.{length, get_or}
-use Rattle.poly.proofs.Laws.{same-words, same_word}
+use Rattle.poly.proofs.Laws.{same_words, same_word}
 use Rattle.poly.proofs.equal.Statement.{statement}
 use Rattle.poly.proofs.equal.Tie as tie
 
@@ -40,8 +40,8 @@ returns c =
           c.before.word2.ensures)),
     )
 
-add-i : tie.Need-overflow-add-i invariant-loop decreases-loop
-add-i c = search rules
+add_i : tie.Need-overflow-add-i invariant-loop decreases-loop
+add_i c = search rules
 
 loop-less : tie.Need-loop-smaller invariant-loop decreases-loop
 loop-less c = search rules
@@ -60,7 +60,7 @@ returns-2 : tie.Need-returns-2 invariant-loop decreases-loop
 returns-2 c =
     let at = c.before.before.before.before.before.args in
     let loop = c.before.loop in
-    λ p ha hb. (λ e. same-words p at.a.now at.b.now loop.i (omega arith) (omega arith) loop.invariant.2, λ e. refl)
+    λ p ha hb. (λ e. same_words p at.a.now at.b.now loop.i (omega arith) (omega arith) loop.invariant.2, λ e. refl)
 
 pub equal-spec : {M : Type 1} → statement M
 equal-spec =
@@ -73,7 +73,7 @@ equal-spec =
     word-requires
     word-requires-2
     returns
-    add-i
+    add_i
     loop-less
     loop-again
     returns-2)

@@ -5,9 +5,9 @@ use lib.ListN.{length}
 use Rattle.series.specs.Series.{conv}
 use Rattle.zmod.specs.Zmod.{Zmod}
 use Rattle.zmod.specs.Residues.{poly}
-use Rattle.slices.specs.Stored.{Stored, stored-none, stored_more}
-use Rattle.poly.specs.Stored.{Of, stored-all}
-use Rattle.poly.proofs.Laws.{product-turn}
+use Rattle.slices.specs.Stored.{Stored, stored_none, stored_more}
+use Rattle.poly.specs.Stored.{Of, stored_all}
+use Rattle.poly.proofs.Laws.{product_turn}
 use Rattle.poly.proofs.product.Statement.{statement}
 use Rattle.poly.proofs.product.Tie as tie
 
@@ -18,7 +18,7 @@ abbrev decreases-loop : tie.decreases-loop
 decreases-loop a b out₀ p n₀ out n = length out₀ - n
 
 loop-holds : tie.Need-loop-init invariant-loop decreases-loop
-loop-holds c = stored-none _ _
+loop-holds c = stored_none _ _
 
 coefficient-requires : tie.Need-coefficient-requires invariant-loop decreases-loop
 coefficient-requires c κs = search rules
@@ -40,7 +40,7 @@ loop-again c =
     let loop = c.before.before.loop in
     let at = c.before.before.before.before.before.before.args in
     stored_more _ at.out.now loop.out loop.n c.coefficient.result (search rules) loop.invariant
-    (product-turn at.p c.coefficient.result at.a.now at.b.now loop.n c.coefficient.ensures)
+    (product_turn at.p c.coefficient.result at.a.now at.b.now loop.n c.coefficient.ensures)
 
 same_length : tie.Need-same-length invariant-loop decreases-loop
 same_length c = search rules
@@ -49,7 +49,7 @@ returns : tie.Need-returns invariant-loop decreases-loop
 returns c =
     let at = c.before.before.before.before.before.args in
     let loop = c.before.loop in
-    stored-all at.p _ at.out.now loop.out loop.n (search rules) (search rules) loop.invariant
+    stored_all at.p _ at.out.now loop.out loop.n (search rules) (search rules) loop.invariant
 
 pub product-spec : {M : Type 1} → statement M
 product-spec =

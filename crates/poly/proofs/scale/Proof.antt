@@ -5,9 +5,9 @@ use lib.ListN.{length, get_or}
 use Rattle.series.specs.Series.{scaled}
 use Rattle.zmod.specs.Zmod.{Zmod, mk}
 use Rattle.zmod.specs.Residues.{poly}
-use Rattle.slices.specs.Stored.{Stored, stored-none, stored_more, word_kept}
-use Rattle.poly.specs.Stored.{Of, stored-all}
-use Rattle.poly.proofs.Laws.{scale-turn}
+use Rattle.slices.specs.Stored.{Stored, stored_none, stored_more, word_kept}
+use Rattle.poly.specs.Stored.{Of, stored_all}
+use Rattle.poly.proofs.Laws.{scale_turn}
 use Rattle.poly.proofs.scale.Statement.{statement}
 use Rattle.poly.proofs.scale.Tie as tie
 
@@ -18,7 +18,7 @@ abbrev decreases-loop : tie.decreases-loop
 decreases-loop out₀ c p k₀ out k = length out₀ - k
 
 loop-holds : tie.Need-loop-init invariant-loop decreases-loop
-loop-holds c = stored-none _ _
+loop-holds c = stored_none _ _
 
 mul-multiply : tie.Need-overflow-mul-multiply invariant-loop decreases-loop
 mul-multiply c = search rules
@@ -46,7 +46,7 @@ loop-again c =
     let loop = c.before.before.before.loop in
     let at = c.before.before.before.before.before.args in
     stored_more _ at.out.now loop.out loop.k c.multiply.result (search rules) loop.invariant
-    (scale-turn at.p at.c (get_or loop.out loop.k 0) c.multiply.result at.out.now loop.k (word_kept _ _ _ _ loop.invariant)
+    (scale_turn at.p at.c (get_or loop.out loop.k 0) c.multiply.result at.out.now loop.k (word_kept _ _ _ _ loop.invariant)
     c.multiply.ensures)
 
 same_length : tie.Need-same-length invariant-loop decreases-loop
@@ -56,7 +56,7 @@ returns : tie.Need-returns invariant-loop decreases-loop
 returns c =
     let at = c.before.before.before.args in
     let loop = c.before.loop in
-    stored-all at.p _ at.out.now loop.out loop.k (search rules) (search rules) loop.invariant
+    stored_all at.p _ at.out.now loop.out loop.k (search rules) (search rules) loop.invariant
 
 pub scale-spec : {M : Type 1} → statement M
 scale-spec =

@@ -5,7 +5,7 @@ use native.Mathlib.Omega.{arith}
 use borrow.Author.Rules.{rules}
 use Rattle.zmod.specs.Zmod.{mk, plus, plus_comm}
 use Rattle.poly.specs.Partial.{partial}
-use Rattle.poly.proofs.Sums.{reduced-mono, span-turn}
+use Rattle.poly.proofs.Sums.{reduced_mono, span_turn}
 use Rattle.poly.proofs.span.Statement.{statement}
 use Rattle.poly.proofs.span.Tie as tie
 
@@ -37,8 +37,8 @@ dot-requires c κs =
       (
         omega arith,
         (
-          reduced-mono start.args.a.now (search rules) start.requires.1.1.0,
-          reduced-mono start.args.b.now (search rules)
+          reduced_mono start.args.a.now (search rules) start.requires.1.1.0,
+          reduced_mono start.args.b.now (search rules)
               start.requires.1.1.1,
         ),
       ),
@@ -50,8 +50,8 @@ add-reduce c = search rules
 reduce-requires : tie.Need-reduce-requires invariant-loop decreases-loop
 reduce-requires c κs = search rules
 
-add-i : tie.Need-overflow-add-i invariant-loop decreases-loop
-add-i c = search rules
+add_i : tie.Need-overflow-add-i invariant-loop decreases-loop
+add_i c = search rules
 
 loop-less : tie.Need-loop-smaller invariant-loop decreases-loop
 loop-less c = search rules
@@ -63,7 +63,7 @@ loop-again c =
       omega arith,
       omega arith,
       c.reduce.ensures.below,
-      span-turn at.p at.a.now at.b.now at.k (mk at.p at.start) at.from loop.i (loop.i + at.size) loop.s c.before.dot.result
+      span_turn at.p at.a.now at.b.now at.k (mk at.p at.start) at.from loop.i (loop.i + at.size) loop.s c.before.dot.result
           c.reduce.result
           (c.reduce.ensures.class ∙ ap (λ n. mk at.p (n + c.before.dot.result)) c.before.before.wide.ensures) loop.invariant.3
           (c.before.dot.ensures.0 at.p),
@@ -79,8 +79,8 @@ dot-requires-2 c κs =
       (
         omega arith,
         (
-          reduced-mono start.args.a.now (search rules) start.requires.1.1.0,
-          reduced-mono start.args.b.now (search rules)
+          reduced_mono start.args.a.now (search rules) start.requires.1.1.0,
+          reduced_mono start.args.b.now (search rules)
               start.requires.1.1.1,
         ),
       ),
@@ -93,7 +93,7 @@ returns : tie.Need-returns invariant-loop decreases-loop
 returns c =
     let at = c.before.before.before.before.before.before.args in
     let loop = c.before.before.before.loop in (
-      span-turn at.p at.a.now at.b.now at.k (mk at.p at.start) at.from loop.i at.to loop.s c.dot2.result
+      span_turn at.p at.a.now at.b.now at.k (mk at.p at.start) at.from loop.i at.to loop.s c.dot2.result
           (c.before.wide2.result + c.dot2.result)
           (ap (λ n. mk at.p (n + c.dot2.result)) c.before.wide2.ensures) loop.invariant.3 (c.dot2.ensures.0 at.p),
       omega arith,
@@ -112,7 +112,7 @@ span-spec =
     dot-requires
     add-reduce
     reduce-requires
-    add-i
+    add_i
     loop-less
     loop-again
     wide-requires-2

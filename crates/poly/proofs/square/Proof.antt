@@ -3,9 +3,9 @@ use mathlib.Core.Path.{◌≡◌, subst}
 use Prim.Native.Nat.{◌*◌, ◌^◌, ◌≤◌}
 use native.Mathlib.Omega.{arith}
 use lib.ListN.{length}
-use Rattle.barrett.specs.Modulus.{prepared-positive, prepared-below}
+use Rattle.barrett.specs.Modulus.{prepared_positive, prepared_below}
 use Rattle.rows.specs.Room.{turns}
-use Rattle.rows.specs.Sums.{product-sums, sums-residues}
+use Rattle.rows.specs.Sums.{product_sums, sums_residues}
 use borrow.Author.Rules.{rules}
 use Rattle.poly.proofs.square.Statement.{statement}
 use Rattle.poly.proofs.square.Tie as tie
@@ -14,7 +14,7 @@ square-by-coefficients-requires : tie.Need-square-by-coefficients-requires
 square-by-coefficients-requires c κs =
     let start = c.before.before.before.before.before.before in
     let m = start.requires.0.0 in
-    (prepared-positive m, omega (arith, prepared-below m), start.requires.0.1)
+    (prepared_positive m, omega (arith, prepared_below m), start.requires.0.1)
 
 same_length : tie.Need-same-length
 same_length c = search rules
@@ -36,13 +36,13 @@ square-requires c κs =
     let start = c.before.before.before.before.before.before.before in
     let pre = start.requires in
     let m = pre.0.0 in
-    ((pre.1.1, pre.1.2), (prepared-positive m, omega (arith, prepared-below m), pre.0.1, few start))
+    ((pre.1.1, pre.1.2), (prepared_positive m, omega (arith, prepared_below m), pre.0.1, few start))
 
 remainders-requires : tie.Need-remainders-requires
 remainders-requires c κs =
     let at-square = c.before.before.before.before.before.before in
     let start = at-square.before.before.before.before.before.before.before.before in
-    (search rules, (product-sums (prepared-positive start.requires.0.0) (few start) at-square.square.ensures).bounded)
+    (search rules, (product_sums (prepared_positive start.requires.0.0) (few start) at-square.square.ensures).bounded)
 
 same-length-2 : tie.Need-same-length-2
 same-length-2 c = search rules
@@ -58,8 +58,8 @@ returns-2 c =
     let at-remainders = c.before.before in
     let at-square = at-remainders.before.before.before.before.before.before.before in
     let start = at-square.before.before.before.before.before.before.before.before in
-    let sums = product-sums (prepared-positive start.requires.0.0) (few start) at-square.square.ensures in
-    sums-residues (search rules) sums at-remainders.remainders.ensures
+    let sums = product_sums (prepared_positive start.requires.0.0) (few start) at-square.square.ensures in
+    sums_residues (search rules) sums at-remainders.remainders.ensures
 
 pub square-spec : {M : Type 1} → statement M
 square-spec = tie.close (tie.spec square-by-coefficients-requires same_length returns square-requires remainders-requires same-length-2 same-length-3

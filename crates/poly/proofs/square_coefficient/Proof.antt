@@ -1,8 +1,8 @@
 -- `poly::square_coefficient` meets its contract: the span has the terms before the middle one. Assumes nothing.
 use native.Mathlib.Omega.{arith}
 use borrow.Author.Rules.{rules}
-use Rattle.poly.proofs.Sums.{reduced-mono}
-use Rattle.poly.proofs.Twins.{alone-le, square-class}
+use Rattle.poly.proofs.Sums.{reduced_mono}
+use Rattle.poly.proofs.Twins.{alone_le, square_class}
 use Rattle.poly.proofs.square_coefficient.Statement.{statement}
 use Rattle.poly.proofs.square_coefficient.Tie as tie
 
@@ -36,7 +36,7 @@ add-reduce-2 : tie.Need-overflow-add-reduce-2
 add-reduce-2 c =
     let start = c.before.before.before.before.before.before in
     let at = start.args in
-    omega (arith, alone-le at.p at.a.now at.k c.middle.result c.middle.ensures (reduced-mono at.a.now (search rules) start.requires.3))
+    omega (arith, alone_le at.p at.a.now at.k c.middle.result c.middle.ensures (reduced_mono at.a.now (search rules) start.requires.3))
 
 reduce-requires : tie.Need-reduce-requires
 reduce-requires c κs = search rules
@@ -45,7 +45,7 @@ returns : tie.Need-returns
 returns c =
     let at = c.before.before.before.before.before.before.before.args in
     let from = c.before.before.before.before.before.over in
-    square-class at.p at.a.now at.k from.result c.before.before.before.most.result c.reduce.result c.before.before.span.result
+    square_class at.p at.a.now at.k from.result c.before.before.before.most.result c.reduce.result c.before.before.span.result
     c.before.middle.result
     from.ensures (omega arith) c.before.middle.ensures c.before.before.span.ensures.0 c.reduce.ensures
 

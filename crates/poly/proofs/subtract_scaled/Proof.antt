@@ -2,8 +2,8 @@
 use mathlib.Core.Path.{ap}
 use Rattle.series.specs.Series.{sums}
 use Rattle.zmod.specs.Zmod.{Zmod}
-use Rattle.zmod.specs.Residues.{poly, residues-same}
-use Rattle.poly.proofs.Laws.{scaled-minus}
+use Rattle.zmod.specs.Residues.{poly, residues_same}
+use Rattle.poly.proofs.Laws.{scaled_minus}
 use borrow.Author.Rules.{rules}
 use Rattle.poly.proofs.subtract_scaled.Statement.{statement}
 use Rattle.poly.proofs.subtract_scaled.Tie as tie
@@ -22,8 +22,8 @@ returns c =
     let start = c.before.before.before.before.before.before.before in
     let at = start.args in
     let turned = c.before.before.before.negate in
-    residues-same
-    (ap (sums (Zmod at.p) (poly at.p at.out.now)) (scaled-minus at.p at.c turned.result (poly at.p at.a.now)
+    residues_same
+    (ap (sums (Zmod at.p) (poly at.p at.out.now)) (scaled_minus at.p at.c turned.result (poly at.p at.a.now)
     turned.ensures.class))
     c.before.before.add-scaled.ensures
 

@@ -5,7 +5,7 @@ use native.Mathlib.Omega.{arith}
 use lib.ListN.{length, get_or}
 use Rattle.series.specs.Series.{Seq}
 use Rattle.zmod.specs.Zmod.{Zmod}
-use Rattle.power_sums.specs.Sums.{most-due, Negated, Due}
+use Rattle.power_sums.specs.Sums.{most_due, Negated, Due}
 use borrow.Author.Rules.{rules}
 use Rattle.power_sums.proofs.known_rows.Statement.{statement}
 use Rattle.power_sums.proofs.known_rows.Tie as tie
@@ -13,7 +13,7 @@ use Rattle.power_sums.proofs.known_rows.Tie as tie
 -- Assumes nothing.
 abbrev invariant-loop : tie.invariant-loop
 invariant-loop e d acc₀ s from p i₀ acc i =
-    (length acc ≡ length acc₀) × (1 ≤ i) × (i % 4 ≡ 1) × (i ≤ from) × ((k : ℕ) → get_or acc k 0 ≤ most-due i)
+    (length acc ≡ length acc₀) × (1 ≤ i) × (i % 4 ≡ 1) × (i ≤ from) × ((k : ℕ) → get_or acc k 0 ≤ most_due i)
     × ((g : Seq (Zmod p)) → Negated p d g e → Due p d g acc₀ s from 1 → Due p d g acc s from i)
 
 abbrev decreases-loop : tie.decreases-loop
@@ -37,8 +37,8 @@ sums-rows-requires c κs =
       ),
     )
 
-add-i : tie.Need-overflow-add-i invariant-loop decreases-loop
-add-i c = search rules
+add_i : tie.Need-overflow-add-i invariant-loop decreases-loop
+add_i c = search rules
 
 loop-less : tie.Need-loop-smaller invariant-loop decreases-loop
 loop-less c = search rules
@@ -68,9 +68,9 @@ returns c =
     let a = start.args in
     let loop = at-loop.loop in
     let end : loop.i ≡ a.from = omega (arith, loop.invariant.3) in (
-      subst (λ n. (k : ℕ) → get_or loop.acc k 0 ≤ most-due n) end loop.invariant.4,
+      subst (λ n. (k : ℕ) → get_or loop.acc k 0 ≤ most_due n) end loop.invariant.4,
       λ g n h. subst (Due a.p a.d g loop.acc a.s.now a.from) end (loop.invariant.5 g n h),
     )
 
 pub known-rows-spec : {M : Type 1} → statement M
-known-rows-spec = tie.close (tie.spec invariant-loop decreases-loop loop-holds sums-rows-requires add-i loop-less loop-again same_length returns)
+known-rows-spec = tie.close (tie.spec invariant-loop decreases-loop loop-holds sums-rows-requires add_i loop-less loop-again same_length returns)

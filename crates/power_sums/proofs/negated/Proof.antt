@@ -4,10 +4,10 @@ use Prim.Native.Nat.{◌-◌, ◌≤◌}
 use native.Mathlib.Omega.{arith}
 use borrow.Author.Rules.{rules}
 use lib.ListN.{length, get_or}
-use Rattle.slices.specs.Stored.{Stored, stored-none, stored_more}
+use Rattle.slices.specs.Stored.{Stored, stored_none, stored_more}
 use Rattle.zmod.specs.Zmod.{mk, minus}
 use Rattle.zmod.specs.Residues.{Residue}
-use Rattle.rows.specs.Room.{zero-at}
+use Rattle.rows.specs.Room.{zero_at}
 use Rattle.power_sums.proofs.negated.Statement.{statement}
 use Rattle.power_sums.proofs.negated.Tie as tie
 
@@ -24,7 +24,7 @@ sub-d : tie.Need-overflow-sub-d invariant-loop decreases-loop
 sub-d c = search rules
 
 loop-holds : tie.Need-loop-init invariant-loop decreases-loop
-loop-holds c = (search rules, search rules, stored-none _ _)
+loop-holds c = (search rules, search rules, stored_none _ _)
 
 sub-negate : tie.Need-overflow-sub-negate invariant-loop decreases-loop
 sub-negate c = search rules
@@ -40,8 +40,8 @@ shared-slice-read-negate c = search rules
 
 negate-requires : tie.Need-negate-requires invariant-loop decreases-loop
 negate-requires c κs =
-    let at-start = c.before.before.before.before.before.before.before.before.before in
-    at-start.requires.2 _
+    let at_start = c.before.before.before.before.before.before.before.before.before in
+    at_start.requires.2 _
 
 wide-requires : tie.Need-wide-requires invariant-loop decreases-loop
 wide-requires c κs = search rules
@@ -74,14 +74,14 @@ returns : tie.Need-returns invariant-loop decreases-loop
 returns c =
     let at-loop = c.before in
     let at_clear = at-loop.before.before.before in
-    let at-start = at_clear.before.before.before.before in
+    let at_start = at_clear.before.before.before.before in
     let loop = at-loop.loop in
-    let a = at-start.args in
+    let a = at_start.args in
     let end : loop.t ≡ length a.g.now - 1 = omega arith in
     record {
       words = λ t l. subst (λ n. Residue a.p (minus a.p (mk a.p (get_or a.g.now (n - 1 - t) 0))) (get_or loop.e t 0)) loop.invariant.0
           (loop.invariant.2.filled t (omega arith));
-      past = λ t l. loop.invariant.2.kept t (omega arith) ∙ ap (λ xs. get_or xs t 0) at_clear.clear.ensures ∙ zero-at (length a.e.now) t;
+      past = λ t l. loop.invariant.2.kept t (omega arith) ∙ ap (λ xs. get_or xs t 0) at_clear.clear.ensures ∙ zero_at (length a.e.now) t;
     }
 
 pub negated-spec : {M : Type 1} → statement M

@@ -54,8 +54,8 @@ returns : tie.Need-returns
 returns c =
     let at-sum-more = c.before in
     let at-wide3 = at-sum-more.before in
-    let at-start = at-wide3.before.before.before in
-    subst (λ n. Residue at-start.args.p (mk at-start.args.p n) c.reduce.result) (at-sum-more.sum_more.ensures ∙ total (at-wide3)) c.reduce.ensures
+    let at_start = at-wide3.before.before.before in
+    subst (λ n. Residue at_start.args.p (mk at_start.args.p n) c.reduce.result) (at-sum-more.sum_more.ensures ∙ total (at-wide3)) c.reduce.ensures
 
 pub residue-spec : {M : Type 1} → statement M
 residue-spec = tie.close (tie.spec wide-requires wide-requires-2 wide-requires-3 sum-more-requires reduce-requires returns)

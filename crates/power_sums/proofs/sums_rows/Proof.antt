@@ -3,15 +3,15 @@ use mathlib.Core.Path.{◌≡◌, ◌∙◌}
 use Prim.Native.Nat.{ℕ, ◌+◌, ◌-◌, ◌*◌, ◌≤◌, ◌<◌, min}
 use native.Mathlib.Omega.{arith}
 use lib.ListN.{length, get_or, take, drop, length-take, length-drop}
-use Rattle.slices.specs.Stored.{part-below}
-use Rattle.rows.specs.Rows.{row-le, added-le}
+use Rattle.slices.specs.Stored.{part_below}
+use Rattle.rows.specs.Rows.{row_le, added_le}
 use Rattle.power_sums.specs.Four.{tail_at}
-use Rattle.power_sums.specs.Sums.{most-due, same_rows, due-rows}
+use Rattle.power_sums.specs.Sums.{most_due, same_rows, due_rows}
 use borrow.Author.Rules.{rules}
 use Rattle.power_sums.proofs.sums_rows.Statement.{statement}
 use Rattle.power_sums.proofs.sums_rows.Tie as tie
 
-grown : (i a b : ℕ) → 1 ≤ i → a ≤ most-due i → b ≤ a + 4 * (268435455 * 268435455) → b ≤ most-due (i + 4)
+grown : (i a b : ℕ) → 1 ≤ i → a ≤ most_due i → b ≤ a + 4 * (268435455 * 268435455) → b ≤ most_due (i + 4)
 grown i a b l h m = omega arith
 
 -- what lies past the rows is past d
@@ -78,7 +78,7 @@ add-rows-requires c κs =
     let n = length a.e.now - skip in
     let size = at_least_lem.least.ensures in
     let low = start.requires.1.0.2 in
-    let below = part-below a.e.now skip n a.p start.requires.1.0.0 low in
+    let below = part_below a.e.now skip n a.p start.requires.1.0.0 low in
     let words = start.requires.1.0.4 in
     let w = words a.i (omega arith) in
     let x = words (1 + a.i) (omega arith) in
@@ -98,7 +98,7 @@ add-rows-requires c κs =
         λ j l. omega (
           arith,
           start.requires.1.1 (a.from + j),
-          row-le 268435455 268435455 (get_or a.acc.now (a.from + j) 0) (take n (drop skip a.e.now)) j at-word.word.result
+          row_le 268435455 268435455 (get_or a.acc.now (a.from + j) 0) (take n (drop skip a.e.now)) j at-word.word.result
               at-word2.word2.result at-word3.word3.result c.word4.result (omega (arith, ew, w)) (omega (arith, ex, x)) (omega (arith, ey, y))
               (omega (arith, ez, z)) (λ u. omega (arith, below u)),
         ),
@@ -122,7 +122,7 @@ returns c =
     let n = length a.e.now - skip in
     let e' = take n (drop skip a.e.now) in
     let size = at_least_lem.least.ensures in
-    let below = part-below a.e.now skip n a.p start.requires.1.0.0 start.requires.1.0.2 in
+    let below = part_below a.e.now skip n a.p start.requires.1.0.0 start.requires.1.0.2 in
     let words = start.requires.1.0.4 in
     let w = words a.i (omega arith) in
     let x = words (1 + a.i) (omega arith) in
@@ -132,9 +132,9 @@ returns c =
     let rows = same_rows a.acc.now e' added.new.0 a.from at_least_lem.least.result _ _ _ _ _ _ _ _
     at-word.word.ensures at-word2.word2.ensures at-word3.word3.ensures at-word4.word4.ensures added.ensures in (
       λ k. grown a.i (get_or a.acc.now k 0) (get_or added.new.0 k 0) start.requires.0.0 (start.requires.1.1 k)
-          (added-le 268435455 268435455 a.acc.now e' a.from at_least_lem.least.result _ _ _ _ added.new.0 rows
+          (added_le 268435455 268435455 a.acc.now e' a.from at_least_lem.least.result _ _ _ _ added.new.0 rows
           (omega (arith, w)) (omega (arith, x)) (omega (arith, y)) (omega (arith, z)) (λ u. omega (arith, below u)) k),
-      λ g negated. due-rows a.p a.d g a.e.now e' a.acc.now added.new.0 a.s.now a.i a.from at_least_lem.least.result
+      λ g negated. due_rows a.p a.d g a.e.now e' a.acc.now added.new.0 a.s.now a.i a.from at_least_lem.least.result
           (omega arith) (omega arith) negated (tail_at a.e.now skip)
           rows (λ l t m. tail_at a.e.now skip t ∙ start.requires.1.0.3 (skip + t) (past a.d skip (length a.acc.now) a.from _ t size l m))
           (search rules),

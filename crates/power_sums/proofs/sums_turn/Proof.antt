@@ -6,8 +6,8 @@ use borrow.Author.Rules.{rules}
 use lib.ListN.{get_or}
 use Rattle.rows.specs.Sums.{product_le}
 use Rattle.zmod.specs.Zmod.{Zmod, mk}
-use Rattle.power_sums.specs.Four.{solved-four, reduced-four}
-use Rattle.power_sums.specs.Sums.{Newton, newton-causal, newton₀, newton₁, newton₂, newton₃, due-now}
+use Rattle.power_sums.specs.Four.{solved_four, reduced_four}
+use Rattle.power_sums.specs.Sums.{Newton, newton_causal, newton₀, newton₁, newton₂, newton₃, due_now}
 use Rattle.power_sums.proofs.sums_turn.Statement.{statement}
 use Rattle.power_sums.proofs.sums_turn.Tie as tie
 
@@ -158,7 +158,7 @@ sums-rows-requires c κs =
           pre.1,
           pre.2,
           pre.3,
-          reduced-four a.p a.s.now at-put.put.new.0 a.i _ _ _ _ at-put.put.ensures at-reduce.reduce.ensures.below
+          reduced_four a.p a.s.now at-put.put.new.0 a.i _ _ _ _ at-put.put.ensures at-reduce.reduce.ensures.below
               at-residue.residue.ensures.below at-residue2.residue2.ensures.below at-residue3.residue3.ensures.below pre.4,
         ),
         start.requires.1.1,
@@ -191,24 +191,24 @@ returns c =
     let s = put.new.0 in (
       (
         rows.ensures.0,
-        reduced-four a.p a.s.now s a.i _ _ _ _ put.ensures w.ensures.below x.ensures.below y.ensures.below z.ensures.below
+        reduced_four a.p a.s.now s a.i _ _ _ _ put.ensures w.ensures.below x.ensures.below y.ensures.below z.ensures.below
             pre.4,
       ),
       λ g n h. record {
-        solved = solved-four a.p (Newton (Zmod a.p) a.d g) (newton-causal a.p a.d g) a.s.now s a.i w.result x.result
+        solved = solved_four a.p (Newton (Zmod a.p) a.d g) (newton_causal a.p a.d g) a.s.now s a.i w.result x.result
             y.result z.result put.ensures w.ensures.below x.ensures.below y.ensures.below z.ensures.below
-            (newton₀ a.p a.d g a.e.now a.acc.now a.s.now s a.i _ _ _ _ start.requires.0.0 (omega arith) n h.due-from put.ensures
+            (newton₀ a.p a.d g a.e.now a.acc.now a.s.now s a.i _ _ _ _ start.requires.0.0 (omega arith) n h.due_from put.ensures
             (sym w.ensures.class))
-            (newton₁ a.p a.d g a.e.now a.acc.now a.s.now s a.i _ _ _ _ start.requires.0.0 (omega arith) n h.due-from put.ensures
+            (newton₁ a.p a.d g a.e.now a.acc.now a.s.now s a.i _ _ _ _ start.requires.0.0 (omega arith) n h.due_from put.ensures
             (sym (x.ensures.class ∙ ap (mk a.p) (omega arith))))
-            (newton₂ a.p a.d g a.e.now a.acc.now a.s.now s a.i _ _ _ _ start.requires.0.0 (omega arith) n h.due-from put.ensures
+            (newton₂ a.p a.d g a.e.now a.acc.now a.s.now s a.i _ _ _ _ start.requires.0.0 (omega arith) n h.due_from put.ensures
             (sym (y.ensures.class ∙ ap (mk a.p) (omega arith))))
-            (newton₃ a.p a.d g a.e.now a.acc.now a.s.now s a.i _ _ _ _ start.requires.0.0 (omega arith) n h.due-from put.ensures
+            (newton₃ a.p a.d g a.e.now a.acc.now a.s.now s a.i _ _ _ _ start.requires.0.0 (omega arith) n h.due_from put.ensures
             (sym z.ensures.class))
             h.solved;
-        due-from = rows.ensures.1 g n (λ k l m. due-now a.p a.d g a.e.now a.acc.now a.s.now s a.i _ _ _ _ start.requires.0.0
+        due_from = rows.ensures.1 g n (λ k l m. due_now a.p a.d g a.e.now a.acc.now a.s.now s a.i _ _ _ _ start.requires.0.0
             (omega arith) n
-            h.due-from put.ensures k (omega arith) m);
+            h.due_from put.ensures k (omega arith) m);
       },
     )
 

@@ -7,13 +7,13 @@ use lib.ListN.{length, get_or}
 use Rattle.series.specs.Series.{Seq}
 use Rattle.zmod.specs.Zmod.{Zmod}
 use Rattle.expansion.specs.Equations.{ReducedTo}
-use Rattle.power_sums.specs.Sums.{most-due, Negated, Known}
+use Rattle.power_sums.specs.Sums.{most_due, Negated, Known}
 use Rattle.power_sums.proofs.sums_turns.Statement.{statement}
 use Rattle.power_sums.proofs.sums_turns.Tie as tie
 
 abbrev invariant-loop : tie.invariant-loop
 invariant-loop e d acc₀ s₀ from p i₀ acc s i =
-    (length acc ≡ length acc₀) × (length s ≡ length s₀) × (1 ≤ i) × (i % 4 ≡ 1) × (i ≤ length s) × ((k : ℕ) → get_or acc k 0 ≤ most-due i)
+    (length acc ≡ length acc₀) × (length s ≡ length s₀) × (1 ≤ i) × (i % 4 ≡ 1) × (i ≤ length s) × ((k : ℕ) → get_or acc k 0 ≤ most_due i)
     × ReducedTo p s i × ((g : Seq (Zmod p)) → Negated p d g e → Known p d g acc₀ s₀ from → Known p d g acc s i)
 
 abbrev decreases-loop : tie.decreases-loop
@@ -35,8 +35,8 @@ sums-turn-requires c κs =
       ((over.1, over.2, over.3, over.4, loop.invariant.6), loop.invariant.5),
     )
 
-add-i : tie.Need-overflow-add-i invariant-loop decreases-loop
-add-i c = search rules
+add_i : tie.Need-overflow-add-i invariant-loop decreases-loop
+add_i c = search rules
 
 loop-less : tie.Need-loop-smaller invariant-loop decreases-loop
 loop-less c = search rules
@@ -74,4 +74,4 @@ returns c =
     λ g n h. subst (Known a.p a.d g loop.acc loop.s) end (loop.invariant.7 g n h)
 
 pub sums-turns-spec : {M : Type 1} → statement M
-sums-turns-spec = tie.close (tie.spec invariant-loop decreases-loop loop-holds sums-turn-requires add-i loop-less loop-again same_length same-length-2 returns)
+sums-turns-spec = tie.close (tie.spec invariant-loop decreases-loop loop-holds sums-turn-requires add_i loop-less loop-again same_length same-length-2 returns)

@@ -6,8 +6,8 @@ use native.Mathlib.Omega.{arith}
 use borrow.Author.Rules.{rules}
 use lib.ListN.{length, get_or}
 use Rattle.slices.specs.Stored.{Stored, stored_more}
-use Rattle.rows.specs.Room.{zero-at}
-use Rattle.power_sums.specs.Sums.{weights-all}
+use Rattle.rows.specs.Room.{zero_at}
+use Rattle.power_sums.specs.Sums.{weights_all}
 use Rattle.power_sums.proofs.weights.Statement.{statement}
 use Rattle.power_sums.proofs.weights.Tie as tie
 
@@ -32,7 +32,7 @@ first c j l =
     let at : 0 ≡ j = omega arith in
     subst (λ j. get_or c.before.before.before.clear.new.0 j 0 ≡ 2 * j * get_or c.before.before.before.before.before.before.before.args.e.now
     (j - 1) 0) at
-    (ap (λ xs. get_or xs 0 0) c.before.before.before.clear.ensures ∙ zero-at (length c.before.before.before.before.before.before.before.args.acc.now) 0 ∙ sym (N.zero-mul _))
+    (ap (λ xs. get_or xs 0 0) c.before.before.before.clear.ensures ∙ zero_at (length c.before.before.before.before.before.before.before.args.acc.now) 0 ∙ sym (N.zero-mul _))
 
 loop-holds : tie.Need-loop-init invariant-loop decreases-loop
 loop-holds c = (
@@ -56,8 +56,8 @@ shared-slice-read-product c = search rules
 product-requires : tie.Need-product-requires invariant-loop decreases-loop
 product-requires c κs =
     let at-loop = c.before.before in
-    let at-start = at-loop.before.before.before.before.before.before.before.before in
-    let pre = at-start.requires in
+    let at_start = at-loop.before.before.before.before.before.before.before.before in
+    let pre = at_start.requires in
     let loop = at-loop.loop in
     (omega (arith, pre.1.0), omega (arith, pre.1.2 (loop.k - 1)))
 
@@ -88,7 +88,7 @@ returns c =
     let start = at_clear.before.before.before.before in
     let loop = at-loop.loop in
     let a = start.args in
-    weights-all a.e.now at_clear.clear.new.0 loop.acc a.d (length a.acc.now) loop.k (omega arith)
+    weights_all a.e.now at_clear.clear.new.0 loop.acc a.d (length a.acc.now) loop.k (omega arith)
     loop.invariant.2 at_clear.clear.ensures start.requires.1.3
 
 pub weights-spec : {M : Type 1} → statement M

@@ -7,7 +7,7 @@ use native.Mathlib.Omega.{arith}
 use borrow.Author.Rules.{rules}
 use Rattle.trial.specs.Walk.{table, climbs, walk, passes}
 use Rattle.trial.specs.Beside.{pairs, beside}
-use Rattle.trial.specs.Runs.{run-on-decides}
+use Rattle.trial.specs.Runs.{run_on_decides}
 use Rattle.primes.proofs.undivided_to_1021.Statement.{statement}
 use Rattle.primes.proofs.undivided_to_1021.Tie as tie
 
@@ -29,7 +29,7 @@ returns : tie.Need-returns
 unfolding climbs walk passes
 returns c =
     let start = c.before.before.before in
-    run-on-decides c.by-products.ensures (table 511 1024 _ refl tt tt) start.requires.2 (omega arith) (omega arith)
+    run_on_decides c.by-products.ensures (table 511 1024 _ refl tt tt) start.requires.2 (omega arith) (omega arith)
 
 pub undivided-to-1021-spec : {M : Type 1} → statement M
 undivided-to-1021-spec =

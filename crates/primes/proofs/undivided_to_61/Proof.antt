@@ -4,7 +4,7 @@ use mathlib.Core.Path.{refl}
 use native.Mathlib.Omega.{arith}
 use borrow.Author.Rules.{rules}
 use Rattle.trial.specs.Walk.{table, climbs, walk, passes}
-use Rattle.trial.specs.Runs.{run-decides}
+use Rattle.trial.specs.Runs.{run_decides}
 use Rattle.primes.proofs.undivided_to_61.Statement.{statement}
 use Rattle.primes.proofs.undivided_to_61.Tie as tie
 
@@ -20,7 +20,7 @@ by-remainders-requires c κs = (omega arith, omega arith, table 31 64 _ refl tt 
 
 returns : tie.Need-returns
 unfolding climbs walk passes
-returns c = run-decides c.by-remainders.ensures (table 31 64 _ refl tt tt) (λ j l. absurd (omega arith))
+returns c = run_decides c.by-remainders.ensures (table 31 64 _ refl tt tt) (λ j l. absurd (omega arith))
 
 pub undivided-to-61-spec : {M : Type 1} → statement M
 undivided-to-61-spec =

@@ -19,7 +19,7 @@ returns : tie.Need-returns
 returns c =
     let call = c.before.before.before.before.check in
     printed (CheckText c.before.before.before.before.before.before.before.args.bytes.now) c.before.before.verdict-text.ensures
-    (record { answer = call.result; right = call.ensures; text-is = refl })
+    (record { answer = call.result; right = call.ensures; text_is = refl })
 
-pub check-spec : {M : Type 1} → statement M
-check-spec = tie.close (tie.spec check-requires verdict-text-requires same_length returns)
+pub check_spec : {M : Type 1} → statement M
+check_spec = tie.close (tie.spec check-requires verdict-text-requires same_length returns)

@@ -19,7 +19,7 @@ returns : tie.Need-returns
 returns c =
     let call = c.before.before.before.before.push-input in
     printed (PushText c.before.before.before.before.before.before.before.args.bytes.now) c.before.before.image-text.ensures
-    (record { answer = call.result; right = call.ensures; text-is = refl })
+    (record { answer = call.result; right = call.ensures; text_is = refl })
 
 pub push_spec : {M : Type 1} → statement M
 push_spec = tie.close (tie.spec push-input-requires image-text-requires same_length returns)

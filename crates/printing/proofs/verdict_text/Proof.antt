@@ -1,8 +1,8 @@
 -- `printing::verdict_text` meets its contract. Assumes nothing.
 use borrow.Author.Rules.{rules}
 use mathlib.Core.Path.{refl, sym, ap}
-use Rattle.text.specs.Fills.{fills-as}
-use Rattle.printing.specs.Printing.{verdictText}
+use Rattle.text.specs.Fills.{fills_as}
+use Rattle.printing.specs.Printing.{verdict_text}
 use Rattle.printing.proofs.verdict_text.Statement.{statement}
 use Rattle.printing.proofs.verdict_text.Tie as tie
 
@@ -23,14 +23,14 @@ same_length c = search rules
 
 returns : tie.Need-returns
 returns c =
-    fills-as c.before.before.Passes-line.ensures (ap verdictText (sym c.before.before.before.before.enum_told.given.1)) refl
+    fills_as c.before.before.Passes-line.ensures (ap verdict_text (sym c.before.before.before.before.enum_told.given.1)) refl
 
 same-length-2 : tie.Need-same-length-2
 same-length-2 c = search rules
 
 returns-2 : tie.Need-returns-2
 returns-2 c =
-    fills-as c.before.before.refused-line.ensures (ap verdictText (sym c.before.before.before.before.before.verdict.given.1)) refl
+    fills_as c.before.before.refused-line.ensures (ap verdict_text (sym c.before.before.before.before.before.verdict.given.1)) refl
 
 pub verdict-text-spec : {M : Type 1} → statement M
 verdict-text-spec =

@@ -4,8 +4,8 @@ use mathlib.Core.Path.{refl, sym, ap, subst}
 use native.Mathlib.Omega.{arith}
 use lib.ListN.{length, length-take}
 use lib.Seq.{length-take-le}
-use Rattle.text.specs.Fills.{fills-as}
-use Rattle.printing.specs.Printing.{writtenText}
+use Rattle.text.specs.Fills.{fills_as}
+use Rattle.printing.specs.Printing.{written_text}
 use Rattle.printing.specs.Room.{Within}
 use Rattle.printing.proofs.written_text.Statement.{statement}
 use Rattle.printing.proofs.written_text.Tie as tie
@@ -13,8 +13,8 @@ use Rattle.printing.proofs.written_text.Tie as tie
 enum-known-written : tie.Need-enum-known-written
 enum-known-written c = search rules
 
-cast-n : tie.Need-overflow-cast-n
-cast-n c = search rules
+cast_n : tie.Need-overflow-cast-n
+cast_n c = search rules
 
 slice-aggregate-word-lines : tie.Need-slice-aggregate-word-lines
 slice-aggregate-word-lines c =
@@ -36,8 +36,8 @@ same_length c = search rules
 
 returns : tie.Need-returns
 returns c =
-    fills-as c.before.before.word-lines.ensures
-    (ap (writtenText c.before.before.before.before.before.before.before.before.before.before.args.words.now)
+    fills_as c.before.before.word-lines.ensures
+    (ap (written_text c.before.before.before.before.before.before.before.before.before.before.args.words.now)
     (sym c.before.before.before.before.before.before.written.given.1)) refl
 
 same-length-2 : tie.Need-same-length-2
@@ -45,8 +45,8 @@ same-length-2 c = search rules
 
 returns-2 : tie.Need-returns-2
 returns-2 c =
-    fills-as c.before.before.refused-line.ensures
-    (ap (writtenText c.before.before.before.before.before.before.before.before.before.args.words.now)
+    fills_as c.before.before.refused-line.ensures
+    (ap (written_text c.before.before.before.before.before.before.before.before.before.args.words.now)
     (sym c.before.before.before.before.before.written2.given.1)) refl
 
 pub written-text-spec : {M : Type 1} → statement M
@@ -54,7 +54,7 @@ written-text-spec =
     tie.close
     (tie.spec
     enum-known-written
-    cast-n
+    cast_n
     slice-aggregate-word-lines
     word-lines-requires
     enum-known-written-2

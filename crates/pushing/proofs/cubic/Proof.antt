@@ -1,6 +1,6 @@
 -- `pushing::cubic` meets its contract. Assumes nothing.
 use borrow.Author.Rules.{rules}
-use Rattle.pushing.proofs.Elements.{cubic-is}
+use Rattle.pushing.proofs.Elements.{cubic_is}
 use Rattle.pushing.proofs.cubic.Statement.{statement}
 use Rattle.pushing.proofs.cubic.Tie as tie
 
@@ -19,7 +19,7 @@ add-requires-2 c κs = search rules
 returns : tie.Need-returns
 returns c =
     let start = c.before.before.before.before in
-    cubic-is start.args.p start.args.a start.args.b start.args.x c.before.before.before.multiply.ensures
+    cubic_is start.args.p start.args.a start.args.b start.args.x c.before.before.before.multiply.ensures
     c.before.before.add.ensures c.before.multiply2.ensures c.add2.ensures
 
 pub cubic-spec : {M : Type 1} → statement M

@@ -3,7 +3,7 @@ use native.Mathlib.Omega.{arith}
 use borrow.Author.Rules.{rules}
 use Rattle.zmod.specs.Zmod.{mk}
 use Rattle.evaluation.specs.Jets.{JetOf}
-use Rattle.pushing.proofs.Images.{to-infinity, to-point}
+use Rattle.pushing.proofs.Images.{to_infinity, to_point}
 use Rattle.pushing.proofs.image_in.Statement.{statement}
 use Rattle.pushing.proofs.image_in.Tie as tie
 
@@ -29,7 +29,7 @@ evaluate-requires c κs =
     let filled = tables.tables.ensures in
     let s = start tables in (
       (search rules, search rules),
-      ((λ i. omega (arith, s.pre.0.1.reduced i, s.pre.0.0.prime), filled.powers-low, filled.slopes-low), search rules),
+      ((λ i. omega (arith, s.pre.0.1.reduced i, s.pre.0.0.prime), filled.powers_low, filled.slopes_low), search rules),
     )
 
 at_g : (c : tie.After-evaluate)
@@ -49,7 +49,7 @@ returns c =
     let at = c.before.before in
     let s = start (tabled at) in
     let a = s.args in
-    to-infinity a.v s.pre.0.0 a.g.now a.n.now s.pre.0.1.count s.pre.0.2.count a.x a.y at.evaluate.result (at_g at)
+    to_infinity a.v s.pre.0.0 a.g.now a.n.now s.pre.0.1.count s.pre.0.2.count a.x a.y at.evaluate.result (at_g at)
     c.if1.true
 
 evaluate-requires-2 : tie.Need-evaluate-requires-2
@@ -58,7 +58,7 @@ evaluate-requires-2 c κs =
     let filled = tables.tables.ensures in
     let s = start tables in (
       (search rules, search rules),
-      ((λ i. omega (arith, s.pre.0.2.reduced i, s.pre.0.0.prime), filled.powers-low, filled.slopes-low), search rules),
+      ((λ i. omega (arith, s.pre.0.2.reduced i, s.pre.0.0.prime), filled.powers_low, filled.slopes_low), search rules),
     )
 
 at_n : (c : tie.After-evaluate2)
@@ -72,7 +72,7 @@ slope-requires : tie.Need-slope-requires
 slope-requires c κs =
     let g = at_g (g_known c) in
     let n = at_n c in
-    (omega (arith, (start (tabled (g_known c))).requires.0.0.prime), g.value-is.below, g.slope-is.below, n.value-is.below, n.slope-is.below)
+    (omega (arith, (start (tabled (g_known c))).requires.0.0.prime), g.value_is.below, g.slope_is.below, n.value_is.below, n.slope_is.below)
 
 multiply-requires : tie.Need-multiply-requires
 multiply-requires c κs = search rules
@@ -80,7 +80,7 @@ multiply-requires c κs = search rules
 inverse-by-euclid-requires : tie.Need-inverse-by-euclid-requires
 inverse-by-euclid-requires c κs =
     let at = c.before.before in
-    ((start (tabled (g_known at))).requires.0.0.prime.prime, (omega (arith, (before-n at).if1.false), (at_g (g_known at)).value-is.below))
+    ((start (tabled (g_known at))).requires.0.0.prime.prime, (omega (arith, (before-n at).if1.false), (at_g (g_known at)).value_is.below))
 
 multiply-requires-2 : tie.Need-multiply-requires-2
 multiply-requires-2 c κs = search rules
@@ -110,7 +110,7 @@ returns-2 c =
     let at = n-known c in
     let s = start (tabled (g_known at)) in
     let a = s.args in
-    to-point a.v s.pre.0.0 a.g.now a.n.now s.pre.0.1.count s.pre.0.2.count a.x a.y (g_known at).evaluate.result
+    to_point a.v s.pre.0.0 a.g.now a.n.now s.pre.0.1.count s.pre.0.2.count a.x a.y (g_known at).evaluate.result
     (at_g (g_known at)) at.evaluate2.result (before-n at).if1.left (at_n at) inverse.before.before.slope.ensures
     inverse.before.multiply.ensures inverse.inverse-by-euclid.ensures c.before.before.before.multiply2.ensures
     c.before.before.multiply3.ensures c.before.multiply4.ensures c.multiply5.ensures

@@ -6,11 +6,11 @@ use Prim.Native.Nat.{◌+◌, ◌*◌}
 use native.Mathlib.Omega.{arith}
 use lib.ListN.{take}
 use lib.Seq.{length-take-le}
-use Rattle.questions.specs.Joined.{no-before}
+use Rattle.questions.specs.Joined.{no_before}
 use Rattle.sheet.specs.declared.Form.TheVariants.{Certificate}
-use Rattle.sheet.specs.Values.{valuesOf}
+use Rattle.sheet.specs.Values.{values_of}
 use Rattle.sheet.specs.Ready.{Ready}
-use Rattle.promises.specs.Asked.{check-asks, Given}
+use Rattle.promises.specs.Asked.{check_asks, Given}
 use Rattle.checking.specs.Passed.{Passes, Passed}
 use Rattle.promises.specs.Certificates.{ready_of}
 use Rattle.pushing.proofs.push.Statement.{statement}
@@ -90,8 +90,8 @@ push-passed-requires c κs =
     let d : half.half-degree.result ≡ _ = half.half-degree.ensures.0 in (
       (h.all, h.values),
       (
-        ap (λ k. take (k + 1) at.passed.last.1.0) d ∙ h.g-is,
-        ap (λ k. take (2 * k + 2) at.passed.last.1.1.0) d ∙ h.n-is,
+        ap (λ k. take (k + 1) at.passed.last.1.0) d ∙ h.g_is,
+        ap (λ k. take (2 * k + 2) at.passed.last.1.1.0) d ∙ h.n_is,
       ),
     )
 
@@ -101,7 +101,7 @@ returns c =
     let at = c.before.before.before.before.before in
     let s = start at in
     let ws = s.args.ws.now in
-    no-before (check-asks ws) ((12, Given (valuesOf Certificate ws) s.args.point) ∷ []) told.0.0
+    no_before (check_asks ws) ((12, Given (values_of Certificate ws) s.args.point) ∷ []) told.0.0
     (subst (Passed ws at.passed.new.1.0 at.passed.new.1.1.0) told.1 at.passed.ensures)
 
 returns-2 : tie.Need-returns-2

@@ -1,10 +1,10 @@
 -- `pushing::push_passed` meets its contract. Assumes nothing.
 use borrow.Author.Rules.{rules}
 use mathlib.Core.Path.{sym, subst}
-use Rattle.questions.specs.Tests.{was-no, was-yes}
+use Rattle.questions.specs.Tests.{was_no, was_yes}
 use Rattle.promises.specs.Asked.{OnDomain}
 use Rattle.promises.specs.Certificates.{ready_of}
-use Rattle.pushing.proofs.Images.{infinity, off, pushed, g-holds, n-holds, of-sheet}
+use Rattle.pushing.proofs.Images.{infinity, off, pushed, g_holds, n_holds, of_sheet}
 use Rattle.pushing.proofs.push_passed.Statement.{statement}
 use Rattle.pushing.proofs.push_passed.Tie as tie
 
@@ -29,9 +29,9 @@ image-requires c κs =
     let all = s.pre.0.0 in
     let e = s.pre.0.1 in (
       ready_of a.ws.now a.v e all,
-      g-holds a.ws.now a.v e all a.g.now a.n.now s.pre.1.0 s.pre.1.1,
-      n-holds a.ws.now a.v e all a.g.now a.n.now s.pre.1.0 s.pre.1.1,
-      (was-yes within.within.ensures c.if1.true).x_below,
+      g_holds a.ws.now a.v e all a.g.now a.n.now s.pre.1.0 s.pre.1.1,
+      n_holds a.ws.now a.v e all a.g.now a.n.now s.pre.1.0 s.pre.1.1,
+      (was_yes within.within.ensures c.if1.true).x_below,
     )
 
 returns : tie.Need-returns
@@ -48,8 +48,8 @@ returns-2 c =
     let a = s.args in
     let e = s.pre.0.1 in
     pushed a.ws.now s.pre.0.0 a.point told.0.0 told.0.1.0 told.1 c.image.result
-    (subst (λ v. OnDomain v told.0.0 told.0.1.0) e (was-yes within.within.ensures c.before.if1.true))
-    (of-sheet a.ws.now a.v e s.pre.0.0 a.g.now a.n.now s.pre.1.0 s.pre.1.1 told.0.0 told.0.1.0 c.image.result
+    (subst (λ v. OnDomain v told.0.0 told.0.1.0) e (was_yes within.within.ensures c.before.if1.true))
+    (of_sheet a.ws.now a.v e s.pre.0.0 a.g.now a.n.now s.pre.1.0 s.pre.1.1 told.0.0 told.0.1.0 c.image.result
     c.image.ensures)
 
 returns-3 : tie.Need-returns-3
@@ -60,7 +60,7 @@ returns-3 c =
     let s = start known in
     let a = s.args in
     off a.ws.now s.pre.0.0 a.point told.0.0 told.0.1.0 told.1
-    (λ on. was-no within.within.ensures c.if1.false (subst (λ v. OnDomain v told.0.0 told.0.1.0) (sym s.pre.0.1) on))
+    (λ on. was_no within.within.ensures c.if1.false (subst (λ v. OnDomain v told.0.0 told.0.1.0) (sym s.pre.0.1) on))
 
 pub push-passed-spec : {M : Type 1} → statement M
 push-passed-spec =

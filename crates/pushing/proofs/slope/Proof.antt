@@ -3,7 +3,7 @@ use Prim.Native.Nat.{◌*◌, ◌-◌}
 use native.Mathlib.Nat.{mul-le-mul}
 use native.Mathlib.Omega.{arith}
 use borrow.Author.Rules.{rules}
-use Rattle.pushing.proofs.Images.{slope-is}
+use Rattle.pushing.proofs.Images.{slope_is}
 use Rattle.pushing.proofs.slope.Statement.{statement}
 use Rattle.pushing.proofs.slope.Tie as tie
 
@@ -37,7 +37,7 @@ returns : tie.Need-returns
 returns c =
     let first = c.before.before in
     let start = first.before.before in
-    slope-is start.args.p start.args.g start.args.n first.product.result c.before.product2.result (omega (arith, start.requires))
+    slope_is start.args.p start.args.g start.args.n first.product.result c.before.product2.result (omega (arith, start.requires))
     first.product.ensures c.before.product2.ensures c.reduce.ensures
 
 pub slope-spec : {M : Type 1} → statement M

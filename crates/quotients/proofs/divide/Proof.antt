@@ -14,7 +14,7 @@ quotient-requires c κs =
     let pre = start.requires in
     let ready = pre.0.4 in
     let some = pre.0.3.some in (
-      (pre.0.0, pre.0.1, pre.0.2, ready.reduced-t, ready.zeros-t),
+      (pre.0.0, pre.0.1, pre.0.2, ready.reduced_t, ready.zeros_t),
       (
         omega (arith, some, pre.1.4),
         omega (arith, pre.1.0, pre.1.4),
@@ -22,7 +22,7 @@ quotient-requires c κs =
         omega (arith, pre.1.2, pre.1.4),
         omega
             (arith, pre.1.3, pre.1.4),
-        omega (arith, pre.1.4, ready.long-t),
+        omega (arith, pre.1.4, ready.long_t),
       ),
     )
 
@@ -33,13 +33,13 @@ subtract-product-requires c κs =
     let pre = start.requires in
     let ready = pre.0.4 in
     let q = at_quotient.quotient in (
-      (pre.0.0, pre.0.1, pre.0.2, q.ensures.0, ready.reduced-n, ready.zeros-n),
+      (pre.0.0, pre.0.1, pre.0.2, q.ensures.0, ready.reduced_n, ready.zeros_n),
       (
         omega (arith, pre.1.0, pre.1.4, q.auto),
         omega (arith, pre.1.2, pre.1.4, q.auto),
         omega (arith, pre.1.5, pre.1.4, q.auto),
         omega
-            (arith, pre.1.4, q.auto, ready.long-n),
+            (arith, pre.1.4, q.auto, ready.long_n),
       ),
     )
 

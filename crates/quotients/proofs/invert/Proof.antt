@@ -5,8 +5,8 @@ use native.Mathlib.Omega.{arith}
 use lib.ListN.{length, length-set}
 use Rattle.ring.specs.Ring
 use Rattle.zmod.specs.Zmod.{Zmod, mk}
-use Rattle.zmod.specs.Residues.{poly, poly-at, residue-same}
-use Rattle.quotients.specs.Quotient.{Inverted, inverted-first, inverted-more}
+use Rattle.zmod.specs.Residues.{poly, poly_at, residue_same}
+use Rattle.quotients.specs.Quotient.{Inverted, inverted_first, inverted_more}
 use borrow.Author.Rules.{rules}
 use Rattle.quotients.proofs.invert.Statement.{statement}
 use Rattle.quotients.proofs.invert.Tie as tie
@@ -31,7 +31,7 @@ loop-holds c =
       omega arith,
       omega (arith, pre.4, at-put-one.put_one.auto),
       subst (Inverted p (poly p a.c.now) 1) (sym at-put-one.put_one.ensures)
-          (inverted-first p (poly p a.c.now) (poly-at p a.c.now 0 ∙ ap (mk p) pre.3) (length a.t.now) pre.0 pre.4),
+          (inverted_first p (poly p a.c.now) (poly_at p a.c.now 0 ∙ ap (mk p) pre.3) (length a.t.now) pre.0 pre.4),
     )
 
 coefficient-requires : tie.Need-coefficient-requires invariant-loop decreases-loop
@@ -73,9 +73,9 @@ loop-again c =
       simp length-set loop.invariant.0,
       omega arith,
       omega (arith, loop.invariant.0),
-      inverted-more p (poly p a.c.now) (poly-at p a.c.now 0 ∙ ap (mk p) start.requires.3) loop.k at-negate.negate.result
+      inverted_more p (poly p a.c.now) (poly_at p a.c.now 0 ∙ ap (mk p) start.requires.3) loop.k at-negate.negate.result
           at-coefficient.coefficient.result loop.t
-          loop.invariant.1 (search rules) loop.invariant.3 (residue-same (Ring.zero-add (Zmod p) _) at-coefficient.coefficient.ensures)
+          loop.invariant.1 (search rules) loop.invariant.3 (residue_same (Ring.zero-add (Zmod p) _) at-coefficient.coefficient.ensures)
           at-negate.negate.ensures,
     )
 

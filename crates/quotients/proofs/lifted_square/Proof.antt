@@ -6,7 +6,7 @@ use lib.ListN.{length, set, drop, length-set, length-take, length-drop}
 use Rattle.series.specs.Series.{conv}
 use Rattle.zmod.specs.Zmod.{Zmod}
 use Rattle.zmod.specs.Residues.{poly}
-use Rattle.barrett.specs.Modulus.{prepared-positive, prepared-below}
+use Rattle.barrett.specs.Modulus.{prepared_positive, prepared_below}
 use Rattle.rows.specs.Room.{turns_fit}
 use Rattle.quotients.specs.Lifted.{lifted}
 use borrow.Author.Rules.{rules}
@@ -50,7 +50,7 @@ square-requires c κs =
     let a = start.args in
     let pre = start.requires in
     let size = length-set a.out.now 0 0 in (
-      (pre.0.0, pre.0.1, turns_fit _ _ a.m.p (omega (arith, prepared-below pre.0.0)) (omega (arith, pre.0.3))),
+      (pre.0.0, pre.0.1, turns_fit _ _ a.m.p (omega (arith, prepared_below pre.0.0)) (omega (arith, pre.0.3))),
       (simp (length-take, length-drop) (omega (arith, size, pre.1.1)), pre.1.2, omega (arith, pre.0.3)),
     )
 
@@ -82,7 +82,7 @@ returns c =
       length-drop a.bit (set a.out.now 0 0),
     ) in
     lifted p a.bit (length (set a.out.now 0 0) - a.bit) (conv (Zmod p) (poly p a.a.now) (poly p a.a.now)) a.out.now part
-    (prepared-positive pre.0.0) pre.0.2 pre.1.0 (omega (arith, size)) long at-square.square.ensures
+    (prepared_positive pre.0.0) pre.0.2 pre.1.0 (omega (arith, size)) long at-square.square.ensures
 
 pub lifted-square-spec : {M : Type 1} → statement M
 lifted-square-spec = tie.close (tie.spec slice-write-out mul-square sub-square part-square-start part-square-end mul-square-2 sub-square-2

@@ -4,9 +4,9 @@ use Prim.Native.Nat.{◌+◌, ◌-◌, ◌/◌, ◌^◌, ◌≤◌}
 use native.Mathlib.Omega.{arith}
 use lib.ListN.{length}
 use Rattle.zmod.specs.Residues.{poly}
-use Rattle.barrett.specs.Modulus.{prepared-below}
+use Rattle.barrett.specs.Modulus.{prepared_below}
 use Rattle.modulo.specs.Modulo.{RemainderOf}
-use Rattle.modulo.specs.Power.{x-to, power-turn, power-ends}
+use Rattle.modulo.specs.Power.{x_to, power_turn, power_ends}
 use borrow.Author.Rules.{rules}
 use Rattle.quotients.proofs.power_of_x.Statement.{statement}
 use Rattle.quotients.proofs.power_of_x.Tie as tie
@@ -14,7 +14,7 @@ use Rattle.quotients.proofs.power_of_x.Tie as tie
 abbrev invariant-loop : tie.invariant-loop
 invariant-loop g r₀ t n e₀ acc₀ room₀ top₀ q₀ m i₀ r e acc room top q i =
     (length r + 1 ≡ length g) × (length e ≡ length e₀) × (length acc ≡ length acc₀) × (length room ≡ length room₀) × (length top ≡ length g)
-    × (length q ≡ length g) × (i ≤ 28) × RemainderOf m.p (length g - 1) (poly m.p g) (x-to m.p (m.p / 2 ^ i)) r
+    × (length q ≡ length g) × (i ≤ 28) × RemainderOf m.p (length g - 1) (poly m.p g) (x_to m.p (m.p / 2 ^ i)) r
 
 abbrev decreases-loop : tie.decreases-loop
 decreases-loop g r₀ t n e₀ acc₀ room₀ top₀ q₀ m i₀ r e acc room top q i = i
@@ -23,14 +23,14 @@ prepare-requires : tie.Need-prepare-requires invariant-loop decreases-loop
 prepare-requires c κs =
     let start = c.before.before.before.before.before.before.before.before.before.before.before.before.before in
     let pre = start.requires in
-    (pre.0.2, omega (arith, prepared-below pre.0.0), pre.0.1, omega (arith, pre.0.4), pre.1.6, pre.1.7, pre.1.1, pre.1.2)
+    (pre.0.2, omega (arith, prepared_below pre.0.0), pre.0.1, omega (arith, pre.0.4), pre.1.6, pre.1.7, pre.1.1, pre.1.2)
 
 begin-requires : tie.Need-begin-requires invariant-loop decreases-loop
 begin-requires c κs =
     let at-prepare = c.before.before.before.before.before.before.before.before.before in
     let start = at-prepare.before.before.before.before.before.before.before.before.before.before.before.before.before.before in
     let pre = start.requires in
-    (omega (arith, pre.0.3, pre.1.0), pre.0.2, prepared-below pre.0.0)
+    (omega (arith, pre.0.3, pre.1.0), pre.0.2, prepared_below pre.0.0)
 
 loop-holds : tie.Need-loop-init invariant-loop decreases-loop
 loop-holds c =
@@ -50,7 +50,7 @@ loop-holds c =
       omega (arith, pre.1.6, at-prepare.prepare.auto),
       omega (arith, pre.1.7, at-prepare.prepare.auto),
       begun.ensures.0,
-      subst (λ n. RemainderOf p n g (x-to p (p / 2 ^ begun.result)) begun.new.0) d (begun.ensures.1 g),
+      subst (λ n. RemainderOf p n g (x_to p (p / 2 ^ begun.result)) begun.new.0) d (begun.ensures.1 g),
     )
 
 sub-i : tie.Need-overflow-sub-i invariant-loop decreases-loop
@@ -105,7 +105,7 @@ loop-again c =
       omega (arith, inv.4, square.auto),
       omega (arith, inv.5, square.auto),
       omega (arith, inv.6),
-      power-turn p d (poly p a.g.now) p loop.i loop.r square.new.0 (omega (arith, at-loop-test.loop-test)) inv.7 square.ensures,
+      power_turn p d (poly p a.g.now) p loop.i loop.r square.new.0 (omega (arith, at-loop-test.loop-test)) inv.7 square.ensures,
     )
 
 same_length : tie.Need-same-length invariant-loop decreases-loop
@@ -149,7 +149,7 @@ returns c =
     let a = start.args in
     let loop = at-loop.loop in
     let p = a.m.p in
-    power-ends p (length a.g.now - 1) (poly p a.g.now) p loop.i loop.r (omega (arith, at-loop-test.loop-test)) loop.invariant.7
+    power_ends p (length a.g.now - 1) (poly p a.g.now) p loop.i loop.r (omega (arith, at-loop-test.loop-test)) loop.invariant.7
 
 pub power-of-x-spec : {M : Type 1} → statement M
 power-of-x-spec = tie.close (tie.spec invariant-loop decreases-loop prepare-requires begin-requires loop-holds sub-i shr-bit cast-bit square-modulo-requires loop-less

@@ -4,7 +4,7 @@ use native.Mathlib.Omega.{arith}
 use Rattle.zmod.specs.Zmod.{Zmod}
 use Rattle.zmod.specs.Residues.{poly}
 use Rattle.quotients.specs.Quotient.{InverseTo}
-use Rattle.quotients.specs.Division.{backwards-reduced, backwards-one, made-ready}
+use Rattle.quotients.specs.Division.{backwards_reduced, backwards_one, made_ready}
 use borrow.Author.Rules.{rules}
 use Rattle.quotients.proofs.prepare.Statement.{statement}
 use Rattle.quotients.proofs.prepare.Tie as tie
@@ -23,8 +23,8 @@ invert-requires c κs =
     let top = at-reverse.reverse in (
       pre.0,
       pre.1,
-      backwards-reduced pre.2.reduced top.ensures,
-      backwards-one a.p a.g.now top.new.1.0 pre.0 pre.2
+      backwards_reduced pre.2.reduced top.ensures,
+      backwards_one a.p a.g.now top.new.1.0 pre.0 pre.2
           top.ensures,
       omega (arith, pre.5, pre.2.some),
       omega (arith, pre.5, pre.3),
@@ -77,7 +77,7 @@ returns c =
     let t = at-put-behind.put-behind in
     let q' = at-negated.negated in
     let n = at-put-behind2.put-behind2 in
-    made-ready p a.g.now top.new.1.0 q.new.1.0 q'.new.1.0 t.new.1.0 n.new.1.0 pre.2 top.ensures
+    made_ready p a.g.now top.new.1.0 q.new.1.0 q'.new.1.0 t.new.1.0 n.new.1.0 pre.2 top.ensures
     (subst (λ k. InverseTo (Zmod p) k (poly p top.new.1.0) (poly p q.new.1.0)) pre.5 q.ensures.1) q.ensures.0 q'.ensures
     (omega (arith, pre.5, q.auto, q'.auto)) (omega (arith, pre.6, t.auto)) (omega (arith, pre.7, n.auto)) t.ensures.0 t.ensures.1
     n.ensures.0 n.ensures.1

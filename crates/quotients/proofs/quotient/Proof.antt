@@ -3,10 +3,10 @@ use mathlib.Core.Path.{◌≡◌, subst}
 use Prim.Native.Nat.{suc, ◌-◌}
 use native.Mathlib.Omega.{arith}
 use lib.ListN.{length, drop, replicate, length-take, length-drop}
-use Rattle.slices.specs.Stored.{part-below}
-use Rattle.barrett.specs.Modulus.{prepared-positive, prepared-below}
-use Rattle.rows.specs.Product.{reduced-fits}
-use Rattle.quotients.specs.Division.{backwards-reduced, blank-reduced, quotient-to}
+use Rattle.slices.specs.Stored.{part_below}
+use Rattle.barrett.specs.Modulus.{prepared_positive, prepared_below}
+use Rattle.rows.specs.Product.{reduced_fits}
+use Rattle.quotients.specs.Division.{backwards_reduced, blank_reduced, quotient_to}
 use borrow.Author.Rules.{rules}
 use Rattle.quotients.proofs.quotient.Statement.{statement}
 use Rattle.quotients.proofs.quotient.Tie as tie
@@ -64,12 +64,12 @@ add-product-requires c κs =
         omega
             (arith, top.auto, pre.1.4, pre.1.1),
         pre.0.1,
-        omega (arith, prepared-below pre.0.0),
+        omega (arith, prepared_below pre.0.0),
       ),
       (
-        reduced-fits blank.new.0 pre.0.1
-            (blank-reduced p (length a.acc.now) blank.new.0 (prepared-positive pre.0.0) blank.ensures),
-        backwards-reduced (part-below a.a.now d (length a.a.now - d) p (prepared-positive pre.0.0) pre.0.2) top.ensures,
+        reduced_fits blank.new.0 pre.0.1
+            (blank_reduced p (length a.acc.now) blank.new.0 (prepared_positive pre.0.0) blank.ensures),
+        backwards_reduced (part_below a.a.now d (length a.a.now - d) p (prepared_positive pre.0.0) pre.0.2) top.ensures,
         pre.0.3,
         pre.0.4,
       ),
@@ -120,8 +120,8 @@ returns c =
     let product = at-remainders.remainders in
     let last = at-reverse2.reverse2 in
     let size : length a.acc.now ≡ suc d = omega (arith, pre.1.0, pre.1.3) in (
-      backwards-reduced product.ensures.reduced last.ensures,
-      quotient-to p d a.t.now a.a.now top.new.1.0 blank.new.0 sum.new.0 product.new.1.0 last.new.1.0
+      backwards_reduced product.ensures.reduced last.ensures,
+      quotient_to p d a.t.now a.a.now top.new.1.0 blank.new.0 sum.new.0 product.new.1.0 last.new.1.0
           (omega (arith, pre.1.0, pre.1.2))
           top.ensures (subst (λ n. blank.new.0 ≡ replicate n 0) size blank.ensures) (omega (arith, blank.auto, sum.auto, size)) sum.ensures
           (omega (arith, top.auto, product.auto, pre.1.0, pre.1.4)) product.ensures last.ensures,

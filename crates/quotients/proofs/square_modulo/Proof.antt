@@ -3,11 +3,11 @@ use Prim.Native.Nat.{suc, ◌+◌, ◌-◌}
 use native.Mathlib.Omega.{arith}
 use lib.ListN.{length, length-take}
 use Rattle.series.specs.Series.{conv}
-use Rattle.series.specs.Degree.{Below, below-mono, degree-mul}
+use Rattle.series.specs.Degree.{Below, below_mono, degree_mul}
 use Rattle.zmod.specs.Zmod.{Zmod}
-use Rattle.zmod.specs.Residues.{poly, poly-below}
-use Rattle.modulo.specs.Modulo.{remainder-filled}
-use Rattle.quotients.specs.Lifted.{lifted-below}
+use Rattle.zmod.specs.Residues.{poly, poly_below}
+use Rattle.modulo.specs.Modulo.{remainder_filled}
+use Rattle.quotients.specs.Lifted.{lifted_below}
 use borrow.Author.Rules.{rules}
 use Rattle.quotients.proofs.square_modulo.Statement.{statement}
 use Rattle.quotients.proofs.square_modulo.Tie as tie
@@ -78,11 +78,11 @@ returns c =
     let p = a.m.p in
     let square = at-lifted.lifted-square in
     let d = length a.g.now - 1 in
-    let few : Below (Zmod p) (suc (d - 1)) (poly p a.r.now) = poly-below p a.r.now (suc (d - 1)) (omega (arith, pre.0.4)) in
-    let product = degree-mul (Zmod p) (d - 1) (d - 1) (poly p a.r.now) (poly p a.r.now) few few in
-    remainder-filled square.ensures
-    (below-mono (Zmod p) (a.bit + suc (d - 1 + (d - 1))) _ _ (omega (arith, pre.0.6, pre.1.2, pre.1.6, square.auto))
-    (lifted-below p a.bit (suc (d - 1 + (d - 1))) (conv (Zmod p) (poly p a.r.now) (poly p a.r.now)) product))
+    let few : Below (Zmod p) (suc (d - 1)) (poly p a.r.now) = poly_below p a.r.now (suc (d - 1)) (omega (arith, pre.0.4)) in
+    let product = degree_mul (Zmod p) (d - 1) (d - 1) (poly p a.r.now) (poly p a.r.now) few few in
+    remainder_filled square.ensures
+    (below_mono (Zmod p) (a.bit + suc (d - 1 + (d - 1))) _ _ (omega (arith, pre.0.6, pre.1.2, pre.1.6, square.auto))
+    (lifted_below p a.bit (suc (d - 1 + (d - 1))) (conv (Zmod p) (poly p a.r.now) (poly p a.r.now)) product))
     at-divide.divide.ensures
 
 pub square-modulo-spec : {M : Type 1} → statement M

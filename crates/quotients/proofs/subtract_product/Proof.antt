@@ -1,8 +1,8 @@
 -- `quotients::subtract_product` meets its contract. Assumes nothing.
 use native.Mathlib.Omega.{arith}
-use Rattle.barrett.specs.Modulus.{prepared-below}
-use Rattle.rows.specs.Product.{reduced-fits}
-use Rattle.quotients.specs.Division.{filled-reduced, subtracted}
+use Rattle.barrett.specs.Modulus.{prepared_below}
+use Rattle.rows.specs.Product.{reduced_fits}
+use Rattle.quotients.specs.Division.{filled_reduced, subtracted}
 use borrow.Author.Rules.{rules}
 use Rattle.quotients.proofs.subtract_product.Statement.{statement}
 use Rattle.quotients.proofs.subtract_product.Tie as tie
@@ -17,9 +17,9 @@ add-product-requires c κs =
     let a = start.args in
     let pre = start.requires in
     let wide = at-widen.widen in (
-      (omega (arith, wide.auto, pre.1.1), omega (arith, wide.auto, pre.1.1, pre.1.3), pre.1.0, pre.0.1, omega (arith, prepared-below pre.0.0)),
+      (omega (arith, wide.auto, pre.1.1), omega (arith, wide.auto, pre.1.1, pre.1.3), pre.1.0, pre.0.1, omega (arith, prepared_below pre.0.0)),
       (
-        reduced-fits wide.new.1.0 pre.0.1 (filled-reduced a.m.p a.a.now wide.new.1.0 pre.0.2 wide.ensures),
+        reduced_fits wide.new.1.0 pre.0.1 (filled_reduced a.m.p a.a.now wide.new.1.0 pre.0.2 wide.ensures),
         pre.0.3,
         pre.0.4,
         pre.0.5,

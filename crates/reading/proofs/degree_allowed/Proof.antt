@@ -1,18 +1,18 @@
 -- `reading::degree_allowed` meets its contract.
 -- Assumes nothing.
 use Rattle.std.proofs.Common.{arith, rules, ltb-true, lt-ltb}
-use Rattle.questions.specs.Tests.{says-no}
+use Rattle.questions.specs.Tests.{says_no}
 use Rattle.reading.proofs.degree_allowed.Statement.{statement}
 use Rattle.reading.proofs.degree_allowed.Tie as tie
 
 returns : tie.Need-returns
-returns c = says-no (λ h. omega (arith, h.odd))
+returns c = says_no (λ h. omega (arith, h.odd))
 
 returns-2 : tie.Need-returns-2
-returns-2 c = says-no (λ h. omega (arith, h.least))
+returns-2 c = says_no (λ h. omega (arith, h.least))
 
 returns-3 : tie.Need-returns-3
-returns-3 c = says-no (λ h. omega (arith, h.most))
+returns-3 c = says_no (λ h. omega (arith, h.most))
 
 mul-result : tie.Need-overflow-mul-result
 mul-result c = search rules

@@ -1,7 +1,7 @@
 -- `reading::discriminant_of` meets its contract.
 -- Assumes nothing.
 use Rattle.std.proofs.Common.{◌+◌, ◌*◌, ◌^◌, ◌≤◌, ap₂, mul-le-mul, arith, rules}
-use Rattle.reading.proofs.Singular.{discriminant-is}
+use Rattle.reading.proofs.Singular.{discriminant_is}
 use Rattle.reading.proofs.discriminant_of.Statement.{statement}
 use Rattle.reading.proofs.discriminant_of.Tie as tie
 
@@ -40,7 +40,7 @@ returns c =
     let first = second.before in
     let squares = first.before in
     let a = squares.before.before.args in
-    discriminant-is a.p a.a a.b squares.before.multiply.ensures squares.multiply2.ensures
+    discriminant_is a.p a.a a.b squares.before.multiply.ensures squares.multiply2.ensures
     (ap₂ ◌+◌ first.product.ensures second.product2.ensures) c.reduce.ensures
 
 pub discriminant-of-spec : {M : Type 1} → statement M

@@ -2,8 +2,8 @@
 -- Assumes nothing.
 use Rattle.std.proofs.Common.{◌≡◌, ℕ, ◌-◌, ◌<◌, ◌≤◌, not, arith, rules}
 use Rattle.reading.specs.Leaf.{Stands}
-use Rattle.questions.specs.Tests.{says-no, says-yes, refuted, shown, more-from}
-use Rattle.reading.specs.Header.{asked2-stands, stands-asked2}
+use Rattle.questions.specs.Tests.{says_no, says_yes, refuted, shown, more_from}
+use Rattle.reading.specs.Header.{asked2_stands, stands_asked2}
 use Rattle.reading.proofs.headed.Statement.{statement}
 use Rattle.reading.proofs.headed.Tie as tie
 
@@ -20,8 +20,8 @@ has-kind-requires : tie.Need-has-kind-requires invariant-loop decreases-loop
 has-kind-requires c κs = search rules
 
 returns : tie.Need-returns invariant-loop decreases-loop
-returns c = says-no (λ h. refuted c.before.has-kind.ensures c.if1.true
-    (asked2-stands c.before.before.before.before.before.args.form c.before.before.before.before.before.args.ws.now h
+returns c = says_no (λ h. refuted c.before.has_kind.ensures c.if1.true
+    (asked2_stands c.before.before.before.before.before.args.form c.before.before.before.before.before.args.ws.now h
     c.before.before.before.loop.k))
 
 add-k : tie.Need-overflow-add-k invariant-loop decreases-loop
@@ -35,12 +35,12 @@ loop-again c =
     let at = c.before.before.before.before.before.args in (
       omega arith,
       omega arith,
-      more-from (λ j. Stands at.form j at.ws.now) 1 c.before.before.before.loop.k
-          c.before.before.before.loop.invariant.2 (shown c.before.has-kind.ensures c.if1.false),
+      more_from (λ j. Stands at.form j at.ws.now) 1 c.before.before.before.loop.k
+          c.before.before.before.loop.invariant.2 (shown c.before.has_kind.ensures c.if1.false),
     )
 
 returns-2 : tie.Need-returns-2 invariant-loop decreases-loop
-returns-2 c = says-yes (stands-asked2 c.before.before.before.args.form c.before.before.before.args.ws.now
+returns-2 c = says_yes (stands_asked2 c.before.before.before.args.form c.before.before.before.args.ws.now
     (λ j l h. c.before.loop.invariant.2 j l (omega arith)))
 
 pub headed-spec : {M : Type 1} → statement M

@@ -1,10 +1,10 @@
 -- `reading::read` meets its contract: after each test, what it has shown of the sheet.
 -- Assumes nothing.
 use Rattle.std.proofs.Common.{◌≡◌, ℕ, List, sym, subst, ap₂, arith, rules}
-use Rattle.questions.specs.Numbered.{first-no}
+use Rattle.questions.specs.Numbered.{first_no}
 use Rattle.sheet.specs.declared.Form.{Form}
 use Rattle.sheet.specs.declared.Values.{Values}
-use Rattle.sheet.specs.Values.{valuesOf}
+use Rattle.sheet.specs.Values.{values_of}
 use Rattle.sheet.specs.Ready.{Ready}
 use Rattle.sheet.specs.Asked.{Asked2, Asked6, PrimeAllowed, DegreeAllowed, ValuesBelow, Curves, asked}
 use Rattle.questions.specs.Tests.{refuted, shown}
@@ -43,7 +43,7 @@ abbrev words : tie.Start → List ℕ
 words s = s.args.ws.now
 
 abbrev values : tie.Start → Values
-values s = valuesOf (form s) (words s)
+values s = values_of (form s) (words s)
 
 abbrev start1 : tie.Else1 → tie.Start
 start1 c = c.before.before.before
@@ -65,17 +65,17 @@ start5 c = start4 (passed5 c)
 prime-is : (c : tie.After-entry-of) → c.entry_of.result ≡ (values (start1 c.before)).p
 prime-is c = c.entry_of.ensures.0
 
-degree-is : (c : tie.After-entry-of2) → c.entry-of2.result ≡ (values (start2 c.before)).degree
-degree-is c = c.entry-of2.ensures.0
+degree_is : (c : tie.After-entry-of2) → c.entry-of2.result ≡ (values (start2 c.before)).degree
+degree_is c = c.entry-of2.ensures.0
 
-values-are : (c : tie.After-values-of) → c.values_of.result ≡ values (start3 c.before)
-values-are c = c.values_of.ensures
+values_are : (c : tie.After-values-of) → c.values_of.result ≡ values (start3 c.before)
+values_are c = c.values_of.ensures
 
 -- question 4 of what was read is question 4 of the sheet
 fourth : (c : tie.After-entry-of2)
     → DegreeAllowed c.entry-of2.result (read-p c.before).entry_of.result
     ≡ DegreeAllowed (values (start2 c.before)).degree (values (start2 c.before)).p
-fourth c = ap₂ DegreeAllowed (degree-is c) (prime-is (read-p c.before))
+fourth c = ap₂ DegreeAllowed (degree_is c) (prime-is (read-p c.before))
 
 -- ── the questions that were answered with yes
 
@@ -89,7 +89,7 @@ four : (c : tie.Else3) → DegreeAllowed (values (start3 c)).degree (values (sta
 four c = subst (λ T. T) (fourth (read-degree c)) (shown c.before.degree-allowed.ensures c.if3.false)
 
 five : (c : tie.Else4) → ValuesBelow (values (start4 c))
-five c = subst ValuesBelow (values-are (read-values c)) (shown c.before.values-below.ensures c.if4.false)
+five c = subst ValuesBelow (values_are (read-values c)) (shown c.before.values-below.ensures c.if4.false)
 
 six : (c : tie.Else5) → Asked6 (form (start5 c)) (words (start5 c))
 six c = shown c.before.exact.ensures c.if5.false
@@ -97,7 +97,7 @@ six c = shown c.before.exact.ensures c.if5.false
 -- 3, 4 and 5 of the values that were read
 known : (c : tie.Else4) → Ready (read-values c).values_of.result
 known c =
-    subst Ready (sym (values-are (read-values c))) (record { prime = three (passed3 (passed4 c)); degree = four (passed4 c); below = five c })
+    subst Ready (sym (values_are (read-values c))) (record { prime = three (passed3 (passed4 c)); degree = four (passed4 c); below = five c })
 
 -- ── the needs
 
@@ -107,7 +107,7 @@ headed-requires c κs = search rules
 returns : tie.Need-returns
 returns c =
     let s = c.before.before.before in
-    first-no (asked (form s) (words s)) 2 tt tt (refuted c.before.headed.ensures c.if1.true)
+    first_no (asked (form s) (words s)) 2 tt tt (refuted c.before.headed.ensures c.if1.true)
 
 entry-of-requires : tie.Need-entry-of-requires
 entry-of-requires c κs = search rules
@@ -120,7 +120,7 @@ returns-2 c =
     let read = c.before.before in
     let second = read.before in
     let s = start1 second in
-    first-no (asked (form s) (words s)) 3 tt (two second, tt)
+    first_no (asked (form s) (words s)) 3 tt (two second, tt)
     (λ h. refuted c.before.prime-allowed.ensures c.if2.true (subst PrimeAllowed (sym (prime-is read)) h))
 
 entry-of-requires-2 : tie.Need-entry-of-requires-2
@@ -134,7 +134,7 @@ returns-3 c =
     let read = c.before.before in
     let third = read.before in
     let s = start2 third in
-    first-no (asked (form s) (words s)) 4 tt (two (passed2 third), (three third, tt))
+    first_no (asked (form s) (words s)) 4 tt (two (passed2 third), (three third, tt))
     (λ h. refuted c.before.degree-allowed.ensures c.if3.true (subst (λ T. T) (sym (fourth read)) h))
 
 values-of-requires : tie.Need-values-of-requires
@@ -142,7 +142,7 @@ values-of-requires c κs =
     let read = read-degree c in
     let third = passed3 c in
     let p = shown third.before.prime-allowed.ensures third.if2.left in
-    (omega (arith, p.least), prime-is (read-p third), degree-is read)
+    (omega (arith, p.least), prime-is (read-p third), degree_is read)
 
 values-below-requires : tie.Need-values-below-requires
 values-below-requires c κs = search rules
@@ -153,13 +153,13 @@ returns-4 c =
     let fourth = read.before in
     let third = passed3 fourth in
     let s = start3 fourth in
-    first-no (asked (form s) (words s)) 5 tt (two (passed2 third), (three third, (four fourth, tt)))
-    (λ h. refuted c.before.values-below.ensures c.if4.true (subst ValuesBelow (sym (values-are read)) h))
+    first_no (asked (form s) (words s)) 5 tt (two (passed2 third), (three third, (four fourth, tt)))
+    (λ h. refuted c.before.values-below.ensures c.if4.true (subst ValuesBelow (sym (values_are read)) h))
 
 exact-requires : tie.Need-exact-requires
 exact-requires c κs =
     let known = known c in
-    (values-are (read-values c), omega (arith, known.degree.most), omega (arith, known.prime.least), omega (arith, known.prime.most))
+    (values_are (read-values c), omega (arith, known.degree.most), omega (arith, known.prime.least), omega (arith, known.prime.most))
 
 returns-5 : tie.Need-returns-5
 returns-5 c =
@@ -167,7 +167,7 @@ returns-5 c =
     let fourth = passed4 fifth in
     let third = passed3 fourth in
     let s = start4 fifth in
-    first-no (asked (form s) (words s)) 6 tt (two (passed2 third), (three third, (four fourth, (five fifth, tt))))
+    first_no (asked (form s) (words s)) 6 tt (two (passed2 third), (three third, (four fourth, (five fifth, tt))))
     (refuted c.before.exact.ensures c.if5.true)
 
 curves-requires : tie.Need-curves-requires
@@ -180,8 +180,8 @@ returns-6 c =
     let fourth = passed4 fifth in
     let third = passed3 fourth in
     let s = start5 sixth in
-    first-no (asked (form s) (words s)) 7 tt (two (passed2 third), (three third, (four fourth, (five fifth, (six sixth, tt)))))
-    (λ h. refuted c.before.curves.ensures c.if6.true (subst (Curves (form s)) (sym (values-are (read-values fifth))) h))
+    first_no (asked (form s) (words s)) 7 tt (two (passed2 third), (three third, (four fourth, (five fifth, (six sixth, tt)))))
+    (λ h. refuted c.before.curves.ensures c.if6.true (subst (Curves (form s)) (sym (values_are (read-values fifth))) h))
 
 returns-7 : tie.Need-returns-7
 returns-7 c =
@@ -190,8 +190,8 @@ returns-7 c =
     let fourth = passed4 fifth in
     let third = passed3 fourth in
     let s = start5 sixth in
-    let seven = subst (Curves (form s)) (values-are (read-values fifth)) (shown c.before.curves.ensures c.if6.false) in
-    ((two (passed2 third), (three third, (four fourth, (five fifth, (six sixth, (seven, tt)))))), values-are (read-values fifth))
+    let seven = subst (Curves (form s)) (values_are (read-values fifth)) (shown c.before.curves.ensures c.if6.false) in
+    ((two (passed2 third), (three third, (four fourth, (five fifth, (six sixth, (seven, tt)))))), values_are (read-values fifth))
 
 pub read_spec : {M : Type 1} → statement M
 read_spec =

@@ -2,7 +2,7 @@
 -- Assumes nothing.
 use Rattle.std.proofs.Common.{◌≡◌, ℕ, ◌-◌, ◌<◌, ◌≤◌, true, ◌↔◌, get_or, arith, rules}
 use Rattle.reading.specs.Leaf.{Fits, Section}
-use Rattle.questions.specs.Tests.{says-yes, together, more-from}
+use Rattle.questions.specs.Tests.{says_yes, together, more_from}
 use Rattle.reading.proofs.section.Statement.{statement}
 use Rattle.reading.proofs.section.Tie as tie
 
@@ -14,7 +14,7 @@ abbrev decreases-loop : tie.decreases-loop
 decreases-loop ws from to k bound all₀ i₀ all i = to - i
 
 loop-holds : tie.Need-loop-init invariant-loop decreases-loop
-loop-holds c = (omega arith, omega arith, says-yes (λ j l h. absurd (omega arith)))
+loop-holds c = (omega arith, omega arith, says_yes (λ j l h. absurd (omega arith)))
 
 mul-fits : tie.Need-overflow-mul-fits invariant-loop decreases-loop
 mul-fits c = search rules
@@ -25,8 +25,8 @@ shared-slice-read-fits c = search rules
 fits-requires : tie.Need-fits-requires invariant-loop decreases-loop
 fits-requires c κs = search rules
 
-add-i : tie.Need-overflow-add-i invariant-loop decreases-loop
-add-i c = search rules
+add_i : tie.Need-overflow-add-i invariant-loop decreases-loop
+add_i c = search rules
 
 loop-less : tie.Need-loop-smaller invariant-loop decreases-loop
 loop-less c = search rules
@@ -40,7 +40,7 @@ loop-again c =
       omega (arith, loop.invariant.0),
       omega (arith, turn.loop-test.true),
       (
-        λ t. let h = both.0 t in more-from (λ j. Fits a.k a.bound (get_or a.ws.now j 0)) a.from loop.i h.0 h.1,
+        λ t. let h = both.0 t in more_from (λ j. Fits a.k a.bound (get_or a.ws.now j 0)) a.from loop.i h.0 h.1,
         λ h. both.1 (λ j l m. h j l (omega arith), h loop.i loop.invariant.0 (omega arith)),
       ),
     )
@@ -61,7 +61,7 @@ section-spec =
     mul-fits
     shared-slice-read-fits
     fits-requires
-    add-i
+    add_i
     loop-less
     loop-again
     returns)

@@ -1,8 +1,8 @@
 -- `reading::sections` meets its contract.
 -- Assumes nothing.
 use Rattle.std.proofs.Common.{arith, rules}
-use Rattle.questions.specs.Tests.{says-no, was-yes, refuted, shown}
-use Rattle.reading.proofs.Down.{ByKinds, by-kinds}
+use Rattle.questions.specs.Tests.{says_no, was_yes, refuted, shown}
+use Rattle.reading.proofs.Down.{ByKinds, by_kinds}
 use Rattle.reading.proofs.sections.Statement.{statement}
 use Rattle.reading.proofs.sections.Tie as tie
 
@@ -33,7 +33,7 @@ kinds c =
     let n = c.before in
     let count = n.before in
     let bound = count.before.coefficient-bound in
-    by-kinds a.form a.d a.p a.end a.ws.now s.pre.1 bound.result bound.ensures.0 count.place.result n.place2.result
+    by_kinds a.form a.d a.p a.end a.ws.now s.pre.1 bound.result bound.ensures.0 count.place.result n.place2.result
     c.place3.result count.place.ensures n.place2.ensures c.place3.ensures
 
 section-requires : tie.Need-section-requires
@@ -44,18 +44,18 @@ section-requires c κs =
 returns : tie.Need-returns
 returns c =
     let g = c.before in
-    says-no (λ all. refuted g.section.ensures c.if1.true ((kinds g.before).sections.0 all).0)
+    says_no (λ all. refuted g.section.ensures c.if1.true ((kinds g.before).sections.0 all).0)
 
 section-requires-2 : tie.Need-section-requires-2
 section-requires-2 c κs =
     let places = c.before.before in
-    (omega (arith, (kinds places).c-before, (start places).requires.2), omega arith, places.before.before.before.coefficient-bound.ensures.1)
+    (omega (arith, (kinds places).c_before, (start places).requires.2), omega arith, places.before.before.before.coefficient-bound.ensures.1)
 
 returns-2 : tie.Need-returns-2
 returns-2 c =
     let n = c.before in
     let places = n.before.before.before in
-    says-no (λ all. refuted n.section2.ensures c.if2.true ((kinds places).sections.0 all).1)
+    says_no (λ all. refuted n.section2.ensures c.if2.true ((kinds places).sections.0 all).1)
 
 section-requires-3 : tie.Need-section-requires-3
 section-requires-3 c κs =
@@ -70,7 +70,7 @@ returns-3 c =
     let g = first.before in
     let all = (kinds g.before).sections in (
       λ t. all.1
-          (shown g.section.ensures first.if1.false, shown n.section2.ensures second.if2.false, was-yes c.section3.ensures t),
+          (shown g.section.ensures first.if1.false, shown n.section2.ensures second.if2.false, was_yes c.section3.ensures t),
       λ h. c.section3.ensures.1 (all.0 h).2,
     )
 

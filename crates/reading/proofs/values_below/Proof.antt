@@ -1,21 +1,21 @@
 -- `reading::values_below` meets its contract.
 -- Assumes nothing.
 use Rattle.std.proofs.Common.{arith, ltb-true, lt-ltb}
-use Rattle.questions.specs.Tests.{says-no}
+use Rattle.questions.specs.Tests.{says_no}
 use Rattle.reading.proofs.values_below.Statement.{statement}
 use Rattle.reading.proofs.values_below.Tie as tie
 
 returns : tie.Need-returns
-returns c = says-no (λ h. omega (arith, h.a))
+returns c = says_no (λ h. omega (arith, h.a))
 
 returns-2 : tie.Need-returns-2
-returns-2 c = says-no (λ h. omega (arith, h.b))
+returns-2 c = says_no (λ h. omega (arith, h.b))
 
 returns-3 : tie.Need-returns-3
-returns-3 c = says-no (λ h. omega (arith, h.atilde))
+returns-3 c = says_no (λ h. omega (arith, h.atilde))
 
 returns-4 : tie.Need-returns-4
-returns-4 c = says-no (λ h. omega (arith, h.btilde))
+returns-4 c = says_no (λ h. omega (arith, h.btilde))
 
 returns-5 : tie.Need-returns-5
 returns-5 c = (

@@ -8,8 +8,8 @@ use Rattle.zmod.specs.Zmod.{Zmod}
 use Rattle.sheet.specs.Values.{question}
 use Rattle.recurrence.specs.Equations.{HAt}
 use Rattle.expansion.specs.Equations.{Solved}
-use Rattle.expansion.specs.Stores.{solved-none, solved-more}
-use Rattle.recurrence.proofs.Causal.{h-causal}
+use Rattle.expansion.specs.Stores.{solved_none, solved_more}
+use Rattle.recurrence.proofs.Causal.{h_causal}
 use Rattle.recurrence.proofs.begin_h.Statement.{statement}
 use Rattle.recurrence.proofs.begin_h.Tie as tie
 
@@ -28,7 +28,7 @@ least-requires c κs = search rules
 loop-holds : tie.Need-loop-init invariant-loop decreases-loop
 loop-holds c =
     let a = c.before.before.before.args in
-    (search rules, omega arith, solved-none a.v.p (HAt (Zmod a.v.p) (question a.v)) a.h.now)
+    (search rules, omega arith, solved_none a.v.p (HAt (Zmod a.v.p) (question a.v)) a.h.now)
 
 first-h-requires : tie.Need-first-h-requires invariant-loop decreases-loop
 first-h-requires c κs =
@@ -55,8 +55,8 @@ loop-again c =
     let inside : loop.k < length loop.h = omega arith in (
       simp length-set loop.invariant.0,
       omega arith,
-      solved-more a.v.p (HAt (Zmod a.v.p) (question a.v)) (h-causal (Zmod a.v.p) (question a.v)) loop.h loop.k
-          c.first-h.result inside loop.invariant.2 (c.first-h.ensures loop.h inside),
+      solved_more a.v.p (HAt (Zmod a.v.p) (question a.v)) (h_causal (Zmod a.v.p) (question a.v)) loop.h loop.k
+          c.first_h.result inside loop.invariant.2 (c.first_h.ensures loop.h inside),
     )
 
 same_length : tie.Need-same-length invariant-loop decreases-loop

@@ -11,8 +11,8 @@ use Rattle.sheet.specs.Values.{question}
 use Rattle.recurrence.specs.Equations.{HAt}
 use Rattle.expansion.specs.Multiple.{Multiple, none, once, both}
 use Rattle.expansion.specs.Equations.{Solved}
-use Rattle.expansion.specs.Stores.{solved-more}
-use Rattle.recurrence.proofs.Causal.{h-causal}
+use Rattle.expansion.specs.Stores.{solved_more}
+use Rattle.recurrence.proofs.Causal.{h_causal}
 use Rattle.recurrence.proofs.expansion_of_curves.Statement.{statement}
 use Rattle.recurrence.proofs.expansion_of_curves.Tie as tie
 
@@ -38,8 +38,8 @@ begun c = c.before.before.before
 abbrev before-loop : tie.At-loop invariant-loop decreases-loop → tie.After-begin-h invariant-loop decreases-loop
 before-loop c = begun c.before.before
 
-abbrev in-turn : tie.After-next-h invariant-loop decreases-loop → tie.At-loop invariant-loop decreases-loop
-in-turn c = c.before.before.before
+abbrev in_turn : tie.After-next-h invariant-loop decreases-loop → tie.At-loop invariant-loop decreases-loop
+in_turn c = c.before.before.before
 
 -- ── the needs
 
@@ -99,13 +99,13 @@ slice-write-h c = search rules
 
 add-requires-2 : tie.Need-add-requires-2 invariant-loop decreases-loop
 add-requires-2 c κs =
-    let at-loop = in-turn c in
+    let at-loop = in_turn c in
     let a = twice-a (before-loop at-loop) in
     (omega (arith, at-loop.loop.inv.3.below), omega (arith, a.minus-twice.ensures.below), omega (arith, (start a).pre))
 
 add-requires-3 : tie.Need-add-requires-3 invariant-loop decreases-loop
 add-requires-3 c κs =
-    let at-loop = in-turn c.before in
+    let at-loop = in_turn c.before in
     let b = (before-loop at-loop).before.before in
     (omega (arith, at-loop.loop.inv.4.below), omega (arith, b.minus-twice2.ensures.below), omega arith)
 
@@ -119,7 +119,7 @@ loop-again : tie.Need-loop-preserved invariant-loop decreases-loop
 loop-again c =
     let at_y = c.before in
     let at_next = at_y.before in
-    let at-loop = in-turn at_next in
+    let at-loop = in_turn at_next in
     let b = (before-loop at-loop).before.before in
     let a = b.before in
     let v = (start a).args.v in
@@ -128,14 +128,14 @@ loop-again c =
     let E = HAt (Zmod p) q in
     let loop = at-loop.loop in
     let k = loop.k in
-    let r = at_next.next-h in
+    let r = at_next.next_h in
     let inside : k < length loop.h = omega arith in
     let here : min k (length loop.h) ≡ k = omega arith in
     let after : k + 1 ≡ min (k + 1) (length (set loop.h k r.result)) = omega (arith, length-set loop.h k r.result) in (
       simp length-set loop.inv.0,
       omega arith,
       subst (Solved p E (set loop.h k r.result)) after
-          (solved-more p E (h-causal (Zmod p) q) loop.h k r.result inside (subst (Solved p E loop.h) here loop.inv.2) r.ensures),
+          (solved_more p E (h_causal (Zmod p) q) loop.h k r.result inside (subst (Solved p E loop.h) here loop.inv.2) r.ensures),
       both (minus p q.A) (2 * k - 3) 2 (2 * (k + 1) - 3) (omega arith) loop.inv.3 a.minus-twice.ensures at_y.add2.ensures,
       both (minus p q.B) (2 * k - 6) 2 (2 * (k + 1) - 6) (omega arith) loop.inv.4 b.minus-twice2.ensures c.add3.ensures,
     )

@@ -4,14 +4,14 @@ use Prim.Native.Nat.{ℕ, ◌<◌}
 use native.Mathlib.Omega.{arith}
 use borrow.Author.Rules.{rules}
 use Rattle.sheet.specs.Values.{question}
-use Rattle.recurrence.proofs.EquationTurns.{h-zero, h-first, h-second}
+use Rattle.recurrence.proofs.EquationTurns.{h_zero, h_first, h_second}
 use Rattle.recurrence.proofs.first_h.Statement.{statement}
 use Rattle.recurrence.proofs.first_h.Tie as tie
 
 returns : tie.Need-returns
 returns c =
     let a = c.before.before.args in
-    λ h inside. h-zero a.v.p (question a.v) h a.k inside (omega arith) c.if1.true
+    λ h inside. h_zero a.v.p (question a.v) h a.k inside (omega arith) c.if1.true
 
 subtract-requires : tie.Need-subtract-requires
 subtract-requires c κs = search rules
@@ -27,7 +27,7 @@ returns-2 c =
     let at-if2 = at-subtract.before in
     let a = at-if2.before.before.before.args in
     λ h inside.
-    h-first a.v.p (question a.v) h a.k inside at-subtract.subtract.result c.divide.result at-if2.if2.true
+    h_first a.v.p (question a.v) h a.k inside at-subtract.subtract.result c.divide.result at-if2.if2.true
     at-subtract.subtract.ensures c.divide.ensures
 
 -- what is left is 2
@@ -54,7 +54,7 @@ returns-3 c =
     let at-if2 = at-subtract.before in
     let a = at-if2.before.before.before.args in
     λ h inside.
-    h-second a.v.p (question a.v) h a.k inside at-subtract.subtract2.result c.divide2.result (left at-if2)
+    h_second a.v.p (question a.v) h a.k inside at-subtract.subtract2.result c.divide2.result (left at-if2)
     at-subtract.subtract2.ensures c.divide2.ensures
 
 pub first-h-spec : {M : Type 1} → statement M

@@ -4,7 +4,7 @@ use Prim.Native.Nat.{◌-◌}
 use lib.ListN.{get_or}
 use borrow.Author.Rules.{rules}
 use Rattle.sheet.specs.Values.{question}
-use Rattle.recurrence.proofs.EquationTurns.{h-more}
+use Rattle.recurrence.proofs.EquationTurns.{h_more}
 use Rattle.recurrence.proofs.next_h.Statement.{statement}
 use Rattle.recurrence.proofs.next_h.Tie as tie
 
@@ -69,7 +69,7 @@ returns c =
     let begin = start at_sum in
     let a = begin.args in
     let k = a.k in
-    h-more a.v.p (question a.v) a.h.now k (omega arith) (omega arith) (get_or a.table.now (k - 2) 0) at_sum.square-sum.result a.y a.z
+    h_more a.v.p (question a.v) a.h.now k (omega arith) (omega arith) (get_or a.table.now (k - 2) 0) at_sum.square-sum.result a.y a.z
     at-weighted.weighted.result c.divide.result (begin.pre.1.0.0.inverse (k - 2) (omega arith) (omega arith)) at_sum.square-sum.ensures
     begin.pre.1.1.1.0 begin.pre.1.1.1.1 at-weighted.weighted.ensures c.divide.ensures
 

@@ -4,8 +4,8 @@ use Prim.Native.Nat.{ℕ, ◌+◌, ◌-◌, ◌*◌, ◌^◌, ◌≤◌, ◌<◌
 use native.Mathlib.Nat as N
 use native.Mathlib.Omega.{arith}
 use lib.ListN.{length, get_or}
-use Rattle.rows.specs.Rows.{row_more, RowsAdded, of_words, to-words}
-use Rattle.rows.specs.Product.{ProductAdded, added_none, turn-fits, added_more, added-all}
+use Rattle.rows.specs.Rows.{row_more, RowsAdded, of_words, to_words}
+use Rattle.rows.specs.Product.{ProductAdded, added_none, turn_fits, added_more, added_all}
 use borrow.Author.Rules.{rules}
 use Rattle.rows.proofs.add_product.Statement.{statement}
 use Rattle.rows.proofs.add_product.Tie as tie
@@ -79,15 +79,15 @@ add-rows-requires c κs =
           omega (arith, at-word3.word3.ensures, pre.1.1 (2 + loop.i), pre.0.4),
           omega (arith, at-word4.word4.ensures, pre.1.1 (3 + loop.i), pre.0.4),
         ),
-        λ j l. to-words a.a.now loop.i _ _ _ _ at-word.word.ensures at-word2.word2.ensures at-word3.word3.ensures at-word4.word4.ensures
+        λ j l. to_words a.a.now loop.i _ _ _ _ at-word.word.ensures at-word2.word2.ensures at-word3.word3.ensures at-word4.word4.ensures
             (λ w x y z. row_more (get_or loop.acc (loop.i + j) 0) a.e.now j w x y z < 2 ^ 64)
             (all_fit a.p (get_or a.acc.now (loop.i + j) 0) _ (loop.i + 4) pre.0.4 (pre.1.0 (loop.i + j)) (omega (arith, pre.0.2))
-            (turn-fits a.p a.a.now a.e.now a.acc.now pre.1.1 pre.1.2 loop.i loop.acc inv.2 (loop.i + j) j)),
+            (turn_fits a.p a.a.now a.e.now a.acc.now pre.1.1 pre.1.2 loop.i loop.acc inv.2 (loop.i + j) j)),
       ),
     )
 
-add-i : tie.Need-overflow-add-i invariant-loop decreases-loop
-add-i c = search rules
+add_i : tie.Need-overflow-add-i invariant-loop decreases-loop
+add_i c = search rules
 
 loop-less : tie.Need-loop-smaller invariant-loop decreases-loop
 loop-less c = search rules
@@ -125,9 +125,9 @@ returns c =
     let a = start.args in
     let pre = start.requires in
     let loop = at-loop.loop in
-    added-all a.p a.a.now a.e.now a.acc.now pre.1.1 pre.1.2 loop.i loop.acc loop.invariant.2 (search rules)
+    added_all a.p a.a.now a.e.now a.acc.now pre.1.1 pre.1.2 loop.i loop.acc loop.invariant.2 (search rules)
     (omega (arith, loop.invariant.1, pre.0.2)) pre.0.3 pre.0.4 pre.1.0
 
 pub add-product-spec : {M : Type 1} → statement M
 add-product-spec = tie.close (tie.spec invariant-loop decreases-loop loop-holds sub-len word-requires add-word word-requires-2 add-word-2 word-requires-3 add-word-3
-    word-requires-4 add-rows-requires add-i loop-less loop-again same_length returns)
+    word-requires-4 add-rows-requires add_i loop-less loop-again same_length returns)

@@ -3,8 +3,8 @@ use mathlib.Core.Path.{sym, subst}
 use Prim.Native.Nat.{◌+◌, ◌-◌, ◌^◌, ◌<◌}
 use native.Mathlib.Omega.{arith}
 use lib.ListN.{length, drop, length-take, length-drop}
-use Rattle.slices.specs.Stored.{part-below}
-use Rattle.rows.specs.Rows.{rows_are, rows-added}
+use Rattle.slices.specs.Stored.{part_below}
+use Rattle.rows.specs.Rows.{rows_are, rows_added}
 use borrow.Author.Rules.{rules}
 use Rattle.rows.proofs.add_rows.Statement.{statement}
 use Rattle.rows.proofs.add_rows.Tie as tie
@@ -59,9 +59,9 @@ four-requires c κs =
       (search rules, search rules, search rules, search rules),
       (
         (
-          part-below a.e.now 3 (length a.e.now - 3) (2 ^ 32) (search rules) small,
-          part-below a.e.now 2 (length a.e.now - 2) (2 ^ 32) (search rules) small,
-          part-below a.e.now 1 (length a.e.now - 1) (2 ^ 32) (search rules) small,
+          part_below a.e.now 3 (length a.e.now - 3) (2 ^ 32) (search rules) small,
+          part_below a.e.now 2 (length a.e.now - 2) (2 ^ 32) (search rules) small,
+          part_below a.e.now 1 (length a.e.now - 1) (2 ^ 32) (search rules) small,
           small,
         ),
         (
@@ -85,7 +85,7 @@ returns c =
     let start = at-four.before.before.before.before.before.before.before in
     let a = start.args in
     let four = at-four.four in
-    rows-added a.acc.now a.e.now a.at a.len (a.at + a.len - a.at) a.w a.x a.y a.z (omega arith) (omega arith) four.new.0
+    rows_added a.acc.now a.e.now a.at a.len (a.at + a.len - a.at) a.w a.x a.y a.z (omega arith) (omega arith) four.new.0
     (omega arith) (omega (arith, length-take (a.at + a.len - a.at) (drop a.at a.acc.now), length-drop a.at a.acc.now)) (λ j l. four.ensures
     j (omega (arith, length-take (a.at + a.len - a.at) (drop a.at a.acc.now), length-drop a.at a.acc.now)))
 

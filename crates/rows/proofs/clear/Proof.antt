@@ -4,7 +4,7 @@ use Prim.Native.Nat.{◌-◌}
 use native.Mathlib.Omega.{arith}
 use lib.ListN.{length, replicate, length-replicate, get_or-replicate}
 use lib.Seq.{ext_get_or}
-use Rattle.slices.specs.Stored.{Stored, stored-none, stored_more}
+use Rattle.slices.specs.Stored.{Stored, stored_none, stored_more}
 use borrow.Author.Rules.{rules}
 use Rattle.rows.proofs.clear.Statement.{statement}
 use Rattle.rows.proofs.clear.Tie as tie
@@ -16,7 +16,7 @@ abbrev decreases-loop : tie.decreases-loop
 decreases-loop out₀ k₀ out k = length out₀ - k
 
 loop-holds : tie.Need-loop-init invariant-loop decreases-loop
-loop-holds c = stored-none _ _
+loop-holds c = stored_none _ _
 
 mul-out : tie.Need-overflow-mul-out invariant-loop decreases-loop
 mul-out c = search rules

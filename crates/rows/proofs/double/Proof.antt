@@ -2,7 +2,7 @@
 use mathlib.Core.Path.{◌≡◌, refl, ap, subst}
 use Prim.Native.Nat.{◌-◌, ◌*◌, ◌≤◌}
 use lib.ListN.{length, length-set}
-use Rattle.rows.specs.Rows.{Twice, twice-none, twice-more}
+use Rattle.rows.specs.Rows.{Twice, twice_none, twice_more}
 use native.Mathlib.Omega.{arith}
 use borrow.Author.Rules.{rules}
 use Rattle.rows.proofs.double.Statement.{statement}
@@ -15,7 +15,7 @@ abbrev decreases-loop : tie.decreases-loop
 decreases-loop a out₀ k₀ out k = length a - k
 
 loop-holds : tie.Need-loop-init invariant-loop decreases-loop
-loop-holds c = (refl, search rules, twice-none _ _)
+loop-holds c = (refl, search rules, twice_none _ _)
 
 word-requires : tie.Need-word-requires invariant-loop decreases-loop
 word-requires c κs = search rules
@@ -41,12 +41,12 @@ loop-less c = search rules
 loop-again : tie.Need-loop-preserved invariant-loop decreases-loop
 loop-again c =
     let at-loop = c.before.before in
-    let at-start = at-loop.before.before.before in
+    let at_start = at-loop.before.before.before in
     let loop = at-loop.loop in
-    let a = at-start.args in (
+    let a = at_start.args in (
       simp length-set loop.invariant.0,
       search rules,
-      twice-more a.a.now a.out.now loop.out loop.k _ (search rules) (ap (λ n. 2 * n) c.word.ensures) loop.invariant.2,
+      twice_more a.a.now a.out.now loop.out loop.k _ (search rules) (ap (λ n. 2 * n) c.word.ensures) loop.invariant.2,
     )
 
 same_length : tie.Need-same-length invariant-loop decreases-loop

@@ -2,21 +2,21 @@
 use mathlib.Core.Path.{◌≡◌}
 use Prim.Native.Nat.{◌-◌}
 use lib.ListN.{length}
-use Rattle.slices.specs.Stored.{Stored, stored-none, stored_more, word_kept}
-use Rattle.rows.specs.Rows.{four-more}
+use Rattle.slices.specs.Stored.{Stored, stored_none, stored_more, word_kept}
+use Rattle.rows.specs.Rows.{four_more}
 use native.Mathlib.Omega.{arith}
 use borrow.Author.Rules.{rules}
 use Rattle.rows.proofs.four.Statement.{statement}
 use Rattle.rows.proofs.four.Tie as tie
 
 abbrev invariant-loop : tie.invariant-loop
-invariant-loop out₀ a b c d w x y z j₀ out j = Stored (λ k v. v ≡ four-more out₀ a b c d w x y z k) out₀ out j
+invariant-loop out₀ a b c d w x y z j₀ out j = Stored (λ k v. v ≡ four_more out₀ a b c d w x y z k) out₀ out j
 
 abbrev decreases-loop : tie.decreases-loop
 decreases-loop out₀ a b c d w x y z j₀ out j = length out₀ - j
 
 loop-holds : tie.Need-loop-init invariant-loop decreases-loop
-loop-holds c = stored-none _ _
+loop-holds c = stored_none _ _
 
 mul-sum-more : tie.Need-overflow-mul-sum-more invariant-loop decreases-loop
 mul-sum-more c = search rules
@@ -66,8 +66,8 @@ mul-out c = search rules
 slice-write-out : tie.Need-slice-write-out invariant-loop decreases-loop
 slice-write-out c = search rules
 
-add-j : tie.Need-overflow-add-j invariant-loop decreases-loop
-add-j c = search rules
+add_j : tie.Need-overflow-add-j invariant-loop decreases-loop
+add_j c = search rules
 
 loop-less : tie.Need-loop-smaller invariant-loop decreases-loop
 loop-less c = search rules
@@ -75,9 +75,9 @@ loop-less c = search rules
 loop-again : tie.Need-loop-preserved invariant-loop decreases-loop
 loop-again c =
     let at-loop = c.before.before.before.before.before.before.before in
-    let at-start = at-loop.before.before.before.before.before.before in
+    let at_start = at-loop.before.before.before.before.before.before in
     let loop = at-loop.loop in
-    let a = at-start.args in
+    let a = at_start.args in
     stored_more _ a.out.now loop.out loop.j c.sum_more.result (search rules) loop.invariant (omega (
       arith,
       c.sum_more.ensures,
@@ -94,4 +94,4 @@ returns c = λ j l. c.before.loop.invariant.filled j (omega arith)
 pub four-spec : {M : Type 1} → statement M
 four-spec = tie.close (tie.spec invariant-loop decreases-loop loop-holds mul-sum-more slice-read-sum-more mul-sum-more-2 shared-slice-read-sum-more mul-sum-more-3
     shared-slice-read-sum-more-2 mul-sum-more-4 shared-slice-read-sum-more-3 mul-sum-more-5 shared-slice-read-sum-more-4 sum-more-requires mul-out
-    slice-write-out add-j loop-less loop-again same_length returns)
+    slice-write-out add_j loop-less loop-again same_length returns)

@@ -1,7 +1,7 @@
 -- `rows::prepare` meets its contract. Assumes nothing.
 use Prim.Native.Nat.{◌-◌}
 use lib.ListN.{length}
-use Rattle.rows.specs.Room.{above-none}
+use Rattle.rows.specs.Room.{above_none}
 use borrow.Author.Rules.{rules}
 use Rattle.rows.proofs.prepare.Statement.{statement}
 use Rattle.rows.proofs.prepare.Tie as tie
@@ -28,11 +28,11 @@ returns : tie.Need-returns
 returns c =
     let at-double = c.before.before in
     let at_clear = at-double.before.before.before.before in
-    let at-start = at_clear.before.before.before.before in
+    let at_start = at_clear.before.before.before.before in
     let double = at-double.double in
     let clear = at_clear.clear in
-    let a = at-start.args in
-    above-none a.a.now clear.new.0 double.new.1.0 (length a.e.now) (length clear.new.0 - 3) clear.ensures (search rules) (search
+    let a = at_start.args in
+    above_none a.a.now clear.new.0 double.new.1.0 (length a.e.now) (length clear.new.0 - 3) clear.ensures (search rules) (search
     rules) (search rules)
     double.ensures
 

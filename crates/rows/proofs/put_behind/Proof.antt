@@ -5,7 +5,7 @@ use Prim.Native.Nat.{ℕ, ◌-◌, ◌≤◌}
 use native.Mathlib.Omega.{arith}
 use lib.ListN.{length, get_or, length-set}
 use Rattle.slices.specs.Filling.{Filled, filled_none, filled_more}
-use Rattle.rows.specs.Product.{behind-all}
+use Rattle.rows.specs.Product.{behind_all}
 use borrow.Author.Rules.{rules}
 use Rattle.rows.proofs.put_behind.Statement.{statement}
 use Rattle.rows.proofs.put_behind.Tie as tie
@@ -59,7 +59,7 @@ returns c =
     let at-loop = c.before in
     let start = at-loop.before.before.before in
     let loop = at-loop.loop in
-    behind-all start.args.a.now loop.e (omega (arith, start.requires, loop.invariant.0)) (λ j l. loop.invariant.2 j (omega (arith, loop.invariant.0)))
+    behind_all start.args.a.now loop.e (omega (arith, start.requires, loop.invariant.0)) (λ j l. loop.invariant.2 j (omega (arith, loop.invariant.0)))
 
 pub put-behind-spec : {M : Type 1} → statement M
 put-behind-spec = tie.close (tie.spec invariant-loop decreases-loop loop-holds behind-requires mul-e slice-write-e add-k loop-less loop-again same_length returns)

@@ -3,10 +3,10 @@ use Prim.Native.Nat.{ℕ, ◌+◌, ◌-◌, ◌^◌, ◌<◌}
 use native.Mathlib.Omega.{arith}
 use borrow.Author.Rules.{rules}
 use lib.ListN.{length, get_or, take, drop}
-use Rattle.slices.specs.Stored.{part-below}
-use Rattle.rows.specs.Rows.{Four, RowsAdded, row_more, of_words, to-words}
-use Rattle.rows.specs.Room.{Held, held, held-le, above_more}
-use Rattle.rows.specs.Square.{turn-fits, turned}
+use Rattle.slices.specs.Stored.{part_below}
+use Rattle.rows.specs.Rows.{Four, RowsAdded, row_more, of_words, to_words}
+use Rattle.rows.specs.Room.{Held, held, held_le, above_more}
+use Rattle.rows.specs.Square.{turn_fits, turned}
 use Rattle.rows.proofs.square_turn.Statement.{statement}
 use Rattle.rows.proofs.square_turn.Tie as tie
 
@@ -46,8 +46,8 @@ words c P =
     let at-word3 = at-word4.before in
     let at-word2 = at-word3.before in
     let at-word = at-word2.before in
-    let at-start = at-word.before.before.before.before in
-    of_words at-start.args.a.now at-start.args.i _ _ _ _ at-word.word.ensures at-word2.word2.ensures at-word3.word3.ensures at-word4.word4.ensures P
+    let at_start = at-word.before.before.before.before in
+    of_words at_start.args.a.now at_start.args.i _ _ _ _ at-word.word.ensures at-word2.word2.ensures at-word3.word3.ensures at-word4.word4.ensures P
 
 -- the room while the rows are added
 room : (c : tie.After-put) → Held c.before.before.before.before.before.before.before.before.before.args.a.now c.before.before.before.before.before.before.before.before.before.args.i c.put.new.0
@@ -103,8 +103,8 @@ add-rows-requires c κs =
       (
         omega (arith, size),
         omega (arith, size),
-        part-below put.put.new.0 i (length put.put.new.0 - i) (2 ^ 32) (search rules)
-            (λ j. omega (arith, held-le a.a.now put.put.new.0 i (a.p - 1) (room put) (λ u. omega (arith, low u)) j)),
+        part_below put.put.new.0 i (length put.put.new.0 - i) (2 ^ 32) (search rules)
+            (λ j. omega (arith, held_le a.a.now put.put.new.0 i (a.p - 1) (room put) (λ u. omega (arith, low u)) j)),
       ),
       (
         (
@@ -114,11 +114,11 @@ add-rows-requires c κs =
           omega (arith, at-word4.word4.ensures, low (3 + i)),
         ),
         λ j l.
-            to-words a.a.now i _ _ _ _ at-word.word.ensures at-word2.word2.ensures at-word3.word3.ensures at-word4.word4.ensures
+            to_words a.a.now i _ _ _ _ at-word.word.ensures at-word2.word2.ensures at-word3.word3.ensures at-word4.word4.ensures
             (λ w x y z. row_more (get_or a.acc.now (i + i + j) 0) (take (length put.put.new.0 - i) (drop i put.put.new.0)) j w x y z < 2 ^ 64)
             (omega (
               arith,
-              turn-fits a.p a.a.now put.put.new.0 a.acc.now i at_least_lem.least.result start.requires.0.0 (room put) low
+              turn_fits a.p a.a.now put.put.new.0 a.acc.now i at_least_lem.least.result start.requires.0.0 (room put) low
                   (get_or a.acc.now (i + i + j) 0) j,
               start.requires.1.1.1 (i + i + j),
             )),

@@ -5,7 +5,7 @@ use native.Mathlib.Omega.{arith}
 use borrow.Author.Rules.{rules}
 use lib.ListN.{length}
 use Rattle.rows.specs.Room.{Above, turns}
-use Rattle.rows.specs.Square.{Added, added_none, added_more, added-end, added-all, turn-counts, turn-room, turn_below}
+use Rattle.rows.specs.Square.{Added, added_none, added_more, added_end, added_all, turn_counts, turn_room, turn_below}
 use Rattle.rows.proofs.square_turns.Statement.{statement}
 use Rattle.rows.proofs.square_turns.Tie as tie
 
@@ -37,7 +37,7 @@ returns c =
     let start = at-loop.before.before.before.before in
     let a = start.args in
     let loop = at-loop.loop in
-    added-end a.p a.a.now loop.i _ loop.acc loop.invariant.3 (omega arith) loop.invariant.5
+    added_end a.p a.a.now loop.i _ loop.acc loop.invariant.3 (omega arith) loop.invariant.5
 
 square-turn-requires : tie.Need-square-turn-requires invariant-loop decreases-loop
 square-turn-requires c κs =
@@ -45,8 +45,8 @@ square-turn-requires c κs =
     let start = at-loop.before.before.before.before in
     let a = start.args in
     let loop = at-loop.loop in
-    let more = turn-counts a.p a.a.now loop.i (length a.a.now) (length a.acc.now) loop.invariant.2 (omega arith) (omega arith) in
-    let fits = turn-room a.p a.a.now loop.i _ more start.requires.1.0.3 in (
+    let more = turn_counts a.p a.a.now loop.i (length a.a.now) (length a.acc.now) loop.invariant.2 (omega arith) (omega arith) in
+    let fits = turn_room a.p a.a.now loop.i _ more start.requires.1.0.3 in (
       (search rules, omega arith, omega arith),
       (
         (start.requires.1.0.0, start.requires.1.0.1, start.requires.1.0.2),
@@ -57,8 +57,8 @@ square-turn-requires c κs =
       ),
     )
 
-add-i : tie.Need-overflow-add-i invariant-loop decreases-loop
-add-i c = search rules
+add_i : tie.Need-overflow-add-i invariant-loop decreases-loop
+add_i c = search rules
 
 loop-less : tie.Need-loop-smaller invariant-loop decreases-loop
 loop-less c = search rules
@@ -74,7 +74,7 @@ loop-again c =
       search rules,
       search rules,
       omega arith,
-      turn-counts a.p a.a.now loop.i (length a.a.now) (length a.acc.now) loop.invariant.2 (omega arith) (omega arith),
+      turn_counts a.p a.a.now loop.i (length a.a.now) (length a.acc.now) loop.invariant.2 (omega arith) (omega arith),
       turn.ensures.0,
       added_more a.p a.a.now loop.i loop.acc _ (search rules) loop.invariant.5
           turn.ensures.1,
@@ -92,8 +92,8 @@ returns-2 c =
     let start = at-loop.before.before.before.before in
     let a = start.args in
     let loop = at-loop.loop in
-    added-all a.p a.a.now loop.i _ loop.acc loop.invariant.3 (omega arith) loop.invariant.5
+    added_all a.p a.a.now loop.i _ loop.acc loop.invariant.3 (omega arith) loop.invariant.5
 
 pub square-turns-spec : {M : Type 1} → statement M
-square-turns-spec = tie.close (tie.spec invariant-loop decreases-loop loop-holds mul-if1 same_length same-length-2 returns square-turn-requires add-i loop-less loop-again
+square-turns-spec = tie.close (tie.spec invariant-loop decreases-loop loop-holds mul-if1 same_length same-length-2 returns square-turn-requires add_i loop-less loop-again
     same-length-3 same-length-4 returns-2)

@@ -3,15 +3,15 @@ use mathlib.Core.Path.{ap₂, ◌∙◌}
 use Prim.Native.Nat.{◌+◌, ◌*◌}
 use native.Mathlib.Omega.{arith}
 use borrow.Author.Rules.{rules}
-use Rattle.rules.proofs.NumeratorSteps.{bend-at}
+use Rattle.rules.proofs.NumeratorSteps.{bend_at}
 use Rattle.rules.proofs.bend_coefficient.Statement.{statement}
 use Rattle.rules.proofs.bend_coefficient.Tie as tie
 
 abbrev start : tie.After-word2 → tie.Start
 start c = c.before.before.before.before
 
-cast-n : tie.Need-overflow-cast-n
-cast-n c = search rules
+cast_n : tie.Need-overflow-cast-n
+cast_n c = search rules
 
 add-n : tie.Need-overflow-add-n
 add-n c = search rules
@@ -41,7 +41,7 @@ returns c =
     let sum = c.before in
     let words = sum.before in
     let a = (start words).args in
-    bend-at a.p a.s.now a.t.now a.i sum.combination.result c.reduce.result
+    bend_at a.p a.s.now a.t.now a.i sum.combination.result c.reduce.result
     (sum.combination.ensures.0 ∙ ap₂ (λ y z. 2 * (a.i + 1) * y + 8 * z + 0 * 0) words.before.word.ensures words.word2.ensures)
     c.reduce.ensures
 
@@ -49,7 +49,7 @@ pub bend-coefficient-spec : {M : Type 1} → statement M
 bend-coefficient-spec =
     tie.close
     (tie.spec
-    cast-n
+    cast_n
     add-n
     add-word
     word-requires

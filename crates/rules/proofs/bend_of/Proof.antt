@@ -5,14 +5,14 @@ use borrow.Author.Rules.{rules}
 use lib.ListN.{length}
 use Rattle.zmod.specs.Zmod.{Zmod}
 use Rattle.zmod.specs.Residues.{poly}
-use Rattle.slices.specs.Stored.{Stored, stored-none, stored_more}
-use Rattle.poly.specs.Stored.{Of, stored-all}
-use Rattle.rules.specs.Numerator.{bend-from}
+use Rattle.slices.specs.Stored.{Stored, stored_none, stored_more}
+use Rattle.poly.specs.Stored.{Of, stored_all}
+use Rattle.rules.specs.Numerator.{bend_from}
 use Rattle.rules.proofs.bend_of.Statement.{statement}
 use Rattle.rules.proofs.bend_of.Tie as tie
 
 abbrev invariant-loop : tie.invariant-loop
-invariant-loop s t out₀ p i₀ out i = Stored (Of p (bend-from (Zmod p) (poly p s) (poly p t))) out₀ out i
+invariant-loop s t out₀ p i₀ out i = Stored (Of p (bend_from (Zmod p) (poly p s) (poly p t))) out₀ out i
 
 abbrev decreases-loop : tie.decreases-loop
 decreases-loop s t out₀ p i₀ out i = length out₀ - i
@@ -21,7 +21,7 @@ abbrev start : tie.At-loop invariant-loop decreases-loop → tie.Start invariant
 start c = c.before.before.before.before
 
 loop-holds : tie.Need-loop-init invariant-loop decreases-loop
-loop-holds c = stored-none _ _
+loop-holds c = stored_none _ _
 
 bend-coefficient-requires : tie.Need-bend-coefficient-requires invariant-loop decreases-loop
 bend-coefficient-requires c κs =
@@ -34,8 +34,8 @@ mul-out c = search rules
 slice-write-out : tie.Need-slice-write-out invariant-loop decreases-loop
 slice-write-out c = search rules
 
-add-i : tie.Need-overflow-add-i invariant-loop decreases-loop
-add-i c = search rules
+add_i : tie.Need-overflow-add-i invariant-loop decreases-loop
+add_i c = search rules
 
 loop-less : tie.Need-loop-smaller invariant-loop decreases-loop
 loop-less c = search rules
@@ -53,8 +53,8 @@ returns : tie.Need-returns invariant-loop decreases-loop
 returns c =
     let s = start c.before in
     let loop = c.before.loop in
-    stored-all s.args.p _ s.args.out.now loop.out loop.i (omega (arith, s.pre)) (search rules) loop.invariant
+    stored_all s.args.p _ s.args.out.now loop.out loop.i (omega (arith, s.pre)) (search rules) loop.invariant
 
 pub bend-of-spec : {M : Type 1} → statement M
 bend-of-spec =
-    tie.close (tie.spec invariant-loop decreases-loop loop-holds bend-coefficient-requires mul-out slice-write-out add-i loop-less loop-again same_length returns)
+    tie.close (tie.spec invariant-loop decreases-loop loop-holds bend-coefficient-requires mul-out slice-write-out add_i loop-less loop-again same_length returns)

@@ -32,11 +32,11 @@ returns c =
     let linear = first.before in
     let a = (start linear).args in
     λ g products.
-    sum_step a.v g a.k linear.linear-part.result first.first-logarithmic-part.result second.second-logarithmic-part.result
+    sum_step a.v g a.k linear.linear_part_of.result first.first_logarithmic_part_of.result second.second_logarithmic_part_of.result
     c.reduce.result
-    (linear.linear-part.ensures.0 g products.square-is.same)
-    (first.first-logarithmic-part.ensures.0 g products.slope-is.same)
-    (second.second-logarithmic-part.ensures.0 g products.bend-is.same)
+    (linear.linear_part_of.ensures.0 g products.square_is.same)
+    (first.first_logarithmic_part_of.ensures.0 g products.slope_is.same)
+    (second.second_logarithmic_part_of.ensures.0 g products.bend_is.same)
     c.reduce.ensures
 
 pub coefficient-spec : {M : Type 1} → statement M

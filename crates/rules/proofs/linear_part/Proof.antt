@@ -3,7 +3,7 @@ use mathlib.Core.Path.{ap, ◌∙◌}
 use Prim.Native.Nat.{◌+◌, ◌*◌, ◌<◌}
 use native.Mathlib.Omega.{arith}
 use borrow.Author.Rules.{rules}
-use Rattle.rules.proofs.NumeratorSteps.{back_is, back_below, linear-step}
+use Rattle.rules.proofs.NumeratorSteps.{back_is, back_below, linear_step}
 use Rattle.rules.proofs.linear_part.Statement.{statement}
 use Rattle.rules.proofs.linear_part.Tie as tie
 
@@ -39,7 +39,7 @@ returns c =
     let negate = negated word in
     let s = start negate in
     let a = s.args in (
-      linear-step a.v s.pre.0 a.square.now a.k negate.negate.result back.result c.combination.result negate.negate.ensures
+      linear_step a.v s.pre.0 a.square.now a.k negate.negate.result back.result c.combination.result negate.negate.ensures
           (back_is a.v.p a.square.now 1 a.k back.result back.ensures.0 back.ensures.1)
           (c.combination.ensures.0 ∙ ap (λ w. a.v.degree * back.result + negate.negate.result * w + 0 * 0) word.word.ensures),
       c.combination.ensures.1,

@@ -1,6 +1,6 @@
 -- `rules::rule_one` meets its contract. Assumes nothing.
 use native.Mathlib.Omega.{arith}
-use Rattle.rules.proofs.FirstRule.{one-no, one_last}
+use Rattle.rules.proofs.FirstRule.{one_no, one_last}
 use borrow.Author.Rules.{rules}
 use Rattle.rules.proofs.rule_one.Statement.{statement}
 use Rattle.rules.proofs.rule_one.Tie as tie
@@ -18,7 +18,7 @@ returns : tie.Need-returns
 returns c =
     let at = c.before.before.before.args in
     let pre = c.before.before.before.requires in
-    one-no at.v pre.0 at.g.now pre.1.count pre.1.reduced _ (omega (arith, pre)) c.if1.true
+    one_no at.v pre.0 at.g.now pre.1.count pre.1.reduced _ (omega (arith, pre)) c.if1.true
 
 sub-minus-twice : tie.Need-overflow-sub-minus-twice
 sub-minus-twice c = search rules

@@ -3,7 +3,7 @@ use mathlib.Core.Path.{ap, ◌∙◌}
 use Prim.Native.Nat.{◌+◌, ◌*◌, ◌<◌}
 use native.Mathlib.Omega.{arith}
 use borrow.Author.Rules.{rules}
-use Rattle.rules.proofs.NumeratorSteps.{back_is, back_below, second-step}
+use Rattle.rules.proofs.NumeratorSteps.{back_is, back_below, second_step}
 use Rattle.rules.proofs.second_logarithmic_part.Statement.{statement}
 use Rattle.rules.proofs.second_logarithmic_part.Tie as tie
 
@@ -40,7 +40,7 @@ returns c =
     let b₃ = (cubed word).back in
     let a = (start word.before).args in
     let p = a.v.p in (
-      second-step a.v a.bend.now a.k b₃.result b₁.result c.combination.result
+      second_step a.v a.bend.now a.k b₃.result b₁.result c.combination.result
           (back_is p a.bend.now 3 a.k b₃.result b₃.ensures.0 b₃.ensures.1)
           (back_is p a.bend.now 1 a.k b₁.result b₁.ensures.0 b₁.ensures.1)
           (c.combination.ensures.0 ∙ ap (λ w. 1 * b₃.result + a.v.a * b₁.result + a.v.b * w) word.word.ensures),

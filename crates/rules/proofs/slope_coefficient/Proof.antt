@@ -4,8 +4,8 @@ use Prim.Native.Nat.{◌+◌}
 use native.Mathlib.Omega.{arith}
 use borrow.Author.Rules.{rules}
 use Rattle.zmod.specs.Zmod.{mk, plus, minus}
-use Rattle.zmod.specs.Residues.{residue-same}
-use Rattle.rules.proofs.NumeratorSteps.{slope-at}
+use Rattle.zmod.specs.Residues.{residue_same}
+use Rattle.rules.proofs.NumeratorSteps.{slope_at}
 use Rattle.rules.proofs.slope_coefficient.Statement.{statement}
 use Rattle.rules.proofs.slope_coefficient.Tie as tie
 
@@ -34,8 +34,8 @@ returns : tie.Need-returns
 returns c =
     let less = c.before in
     let a = (start less.before).args in
-    slope-at a.p a.s.now a.i less.subtract.result c.multiply.result
-    (residue-same (ap (λ w. plus a.p (mk a.p 0) (minus a.p (mk a.p w))) less.before.word.ensures) less.subtract.ensures)
+    slope_at a.p a.s.now a.i less.subtract.result c.multiply.result
+    (residue_same (ap (λ w. plus a.p (mk a.p 0) (minus a.p (mk a.p w))) less.before.word.ensures) less.subtract.ensures)
     c.multiply.ensures
 
 pub slope-coefficient-spec : {M : Type 1} → statement M

@@ -6,8 +6,8 @@ use lib.ListN.{length}
 use Rattle.series.specs.Series.{negs, ∂}
 use Rattle.zmod.specs.Zmod.{Zmod}
 use Rattle.zmod.specs.Residues.{poly}
-use Rattle.slices.specs.Stored.{Stored, stored-none, stored_more}
-use Rattle.poly.specs.Stored.{Of, stored-all}
+use Rattle.slices.specs.Stored.{Stored, stored_none, stored_more}
+use Rattle.poly.specs.Stored.{Of, stored_all}
 use Rattle.rules.proofs.slope_of.Statement.{statement}
 use Rattle.rules.proofs.slope_of.Tie as tie
 
@@ -21,7 +21,7 @@ abbrev start : tie.At-loop invariant-loop decreases-loop → tie.Start invariant
 start c = c.before.before.before
 
 loop-holds : tie.Need-loop-init invariant-loop decreases-loop
-loop-holds c = stored-none _ _
+loop-holds c = stored_none _ _
 
 slope-coefficient-requires : tie.Need-slope-coefficient-requires invariant-loop decreases-loop
 slope-coefficient-requires c κs =
@@ -34,8 +34,8 @@ mul-out c = search rules
 slice-write-out : tie.Need-slice-write-out invariant-loop decreases-loop
 slice-write-out c = search rules
 
-add-i : tie.Need-overflow-add-i invariant-loop decreases-loop
-add-i c = search rules
+add_i : tie.Need-overflow-add-i invariant-loop decreases-loop
+add_i c = search rules
 
 loop-less : tie.Need-loop-smaller invariant-loop decreases-loop
 loop-less c = search rules
@@ -53,8 +53,8 @@ returns : tie.Need-returns invariant-loop decreases-loop
 returns c =
     let s = start c.before in
     let loop = c.before.loop in
-    stored-all s.args.p _ s.args.out.now loop.out loop.i (omega (arith, s.pre)) (search rules) loop.invariant
+    stored_all s.args.p _ s.args.out.now loop.out loop.i (omega (arith, s.pre)) (search rules) loop.invariant
 
 pub slope-of-spec : {M : Type 1} → statement M
 slope-of-spec =
-    tie.close (tie.spec invariant-loop decreases-loop loop-holds slope-coefficient-requires mul-out slice-write-out add-i loop-less loop-again same_length returns)
+    tie.close (tie.spec invariant-loop decreases-loop loop-holds slope-coefficient-requires mul-out slice-write-out add_i loop-less loop-again same_length returns)

@@ -8,8 +8,8 @@ use Rattle.series.specs.Series.{Seq}
 use Rattle.zmod.specs.Zmod.{Zmod}
 use Rattle.isogeny.specs.Rules.{N}
 use Rattle.sheet.specs.Values.{question}
-use Rattle.slices.specs.Stored.{Stored, stored-none, stored_more}
-use Rattle.poly.specs.Stored.{Of, stored-all}
+use Rattle.slices.specs.Stored.{Stored, stored_none, stored_more}
+use Rattle.poly.specs.Stored.{Of, stored_all}
 use Rattle.rules.specs.Products.{Products}
 use Rattle.rules.proofs.sum_of_parts.Statement.{statement}
 use Rattle.rules.proofs.sum_of_parts.Tie as tie
@@ -26,7 +26,7 @@ abbrev start : tie.At-loop invariant-loop decreases-loop → tie.Start invariant
 start c = c.before.before.before.before.before
 
 loop-holds : tie.Need-loop-init invariant-loop decreases-loop
-loop-holds c = (refl, λ g products. stored-none _ _)
+loop-holds c = (refl, λ g products. stored_none _ _)
 
 coefficient-requires : tie.Need-coefficient-requires invariant-loop decreases-loop
 coefficient-requires c κs = search rules
@@ -60,7 +60,7 @@ returns : tie.Need-returns invariant-loop decreases-loop
 returns c =
     let s = start c.before in
     let loop = c.before.loop in
-    λ g products. stored-all s.args.v.p _ s.args.out.now loop.out loop.k (omega (arith, s.pre.0.prime.least)) (search rules)
+    λ g products. stored_all s.args.v.p _ s.args.out.now loop.out loop.k (omega (arith, s.pre.0.prime.least)) (search rules)
     (loop.invariant.1 g products)
 
 pub sum-of-parts-spec : {M : Type 1} → statement M

@@ -1,7 +1,7 @@
 -- `sagepliers::sagepliers_name` meets its contract. Assumes nothing.
 use borrow.Author.Rules.{rules}
 use mathlib.Core.Path.{◌∙◌, sym, ap}
-use Rattle.promises.specs.Outcome.{nameNumber}
+use Rattle.promises.specs.Outcome.{name_number}
 use Rattle.sagepliers.proofs.sagepliers_name.Statement.{statement}
 use Rattle.sagepliers.proofs.sagepliers_name.Tie as tie
 
@@ -25,7 +25,7 @@ returns c =
     record {
       answer = c.before.before.before.before.name.result;
       right = c.before.before.before.before.name.ensures;
-      number = c.wide.ensures ∙ ap nameNumber (sym c.before.before.name2.given.1);
+      number = c.wide.ensures ∙ ap name_number (sym c.before.before.name2.given.1);
     }
 
 returns-2 : tie.Need-returns-2
@@ -33,7 +33,7 @@ returns-2 c =
     record {
       answer = c.before.before.before.before.name.result;
       right = c.before.before.before.before.name.ensures;
-      number = c.refusal.ensures ∙ ap nameNumber (sym c.before.before.name3.given.1);
+      number = c.refusal.ensures ∙ ap name_number (sym c.before.before.name3.given.1);
     }
 
 pub sagepliers-name-spec : {M : Type 1} → statement M

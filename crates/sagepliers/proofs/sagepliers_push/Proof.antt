@@ -1,8 +1,8 @@
 -- `sagepliers::sagepliers_push` meets its contract. Assumes nothing.
 use borrow.Author.Rules.{rules}
 use mathlib.Core.Path.{◌∙◌, sym, ap}
-use Rattle.promises.specs.Outcome.{imageNumber}
-use Rattle.sagepliers.proofs.Numbers.{last-is-infinity}
+use Rattle.promises.specs.Outcome.{image_number}
+use Rattle.sagepliers.proofs.Numbers.{last_is_infinity}
 use Rattle.sagepliers.proofs.sagepliers_push.Statement.{statement}
 use Rattle.sagepliers.proofs.sagepliers_push.Tie as tie
 
@@ -20,7 +20,7 @@ returns c =
     record {
       answer = c.before.before.push.result;
       right = c.before.before.push.ensures;
-      number = last-is-infinity c.before.before.push.result c.before.match.keys2 c.match2.keys2;
+      number = last_is_infinity c.before.before.push.result c.before.match.keys2 c.match2.keys2;
     }
 
 refusal-requires : tie.Need-refusal-requires
@@ -32,7 +32,7 @@ returns-2 c =
     record {
       answer = image.result;
       right = image.ensures;
-      number = c.refusal.ensures ∙ ap imageNumber (sym c.before.before.image2.given.1);
+      number = c.refusal.ensures ∙ ap image_number (sym c.before.before.image2.given.1);
     }
 
 point-number-requires : tie.Need-point-number-requires
@@ -44,7 +44,7 @@ returns-3 c =
     record {
       answer = image.result;
       right = image.ensures;
-      number = c.point-number.ensures ∙ ap imageNumber (sym c.before.before.image.given.1);
+      number = c.point-number.ensures ∙ ap image_number (sym c.before.before.image.given.1);
     }
 
 pub sagepliers-push-spec : {M : Type 1} → statement M

@@ -6,15 +6,15 @@ use Prim.Native.Nat.{ℕ, ◌+◌, ◌-◌, ◌≤◌}
 use native.Mathlib.Omega.{arith}
 use lib.ListN.{length, get_or, length-set}
 use Rattle.slices.specs.Filling.{Filled, filled_none, filled_more}
-use Rattle.sheet.specs.Form.{valueIn}
-use Rattle.sheet.specs.Values.{coefficientIn}
-use Rattle.sheet.proofs.Copies.{coefficients-filled}
+use Rattle.sheet.specs.Form.{value_in}
+use Rattle.sheet.specs.Values.{coefficient_in}
+use Rattle.sheet.proofs.Copies.{coefficients_filled}
 use Rattle.sheet.proofs.coefficients.Statement.{statement}
 use Rattle.sheet.proofs.coefficients.Tie as tie
 
 abbrev invariant-loop : tie.invariant-loop
 invariant-loop form p ws from out₀ i₀ i-end out i =
-    (length out ≡ length out₀) × (i ≤ length out₀) × Filled (λ j v. v ≡ coefficientIn form p (get_or ws (from + j) 0)) out i
+    (length out ≡ length out₀) × (i ≤ length out₀) × Filled (λ j v. v ≡ coefficient_in form p (get_or ws (from + j) 0)) out i
 
 abbrev decreases-loop : tie.decreases-loop
 decreases-loop form p ws from out₀ i₀ i-end out i = i-end - i
@@ -29,7 +29,7 @@ entered c = start c.before
 
 -- what word j is to be
 abbrev Right : tie.Start invariant-loop decreases-loop → ℕ → ℕ → Type 0
-Right s j v = v ≡ coefficientIn s.args.form s.args.p (get_or s.args.ws.now (s.args.from + j) 0)
+Right s j v = v ≡ coefficient_in s.args.form s.args.p (get_or s.args.ws.now (s.args.from + j) 0)
 
 loop-holds : tie.Need-loop-init invariant-loop decreases-loop
 loop-holds c = (search rules, search rules, filled_none (Right (start c)) (start c).args.out.now)
@@ -55,8 +55,8 @@ mul-out c = search rules
 slice-write-out : tie.Need-slice-write-out invariant-loop decreases-loop
 slice-write-out c = search rules
 
-add-i : tie.Need-overflow-add-i invariant-loop decreases-loop
-add-i c = search rules
+add_i : tie.Need-overflow-add-i invariant-loop decreases-loop
+add_i c = search rules
 
 loop-less : tie.Need-loop-smaller invariant-loop decreases-loop
 loop-less c = search rules
@@ -70,7 +70,7 @@ loop-again c =
       simp length-set loop.invariant.0,
       omega arith,
       filled_more (Right s) loop.out loop.i c.value_in.result (omega (arith, loop.invariant.0)) loop.invariant.2
-          (c.value_in.ensures ∙ ap (valueIn s.args.form s.args.p) value.value.ensures),
+          (c.value_in.ensures ∙ ap (value_in s.args.form s.args.p) value.value.ensures),
     )
 
 same_length : tie.Need-same-length invariant-loop decreases-loop
@@ -81,7 +81,7 @@ returns c =
     let loop = c.before.loop in
     let a = (entered c.before).args in
     let all : c.before.loop.i ≡ length (entered c.before).args.out.now = omega arith in
-    coefficients-filled a.form a.p a.ws.now loop.out a.from (length a.out.now) loop.invariant.0 (search rules)
+    coefficients_filled a.form a.p a.ws.now loop.out a.from (length a.out.now) loop.invariant.0 (search rules)
     (rw all at loop.invariant.2)
 
 pub coefficients-spec : {M : Type 1} → statement M
@@ -98,7 +98,7 @@ coefficients-spec =
     value-in-requires
     mul-out
     slice-write-out
-    add-i
+    add_i
     loop-less
     loop-again
     same_length

@@ -7,7 +7,7 @@ use native.Mathlib.Omega.{arith}
 use lib.ListN.{length, get_or, length-set}
 use Rattle.slices.specs.Filling.{Filled, filled_none, filled_more}
 use Rattle.sheet.specs.Word.{word_at}
-use Rattle.sheet.proofs.Copies.{words-filled}
+use Rattle.sheet.proofs.Copies.{words_filled}
 use Rattle.sheet.proofs.load.Statement.{statement}
 use Rattle.sheet.proofs.load.Tie as tie
 
@@ -29,8 +29,8 @@ mul-out c = search rules
 slice-write-out : tie.Need-slice-write-out invariant-loop decreases-loop
 slice-write-out c = search rules
 
-add-i : tie.Need-overflow-add-i invariant-loop decreases-loop
-add-i c = search rules
+add_i : tie.Need-overflow-add-i invariant-loop decreases-loop
+add_i c = search rules
 
 loop-less : tie.Need-loop-smaller invariant-loop decreases-loop
 loop-less c = search rules
@@ -40,8 +40,8 @@ loop-again c =
     let at = c.before.before.before.before.before.args in (
       simp length-set c.before.before.loop.invariant.0,
       omega arith,
-      filled_more (λ j v. v ≡ word_at at.bytes.now j) c.before.before.loop.out c.before.before.loop.i c.word-at.result
-          (omega (arith, c.before.before.loop.invariant.0)) c.before.before.loop.invariant.2 c.word-at.ensures,
+      filled_more (λ j v. v ≡ word_at at.bytes.now j) c.before.before.loop.out c.before.before.loop.i c.word_is.result
+          (omega (arith, c.before.before.loop.invariant.0)) c.before.before.loop.invariant.2 c.word_is.ensures,
     )
 
 same_length : tie.Need-same-length invariant-loop decreases-loop
@@ -51,7 +51,7 @@ returns : tie.Need-returns invariant-loop decreases-loop
 returns c =
     let at = c.before.before.before.before.args in
     let all : c.before.loop.i ≡ length at.out.now = omega arith in
-    words-filled at.bytes.now c.before.loop.out (length at.out.now) c.before.loop.invariant.0 (search rules) (rw all at c.before.loop.invariant.2)
+    words_filled at.bytes.now c.before.loop.out (length at.out.now) c.before.loop.invariant.0 (search rules) (rw all at c.before.loop.invariant.2)
 
 pub load_spec : {M : Type 1} → statement M
 load_spec =
@@ -63,7 +63,7 @@ load_spec =
     word-at-requires
     mul-out
     slice-write-out
-    add-i
+    add_i
     loop-less
     loop-again
     same_length

@@ -2,7 +2,7 @@
 use borrow.Author.Rules.{rules}
 use mathlib.Core.Path.{◌≡◌, ◌∙◌, ap}
 use Prim.Native.Nat.{ℕ}
-use Rattle.sheet.specs.Form.{entry, valueIn}
+use Rattle.sheet.specs.Form.{entry, value_in}
 use Rattle.sheet.specs.Values.{value_at}
 use Rattle.sheet.specs.Fields.{same}
 use Rattle.sheet.proofs.values_of.Statement.{statement}
@@ -32,8 +32,8 @@ returns c =
     let s = first.before.before in
     let a = s.args in
     -- the p that was read is the sheet's
-    let over : (k : ℕ) → valueIn a.form a.p (entry a.form k a.ws.now) ≡ value_at a.form k a.ws.now =
-    λ k. ap (λ p. valueIn a.form p (entry a.form k a.ws.now)) s.requires.1 in
+    let over : (k : ℕ) → value_in a.form a.p (entry a.form k a.ws.now) ≡ value_at a.form k a.ws.now =
+    λ k. ap (λ p. value_in a.form p (entry a.form k a.ws.now)) s.requires.1 in
     same s.requires.1 (first.value_of_lem.ensures ∙ over 2) (second.value-of2.ensures ∙ over 3) (third.value-of3.ensures ∙ over 4)
     (fourth.value-of4.ensures ∙ over 5) s.requires.2 (c.value-of5.ensures ∙ over 7)
 

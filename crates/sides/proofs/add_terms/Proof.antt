@@ -1,6 +1,6 @@
 -- `sides::add_terms` meets its contract. Assumes nothing.
 use native.Mathlib.Omega.{arith}
-use Rattle.sides.proofs.SideSteps.{terms-steps}
+use Rattle.sides.proofs.SideSteps.{terms_steps}
 use borrow.Author.Rules.{rules}
 use Rattle.sides.proofs.add_terms.Statement.{statement}
 use Rattle.sides.proofs.add_terms.Tie as tie
@@ -23,7 +23,7 @@ returns c =
     let o = c.before.before.before.before.before.before.before.before.before.before.product in
     let s = c.before.before.before.before.before.before.scale in
     let e = c.before.before.add-product in
-    terms-steps at.p at.n.now at.s.now at.h.now at.t.now o.new.1.1.0 s.new.0 e.new.1.1.0 at.b
+    terms_steps at.p at.n.now at.s.now at.h.now at.t.now o.new.1.1.0 s.new.0 e.new.1.1.0 at.b
     (omega (arith, s.auto)) (omega (arith, e.auto)) o.ensures s.ensures e.ensures
 
 pub add-terms-spec : {M : Type 1} → statement M

@@ -1,8 +1,8 @@
 -- `sides::cross` meets its contract. Assumes nothing.
 use native.Mathlib.Omega.{arith}
 use Prim.Native.Nat.{◌-◌}
-use Rattle.rules.specs.Words.{mk-less}
-use Rattle.sides.proofs.SideSteps.{cross-steps}
+use Rattle.rules.specs.Words.{mk_less}
+use Rattle.sides.proofs.SideSteps.{cross_steps}
 use borrow.Author.Rules.{rules}
 use Rattle.sides.proofs.cross.Statement.{statement}
 use Rattle.sides.proofs.cross.Tie as tie
@@ -29,8 +29,8 @@ returns c =
     let o = c.before.before.before.before.before.before.before.before.before.before.product in
     let s = c.before.before.before.before.before.before.scale in
     let e = c.before.before.add-product in
-    cross-steps at.p at.g.now at.n.now at.dg.now at.dn.now o.new.1.1.0 s.new.0 e.new.1.1.0 (at.p - 2)
-    (mk-less {p = at.p} 2 (omega (arith, pre)) (omega (arith, pre))) (omega (arith, s.auto)) (omega (arith, e.auto)) o.ensures s.ensures e.ensures
+    cross_steps at.p at.g.now at.n.now at.dg.now at.dn.now o.new.1.1.0 s.new.0 e.new.1.1.0 (at.p - 2)
+    (mk_less {p = at.p} 2 (omega (arith, pre)) (omega (arith, pre))) (omega (arith, s.auto)) (omega (arith, e.auto)) o.ensures s.ensures e.ensures
 
 pub cross-spec : {M : Type 1} → statement M
 cross-spec =

@@ -2,7 +2,7 @@
 use native.Mathlib.Omega.{arith}
 use Prim.Native.Nat.{◌+◌, ◌*◌, ◌-◌}
 use lib.ListN.{length, take, length-take}
-use Rattle.sides.proofs.SideSteps.{left-steps}
+use Rattle.sides.proofs.SideSteps.{left_steps}
 use borrow.Author.Rules.{rules}
 use Rattle.sides.proofs.left_side.Statement.{statement}
 use Rattle.sides.proofs.left_side.Tie as tie
@@ -10,17 +10,17 @@ use Rattle.sides.proofs.left_side.Tie as tie
 sub-d : tie.Need-overflow-sub-d
 sub-d c = search rules
 
-mul-i : tie.Need-overflow-mul-i
-mul-i c = search rules
+mul_i : tie.Need-overflow-mul-i
+mul_i c = search rules
 
-add-i : tie.Need-overflow-add-i
-add-i c = search rules
+add_i : tie.Need-overflow-add-i
+add_i c = search rules
 
 mul-j : tie.Need-overflow-mul-j
 mul-j c = search rules
 
-add-j : tie.Need-overflow-add-j
-add-j c = search rules
+add_j : tie.Need-overflow-add-j
+add_j c = search rules
 
 mul-k : tie.Need-overflow-mul-k
 mul-k c = search rules
@@ -86,7 +86,7 @@ returns c =
     let w = c.before.before.before.before.before.before.before.before.before.cross766 in
     let ww = c.before.before.before.before.before.before.before.square766 in
     let o = c.before.before.product in
-    left-steps at.v at.g.now at.n.now (take d dg.result) (take (2 * d + 1) dn.result) (take (3 * d + 1) w.result)
+    left_steps at.v at.g.now at.n.now (take d dg.result) (take (2 * d + 1) dn.result) (take (3 * d + 1) w.result)
     (take (6 * d + 1) ww.result)
     c.before.before.before.before.before.before.cubic-words.result o.new.1.1.0 pre.0.1.count pre.1.count
     (simp length-take (omega (arith, pre))) (simp length-take (omega (arith, pre))) (simp length-take (omega (arith, pre)))
@@ -98,10 +98,10 @@ left-side-spec =
     tie.close
     (tie.spec
     sub-d
-    mul-i
-    add-i
+    mul_i
+    add_i
     mul-j
-    add-j
+    add_j
     mul-k
     add-k
     derivative766-requires

@@ -3,24 +3,24 @@ use native.Mathlib.Omega.{arith}
 use Prim.Native.Nat.{◌+◌, ◌*◌, ◌-◌}
 use lib.ListN.{length, take, length-take}
 use borrow.Author.Rules.{rules}
-use Rattle.sides.proofs.SideSteps.{right-steps}
+use Rattle.sides.proofs.SideSteps.{right_steps}
 use Rattle.sides.proofs.right_side.Statement.{statement}
 use Rattle.sides.proofs.right_side.Tie as tie
 
 sub-d : tie.Need-overflow-sub-d
 sub-d c = search rules
 
-mul-i : tie.Need-overflow-mul-i
-mul-i c = search rules
+mul_i : tie.Need-overflow-mul-i
+mul_i c = search rules
 
-add-i : tie.Need-overflow-add-i
-add-i c = search rules
+add_i : tie.Need-overflow-add-i
+add_i c = search rules
 
 mul-j : tie.Need-overflow-mul-j
 mul-j c = search rules
 
-add-j : tie.Need-overflow-add-j
-add-j c = search rules
+add_j : tie.Need-overflow-add-j
+add_j c = search rules
 
 mul-k : tie.Need-overflow-mul-k
 mul-k c = search rules
@@ -85,7 +85,7 @@ returns c =
     let h = c.before.before.before.before.before.before.before.before.before.square7662 in
     let t = c.before.before.before.before.before.before.before.square-and in
     let o = c.before.before.add-terms in
-    right-steps at.v at.g.now at.n.now (take (2 * d + 1) s.result) (take (4 * d + 1) h.result) (take (4 * d + 3) t.result)
+    right_steps at.v at.g.now at.n.now (take (2 * d + 1) s.result) (take (4 * d + 1) h.result) (take (4 * d + 3) t.result)
     o.new.1.1.1.1.1.0
     (simp length-take (omega (arith, pre))) (simp length-take (omega (arith, pre))) s.ensures h.ensures t.ensures o.ensures
 
@@ -94,10 +94,10 @@ right-side-spec =
     tie.close
     (tie.spec
     sub-d
-    mul-i
-    add-i
+    mul_i
+    add_i
     mul-j
-    add-j
+    add_j
     mul-k
     add-k
     square766-requires

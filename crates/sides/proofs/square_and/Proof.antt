@@ -2,7 +2,7 @@
 use native.Mathlib.Omega.{arith}
 use mathlib.Core.Path.{◌≡◌}
 use lib.ListN.{length, take, drop, length-take}
-use Rattle.sides.proofs.SideSteps.{front-whole, factor-steps}
+use Rattle.sides.proofs.SideSteps.{front_whole, factor_steps}
 use borrow.Author.Rules.{rules}
 use Rattle.sides.proofs.square_and.Statement.{statement}
 use Rattle.sides.proofs.square_and.Tie as tie
@@ -28,8 +28,8 @@ returns c =
     let e = c.before.add-scaled in
     let l-t : length (take k t.result) ≡ k = simp length-take (omega (arith, pre)) in
     let l-e : length e.new.0 ≡ k = omega (arith, e.auto) in
-    front-whole at.p e.new.0 (drop k t.result) k l-e
-    (factor-steps at.p at.n.now at.h.now (take k t.result) e.new.0 at.a
+    front_whole at.p e.new.0 (drop k t.result) k l-e
+    (factor_steps at.p at.n.now at.h.now (take k t.result) e.new.0 at.a
     (omega (arith, pre)) (omega (arith, pre)) (omega arith) t.ensures e.ensures)
 
 pub square-and-spec : {M : Type 1} → statement M

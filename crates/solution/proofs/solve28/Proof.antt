@@ -5,21 +5,21 @@ use borrow.Author.Rules.{rules}
 use Rattle.solution.proofs.solve28.Statement.{statement}
 use Rattle.solution.proofs.solve28.Tie as tie
 
-cast-n : tie.Need-overflow-cast-n
-cast-n c = search rules
+cast_n : tie.Need-overflow-cast-n
+cast_n c = search rules
 
-add-i : tie.Need-overflow-add-i
-add-i c =
+add_i : tie.Need-overflow-add-i
+add_i c =
     let start = c.before.before in
     search (rules, start.requires.0.degree)
 
-mul-i : tie.Need-overflow-mul-i
-mul-i c =
+mul_i : tie.Need-overflow-mul-i
+mul_i c =
     let start = c.before.before in
     search (rules, start.requires.0.degree)
 
-add-i-2 : tie.Need-overflow-add-i-2
-add-i-2 c =
+add_i_2 : tie.Need-overflow-add-i-2
+add_i_2 c =
     let start = c.before.before in
     search (rules, start.requires.0.degree)
 
@@ -28,13 +28,13 @@ add-k c =
     let start = c.before.before in
     search (rules, start.requires.0.degree)
 
-add-c : tie.Need-overflow-add-c
-add-c c =
+add_c : tie.Need-overflow-add-c
+add_c c =
     let start = c.before.before in
     search (rules, start.requires.0.degree)
 
-add-j : tie.Need-overflow-add-j
-add-j c =
+add_j : tie.Need-overflow-add-j
+add_j c =
     let start = c.before.before in
     search (rules, start.requires.0.degree)
 
@@ -59,8 +59,8 @@ blank28-requires-4 c κs = search rules
 blank28-requires-5 : tie.Need-blank28-requires-5
 blank28-requires-5 c κs = search rules
 
-array-borrow-prefix-e : tie.Need-array-borrow-prefix-e
-array-borrow-prefix-e c =
+array_borrow_prefix_e : tie.Need-array-borrow-prefix-e
+array_borrow_prefix_e c =
     let start = c.before.before.before.before.before.before.before.before.before in
     search (rules, start.requires.0.degree)
 
@@ -69,8 +69,8 @@ slice-aggregate-solve-in c =
     let start = c.before.before.before.before.before.before.before.before.before.before in
     simp length-take (omega (arith, start.requires.0.degree))
 
-array-borrow-prefix-acc : tie.Need-array-borrow-prefix-acc
-array-borrow-prefix-acc c =
+array_borrow_prefix_acc : tie.Need-array-borrow-prefix-acc
+array_borrow_prefix_acc c =
     let start = c.before.before.before.before.before.before.before.before.before.before in
     search (rules, start.requires.0.degree)
 
@@ -79,8 +79,8 @@ slice-aggregate-solve-in-2 c =
     let start = c.before.before.before.before.before.before.before.before.before.before.before in
     simp length-take (omega (arith, start.requires.0.degree))
 
-array-borrow-prefix-s : tie.Need-array-borrow-prefix-s
-array-borrow-prefix-s c =
+array_borrow_prefix_s : tie.Need-array-borrow-prefix-s
+array_borrow_prefix_s c =
     let start = c.before.before.before.before.before.before.before.before.before.before.before in
     search (rules, start.requires.0.degree)
 
@@ -89,8 +89,8 @@ slice-aggregate-solve-in-3 c =
     let start = c.before.before.before.before.before.before.before.before.before.before.before.before in
     simp length-take (omega (arith, start.requires.0.degree))
 
-array-borrow-prefix-h : tie.Need-array-borrow-prefix-h
-array-borrow-prefix-h c =
+array_borrow_prefix_h : tie.Need-array-borrow-prefix-h
+array_borrow_prefix_h c =
     let start = c.before.before.before.before.before.before.before.before.before.before.before.before in
     search (rules, start.requires.0.degree)
 
@@ -152,8 +152,8 @@ returns c =
     at-solve-in.solve-in.ensures
 
 pub solve28-spec : {M : Type 1} → statement M
-solve28-spec = tie.close (tie.spec cast-n add-i mul-i add-i-2 add-k add-c add-j sums28-requires sums28-requires-2 blank28-requires blank28-requires-2
-    blank28-requires-3 blank28-requires-4 blank28-requires-5 array-borrow-prefix-e slice-aggregate-solve-in array-borrow-prefix-acc
-    slice-aggregate-solve-in-2 array-borrow-prefix-s slice-aggregate-solve-in-3 array-borrow-prefix-h slice-aggregate-solve-in-4 array-borrow-prefix-table
+solve28-spec = tie.close (tie.spec cast_n add_i mul_i add_i_2 add-k add_c add_j sums28-requires sums28-requires-2 blank28-requires blank28-requires-2
+    blank28-requires-3 blank28-requires-4 blank28-requires-5 array_borrow_prefix_e slice-aggregate-solve-in array_borrow_prefix_acc
+    slice-aggregate-solve-in-2 array_borrow_prefix_s slice-aggregate-solve-in-3 array_borrow_prefix_h slice-aggregate-solve-in-4 array-borrow-prefix-table
     slice-aggregate-solve-in-5 array-borrow-prefix-numerator slice-aggregate-solve-in-6 array-borrow-prefix-g slice-aggregate-solve-in-7 solve-in-requires
     same_length returns)

@@ -7,8 +7,8 @@ use Rattle.zmod.specs.Zmod.{Zmod}
 use Rattle.zmod.specs.Residues.{poly}
 use Rattle.isogeny.specs.Rules.{N}
 use Rattle.sheet.specs.Values.{half, question}
-use Rattle.sheet.specs.Ready.{HoldsG, HoldsN, degree-half}
-use Rattle.promises.specs.Numerators.{holds-n, whole-numerator}
+use Rattle.sheet.specs.Ready.{HoldsG, HoldsN, degree_half}
+use Rattle.promises.specs.Numerators.{holds_n, whole_numerator}
 use Rattle.expansion.specs.Begun.{Begun}
 use Rattle.solution.proofs.Certified.{solved}
 use borrow.Author.Rules.{rules}
@@ -20,38 +20,38 @@ use Rattle.solution.proofs.solve_in.Tie as tie
 abbrev start : tie.After-candidate → tie.Start
 start c = c.before.before.before.before.before.before.before.before.before.before.before.before.before.before
 
-abbrev with-g : tie.After-numerator → tie.After-candidate
-with-g c = c.before.before.before.before.before.before.before.before.before.before.before.before.before.before
+abbrev with_g : tie.After-numerator → tie.After-candidate
+with_g c = c.before.before.before.before.before.before.before.before.before.before.before.before.before.before
 
 -- ── what is known of g and N
 
-g-words : (c : tie.After-candidate) → HoldsG (start c).args.v c.candidate.new.1.1.1.1.1.0
-g-words c = record { count = omega (arith, c.candidate.auto, (start c).requires.1.1.1); reduced = c.candidate.ensures.reduced }
+g_words : (c : tie.After-candidate) → HoldsG (start c).args.v c.candidate.new.1.1.1.1.1.0
+g_words c = record { count = omega (arith, c.candidate.auto, (start c).requires.1.1.1); reduced = c.candidate.ensures.reduced }
 
-n-words : (c : tie.After-numerator) → HoldsN (start (with-g c)).args.v c.numerator.new.1.1.1.0
-n-words c =
-    let at-candidate = with-g c in
+n_words : (c : tie.After-numerator) → HoldsN (start (with_g c)).args.v c.numerator.new.1.1.1.0
+n_words c =
+    let at-candidate = with_g c in
     let s = start at-candidate in
     let v = s.args.v in
-    holds-n v s.pre.0 at-candidate.candidate.last.1.1.1.1.1.0 c.numerator.new.1.1.1.0 (g-words at-candidate)
-    (omega (arith, degree-half v s.pre.0, at-candidate.candidate.kept, c.numerator.auto, s.pre.1.1.1)) c.numerator.ensures
+    holds_n v s.pre.0 at-candidate.candidate.last.1.1.1.1.1.0 c.numerator.new.1.1.1.0 (g_words at-candidate)
+    (omega (arith, degree_half v s.pre.0, at-candidate.candidate.kept, c.numerator.auto, s.pre.1.1.1)) c.numerator.ensures
 
-n-is : (c : tie.After-numerator)
-    → poly (start (with-g c)).args.v.p c.numerator.new.1.1.1.0
-    ≡ N (Zmod (start (with-g c)).args.v.p) (question (start (with-g c)).args.v)
-    (poly (start (with-g c)).args.v.p (with-g c).candidate.new.1.1.1.1.1.0)
-n-is c =
-    let at-candidate = with-g c in
+n_is : (c : tie.After-numerator)
+    → poly (start (with_g c)).args.v.p c.numerator.new.1.1.1.0
+    ≡ N (Zmod (start (with_g c)).args.v.p) (question (start (with_g c)).args.v)
+    (poly (start (with_g c)).args.v.p (with_g c).candidate.new.1.1.1.1.1.0)
+n_is c =
+    let at-candidate = with_g c in
     let s = start at-candidate in
     let v = s.args.v in
-    whole-numerator v s.pre.0 at-candidate.candidate.last.1.1.1.1.1.0 c.numerator.new.1.1.1.0 (g-words at-candidate)
-    (omega (arith, degree-half v s.pre.0, at-candidate.candidate.kept, c.numerator.auto, s.pre.1.1.1)) c.numerator.ensures
+    whole_numerator v s.pre.0 at-candidate.candidate.last.1.1.1.1.1.0 c.numerator.new.1.1.1.0 (g_words at-candidate)
+    (omega (arith, degree_half v s.pre.0, at-candidate.candidate.kept, c.numerator.auto, s.pre.1.1.1)) c.numerator.ensures
 
 candidate-requires : tie.Need-candidate-requires
 candidate-requires c κs =
     let start = c.before.before.before.before.before.before.before.before.before.before.before.before.before in
     let v = start.args.v in
-    let d = degree-half v start.requires.0 in
+    let d = degree_half v start.requires.0 in
     (start.requires.0, (omega (arith, d, start.requires.1), omega (arith, d, start.requires.1)))
 
 modulus-requires : tie.Need-modulus-requires
@@ -66,8 +66,8 @@ numerator-requires c κs =
     let at-candidate = at-modulus.before.before.before.before.before.before.before.before.before.before.before in
     let s = start at-candidate in
     let m = at-modulus.modulus.ensures in (
-      (s.pre.0, g-words at-candidate, record { prepared = m.1; same = m.0 }),
-      omega (arith, degree-half s.args.v s.pre.0, at-candidate.candidate.auto, s.pre.1.1.1),
+      (s.pre.0, g_words at-candidate, record { prepared = m.1; same = m.0 }),
+      omega (arith, degree_half s.args.v s.pre.0, at-candidate.candidate.auto, s.pre.1.1.1),
     )
 
 sub-d : tie.Need-overflow-sub-d
@@ -76,8 +76,8 @@ sub-d c =
     let s = start at-candidate in
     omega (arith, at-candidate.candidate.auto, s.pre.1.1.1)
 
-sub-k : tie.Need-overflow-sub-k
-sub-k c =
+sub_k : tie.Need-overflow-sub-k
+sub_k c =
     let at-candidate = c.before.before.before.before.before.before.before.before.before.before.before.before.before.before.before.before in
     let s = start at-candidate in
     omega (arith, at-candidate.candidate.auto, s.pre.1.1.0, s.pre.0.degree)
@@ -103,9 +103,9 @@ rule-three-from-requires c κs =
     let d : length made.new.1.1.1.1.1.0 - 1 ≡ half v = omega (arith, made.auto, s.pre.1.1.1) in (
       (s.pre.0, record { prepared = m.1; same = m.0 }),
       (
-        (g-words at-candidate, made.ensures.r1),
+        (g_words at-candidate, made.ensures.r1),
         (
-          (n-words at-numerator, n-is at-numerator),
+          (n_words at-numerator, n_is at-numerator),
           (
             (
               omega (arith, made.auto, s.pre.1.0),
@@ -140,8 +140,8 @@ finish-requires c κs =
     let m = at-modulus.modulus.ensures in (
       (s.pre.0, record { prepared = m.1; same = m.0 }),
       (
-        (g-words at-candidate, at-candidate.candidate.ensures.r1),
-        ((n-words at-numerator, n-is at-numerator), (at-rule-three-from.rule-three-from.ensures, s.pre.1.1.1.2)),
+        (g_words at-candidate, at-candidate.candidate.ensures.r1),
+        ((n_words at-numerator, n_is at-numerator), (at-rule-three-from.rule-three-from.ensures, s.pre.1.1.1.2)),
       ),
     )
 
@@ -191,6 +191,6 @@ returns c =
     at-finish.finish.new.1.1.1.1.1.0 made.ensures at-finish.finish.result at-finish.finish.ensures
 
 pub solve-in-spec : {M : Type 1} → statement M
-solve-in-spec = tie.close (tie.spec candidate-requires modulus-requires numerator-requires sub-d sub-k slice-relend-prefix-rule-three-from
+solve-in-spec = tie.close (tie.spec candidate-requires modulus-requires numerator-requires sub-d sub_k slice-relend-prefix-rule-three-from
     slice-aggregate-rule-three-from rule-three-from-requires finish-requires same_length same-length-2 same-length-3 same-length-4 same-length-5
     same-length-6 same-length-7 same-length-8 returns)

@@ -6,14 +6,14 @@ use Rattle.sheet.specs.declared.Form.TheVariants.{Question}
 use Rattle.sheet.specs.Ready.{Ready, ready}
 use Rattle.reading.specs.Reading.{Right}
 use Rattle.solution.specs.Solved.{Solved}
-use Rattle.solving.proofs.Sheets.{solve-short, solve-unread, solve-right}
+use Rattle.solving.proofs.Sheets.{solve_short, solve_unread, solve_right}
 use Rattle.solving.proofs.solve.Statement.{statement}
 use Rattle.solving.proofs.solve.Tie as tie
 
 returns : tie.Need-returns
 returns c =
     let start = c.before.before.before in
-    (solve-short start.args.ws.now start.args.answer.now (omega (arith, c.if1.true)), refl)
+    (solve_short start.args.ws.now start.args.answer.now (omega (arith, c.if1.true)), refl)
 
 read-requires : tie.Need-read-requires
 read-requires c κs = search rules
@@ -38,7 +38,7 @@ returns-2 c =
     let read = c.before.before.before in
     let start = read.before.before.before.before in
     let ws = start.args.ws.now in (
-      solve-unread ws start.args.answer.now (omega (arith, read.before.if1.false)) told.0.0
+      solve_unread ws start.args.answer.now (omega (arith, read.before.if1.false)) told.0.0
           (subst (Right Question ws) told.1 read.read.ensures),
       refl,
     )
@@ -55,11 +55,11 @@ returns-3 c =
     let ws = start.args.ws.now in
     let answer = start.args.answer.now in
     let right = subst (Right Question ws) told.1 read.read.ensures in
-    solve-right ws answer (omega (arith, read.before.if1.false)) right.0 values.solve-values.new.1.0 values.solve-values.result
+    solve_right ws answer (omega (arith, read.before.if1.false)) right.0 values.solve-values.new.1.0 values.solve-values.result
     (subst (λ v. Solved v answer values.solve-values.new.1.0 values.solve-values.result) right.1 values.solve-values.ensures)
 
-pub solve-spec : {M : Type 1} → statement M
-solve-spec =
+pub solve_spec : {M : Type 1} → statement M
+solve_spec =
     tie.close
     (tie.spec
     returns

@@ -3,9 +3,9 @@ use mathlib.Core.Path.{sym}
 use native.Mathlib.Omega.{arith}
 use lib.ListN.{take, length-take}
 use lib.Seq.{length-take-le}
-use Rattle.barrett.specs.Modulus.{prepared-below}
-use Rattle.rows.specs.Product.{behind-reduced}
-use Rattle.substitution.specs.Sums.{product-added}
+use Rattle.barrett.specs.Modulus.{prepared_below}
+use Rattle.rows.specs.Product.{behind_reduced}
+use Rattle.substitution.specs.Sums.{product_added}
 use borrow.Author.Rules.{rules}
 use Rattle.substitution.proofs.add_times.Statement.{statement}
 use Rattle.substitution.proofs.add_times.Tie as tie
@@ -35,11 +35,11 @@ add-product-requires c κs =
     let a = (start at).args in
     let pre = (start at).requires in
     let e = at.put-behind in (
-      (omega (arith, pre.1), omega (arith, pre.1, e.auto), pre.1.2, pre.0.1, omega (arith, prepared-below pre.0.0)),
+      (omega (arith, pre.1), omega (arith, pre.1, e.auto), pre.1.2, pre.0.1, omega (arith, prepared_below pre.0.0)),
       (
         pre.0.4,
         pre.0.3,
-        behind-reduced a.m.p e.new.1.0 (take a.from a.h.now) e.ensures.0 e.ensures.1 pre.0.2,
+        behind_reduced a.m.p e.new.1.0 (take a.from a.h.now) e.ensures.0 e.ensures.1 pre.0.2,
         e.ensures.0,
       ),
     )
@@ -65,7 +65,7 @@ returns c =
     let pre = (start (behind at)).requires in
     let sum = at.add-product in
     let out = done.remainders in
-    product-added a.m.p a.acc.now a.a.now (take a.from a.h.now) e.last.1.0 sum.last.0 out.new.1.0
+    product_added a.m.p a.acc.now a.a.now (take a.from a.h.now) e.last.1.0 sum.last.0 out.new.1.0
     (omega (arith, out.auto, sum.kept, pre.1.3)) e.ensures.1 sum.ensures out.ensures
 
 pub add-times-spec : {M : Type 1} → statement M

@@ -4,10 +4,10 @@ use Prim.Native.Nat.{◌+◌, ◌-◌, ◌≤◌}
 use native.Mathlib.Omega.{arith}
 use lib.ListN.{length, take, drop, length-take, length-drop}
 use lib.Seq.{length-take-le}
-use Rattle.slices.specs.Stored.{part-below}
-use Rattle.zmod.specs.Residues.{reduced-take, residues-part}
-use Rattle.barrett.specs.Modulus.{prepared-positive}
-use Rattle.substitution.specs.Begin.{horner-begins}
+use Rattle.slices.specs.Stored.{part_below}
+use Rattle.zmod.specs.Residues.{reduced_take, residues_part}
+use Rattle.barrett.specs.Modulus.{prepared_positive}
+use Rattle.substitution.specs.Begin.{horner_begins}
 use borrow.Author.Rules.{rules}
 use Rattle.substitution.proofs.begin.Statement.{statement}
 use Rattle.substitution.proofs.begin.Tie as tie
@@ -75,26 +75,26 @@ multiply-add-requires c κs =
     let p = a.m.p in
     let w = length a.n.now in
     let d = length a.g2.now - 1 in
-    let pos = prepared-positive pre.0.0 in
+    let pos = prepared_positive pre.0.0 in
     let h = at.copy.last.1.0 in
-    let size-h : length (take w h) ≡ w = length-take-le w h (omega (arith, pre.1.3, at.copy.kept)) in
+    let size_h : length (take w h) ≡ w = length-take-le w h (omega (arith, pre.1.3, at.copy.kept)) in
     let size-acc : length (take w a.acc.now) ≡ w = length-take-le w a.acc.now pre.1.4 in
     let size-e = length-take-le (w + 3) a.e.now pre.1.5 in
     let size-g = length-take (length a.g2.now - d) (drop d a.g2.now) in (
       (
         pre.0.0,
         pre.0.1,
-        reduced-take (take w h) pos w (reduced-take h pos w (at.copy.ensures p pre.0.2).reduced),
-        part-below a.g2.now d (length a.g2.now - d) p pos pre.0.4,
+        reduced_take (take w h) pos w (reduced_take h pos w (at.copy.ensures p pre.0.2).reduced),
+        part_below a.g2.now d (length a.g2.now - d) p pos pre.0.4,
         pre.0.3,
         pre.0.4 (d - 1),
       ),
       (
-        omega (arith, size-h),
-        omega (arith, size-h, size-g, length-drop d a.g2.now, pre.1.0, pre.1.2),
+        omega (arith, size_h),
+        omega (arith, size_h, size-g, length-drop d a.g2.now, pre.1.0, pre.1.2),
         omega (arith, size-g, length-drop d a.g2.now, pre.1.2),
-        omega (arith, size-h, size-acc),
-        omega (arith, size-h, size-e),
+        omega (arith, size_h, size-acc),
+        omega (arith, size_h, size-e),
       ),
     )
 
@@ -117,8 +117,8 @@ returns c =
     let h = at.copy.last.1.0 in
     let part = done.multiply-add.new.0 in
     let long : w ≤ length h = omega (arith, pre.1.3, at.copy.kept) in
-    residues-part (drop w h) w (omega (arith, done.multiply-add.auto, length-take-le w h long))
-    (horner-begins a.m.p a.n.now a.square.now a.g2.now h part (prepared-positive pre.0.0) pre.1.2 long
+    residues_part (drop w h) w (omega (arith, done.multiply-add.auto, length-take-le w h long))
+    (horner_begins a.m.p a.n.now a.square.now a.g2.now h part (prepared_positive pre.0.0) pre.1.2 long
     (at.copy.ensures a.m.p pre.0.2) done.multiply-add.ensures)
 
 pub begin-spec : {M : Type 1} → statement M

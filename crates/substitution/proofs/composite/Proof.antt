@@ -3,7 +3,7 @@ use Prim.Native.Nat.{◌-◌, ◌*◌, ◌≤◌}
 use native.Mathlib.Omega.{arith}
 use lib.ListN.{length, length-take}
 use borrow.Author.Rules.{rules}
-use Rattle.substitution.specs.Sizes.{long-enough}
+use Rattle.substitution.specs.Sizes.{long_enough}
 use Rattle.substitution.proofs.composite.Statement.{statement}
 use Rattle.substitution.proofs.composite.Tie as tie
 
@@ -16,7 +16,7 @@ fits : (c : tie.Start) → length c.args.n.now ≤ 128
 fits c =
     let a = c.args in
     let pre = c.requires.1 in
-    omega (arith, pre, long-enough (length a.g2.now) (2 * length a.g1.now - 1) pre.1)
+    omega (arith, pre, long_enough (length a.g2.now) (2 * length a.g1.now - 1) pre.1)
 
 sub-l : tie.Need-overflow-sub-l
 sub-l c = search rules

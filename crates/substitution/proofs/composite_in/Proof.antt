@@ -6,9 +6,9 @@ use native.Mathlib.Omega.{arith}
 use lib.ListN.{length, take, drop}
 use lib.Seq.{length-take-le, length_front, take_at}
 use Rattle.zmod.specs.Residues.{Reduced}
-use Rattle.barrett.specs.Modulus.{prepared-below}
+use Rattle.barrett.specs.Modulus.{prepared_below}
 use Rattle.rows.specs.Room.{turns_fit}
-use Rattle.substitution.specs.Sizes.{long-enough, out-size}
+use Rattle.substitution.specs.Sizes.{long_enough, out_size}
 use Rattle.substitution.specs.Composite.{composed}
 use borrow.Author.Rules.{rules}
 use Rattle.substitution.proofs.composite_in.Statement.{statement}
@@ -30,8 +30,8 @@ sizes : (c : tie.Start) → let a = c.args in let l = length a.square.now in
 sizes c =
     let a = c.args in
     let pre = c.requires.1 in (
-      out-size (length a.g1.now) (length a.g2.now) (length a.square.now) (length a.out.now) pre.1.0 pre.0.3,
-      long-enough (length a.g2.now) (length a.square.now) pre.0.1,
+      out_size (length a.g1.now) (length a.g2.now) (length a.square.now) (length a.out.now) pre.1.0 pre.0.3,
+      long_enough (length a.g2.now) (length a.square.now) pre.0.1,
     )
 
 -- how many words are put in it first
@@ -86,7 +86,7 @@ square-requires c κs =
       (
         pre.0.0,
         pre.0.3,
-        turns_fit (length a.g1.now) l a.m.p (omega (arith, prepared-below pre.0.0)) (omega (arith, size, pre.1.0.4)),
+        turns_fit (length a.g1.now) l a.m.p (omega (arith, prepared_below pre.0.0)) (omega (arith, size, pre.1.0.4)),
       ),
       (
         length-take-le l a.acc.now (omega (arith, size, pre.1.1.3)),
@@ -95,8 +95,8 @@ square-requires c κs =
       ),
     )
 
-sub-k : tie.Need-overflow-sub-k
-sub-k c = search rules
+sub_k : tie.Need-overflow-sub-k
+sub_k c = search rules
 
 mul-k : tie.Need-overflow-mul-k
 mul-k c =
@@ -233,6 +233,6 @@ returns c =
     after.horner.ensures done.multiply.ensures
 
 pub composite-in-spec : {M : Type 1} → statement M
-composite-in-spec = tie.close (tie.spec slice-relend-prefix-square slice-aggregate-square square-requires sub-k mul-k add-k slice-relend-prefix-horner
+composite-in-spec = tie.close (tie.spec slice-relend-prefix-square slice-aggregate-square square-requires sub_k mul-k add-k slice-relend-prefix-horner
     slice-aggregate-horner horner-requires add_r slice-relend-prefix-multiply slice-aggregate-multiply slice-relend-prefix-multiply-2
     slice-aggregate-multiply-2 multiply-requires same_length same-length-2 same-length-3 same-length-4 same-length-5 returns)

@@ -4,12 +4,12 @@ use Prim.Native.Nat.{◌+◌, ◌-◌, ◌≤◌, ◌<◌}
 use native.Mathlib.Omega.{arith}
 use lib.ListN.{length, get_or, take}
 use Rattle.zmod.specs.Zmod.{Zmod, mk}
-use Rattle.zmod.specs.Residues.{poly, poly-at, poly-past, poly-below, Residues}
-use Rattle.barrett.specs.Modulus.{prepared-positive}
+use Rattle.zmod.specs.Residues.{poly, poly_at, poly_past, poly_below, Residues}
+use Rattle.barrett.specs.Modulus.{prepared_positive}
 use Rattle.composition.specs.Substitution.{homogenize}
 use Rattle.substitution.specs.Horner.{dropped}
-use Rattle.substitution.specs.Sizes.{long-enough}
-use Rattle.substitution.specs.State.{Horner, step_fits, horner-start, horner-turn, horner-all}
+use Rattle.substitution.specs.Sizes.{long_enough}
+use Rattle.substitution.specs.State.{Horner, step_fits, horner_start, horner_turn, horner_all}
 use borrow.Author.Rules.{rules}
 use Rattle.substitution.proofs.horner.Statement.{statement}
 use Rattle.substitution.proofs.horner.Tie as tie
@@ -64,7 +64,7 @@ begin-requires : tie.Need-begin-requires invariant-loop decreases-loop
 begin-requires c κs =
     let entry = c.before.before.before.before.before.before.before.before.before.before in
     let pre = entry.requires in
-    let short = long-enough (length entry.args.g2.now) (length entry.args.square.now) pre.1.2 in (
+    let short = long_enough (length entry.args.g2.now) (length entry.args.square.now) pre.1.2 in (
       pre.0,
       (
         omega (arith, pre.1.1),
@@ -98,9 +98,9 @@ loop-holds c =
       refl,
       refl,
       omega (arith, pre.1.2),
-      horner-start p (poly p a.n.now) (poly p a.square.now) (poly p a.g2.now) (length a.square.now) (length a.g2.now - 1)
-          (omega (arith, pre.1.0)) (poly-below p a.n.now _ (omega (arith, size))) (poly-past p a.square.now) (length a.g2.now - 2)
-          begin.last.0 at.copy.new.1.0 (prepared-positive pre.0.0) (omega (arith, pre.1.2))
+      horner_start p (poly p a.n.now) (poly p a.square.now) (poly p a.g2.now) (length a.square.now) (length a.g2.now - 1)
+          (omega (arith, pre.1.0)) (poly_below p a.n.now _ (omega (arith, size))) (poly_past p a.square.now) (length a.g2.now - 2)
+          begin.last.0 at.copy.new.1.0 (prepared_positive pre.0.0) (omega (arith, pre.1.2))
           (subst (λ k. Residues p (homogenize (Zmod p) (poly p a.n.now) (poly p a.square.now) 1
           (dropped (Zmod p) (length a.g2.now - 2) (poly p a.g2.now))) (take k begin.last.0)) size begin.ensures)
           (at.copy.ensures p pre.0.3),
@@ -181,11 +181,11 @@ loop-again c =
       omega (arith, inv.2, step.kept),
       omega (arith, inv.3, step.kept),
       omega (arith, inv.4),
-      horner-turn p (poly p a.n.now) (poly p a.square.now) (poly p a.g2.now) (length a.square.now) (length a.g2.now - 1)
-          (omega (arith, pre.1.0)) (poly-below p a.n.now _ (omega (arith, pre.1.1))) (poly-past p a.square.now) loop.i loop.h loop.den
+      horner_turn p (poly p a.n.now) (poly p a.square.now) (poly p a.g2.now) (length a.square.now) (length a.g2.now - 1)
+          (omega (arith, pre.1.0)) (poly_below p a.n.now _ (omega (arith, pre.1.1))) (poly_past p a.square.now) loop.i loop.h loop.den
           step.last.0 step.last.1.1.0 loop.hl loop.dl (mk p (get_or a.g2.now (loop.i - 1) 0)) (omega (arith, at.loop-test))
           (omega (arith, inv.4)) (omega (arith, room.0, size.0)) (omega (arith, room, size.1, pre.1.5))
-          (sym (poly-at p a.g2.now (loop.i - 1))) inv.5 step.ensures.0 step.ensures.1,
+          (sym (poly_at p a.g2.now (loop.i - 1))) inv.5 step.ensures.0 step.ensures.1,
     )
 
 same_length : tie.Need-same-length invariant-loop decreases-loop
@@ -207,8 +207,8 @@ returns c =
     let a = (start (copied at)).args in
     let pre = (start (copied at)).pre in
     let p = a.m.p in
-    horner-all p (poly p a.n.now) (poly p a.square.now) (poly p a.g2.now) (length a.square.now) (length a.g2.now - 1)
-    (omega (arith, pre.1.0)) (poly-below p a.n.now _ (omega (arith, pre.1.1))) (poly-past p a.square.now) loop.h loop.den loop.hl
+    horner_all p (poly p a.n.now) (poly p a.square.now) (poly p a.g2.now) (length a.square.now) (length a.g2.now - 1)
+    (omega (arith, pre.1.0)) (poly_below p a.n.now _ (omega (arith, pre.1.1))) (poly_past p a.square.now) loop.h loop.den loop.hl
     loop.dl (omega (arith, (sizes at).0, pre.1.3))
     (subst (λ k. Horner p (poly p a.n.now) (poly p a.square.now) (poly p a.g2.now) (length a.square.now) (length a.g2.now - 1) k loop.h
     loop.hl loop.den loop.dl) (omega (arith, c.loop-test)) loop.invariant.5)

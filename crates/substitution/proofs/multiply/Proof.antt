@@ -4,7 +4,7 @@ use lib.ListN.{length, take}
 use Rattle.series.specs.Series.{conv}
 use Rattle.zmod.specs.Zmod.{Zmod}
 use Rattle.zmod.specs.Residues.{poly}
-use Rattle.substitution.specs.Sums.{zeros-low, zeros-add}
+use Rattle.substitution.specs.Sums.{zeros_low, zeros_add}
 use borrow.Author.Rules.{rules}
 use Rattle.substitution.proofs.multiply.Statement.{statement}
 use Rattle.substitution.proofs.multiply.Tie as tie
@@ -24,7 +24,7 @@ add-times-requires c κs =
     let at = c.before.before.before.before.before in
     let a = (start at).args in
     let pre = (start at).requires in (
-      (pre.0.0, pre.0.1, pre.0.2, pre.0.3, zeros-low a.m.p (length a.acc.now) at.clear.new.0 at.clear.ensures),
+      (pre.0.0, pre.0.1, pre.0.2, pre.0.3, zeros_low a.m.p (length a.acc.now) at.clear.new.0 at.clear.ensures),
       (pre.1.0, pre.1.1, pre.1.2, omega (arith, pre.1.3, at.clear.auto), pre.1.4),
     )
 
@@ -43,7 +43,7 @@ returns c =
     let clear = (cleared done).clear in
     let a = (start (cleared done)).args in
     let p = a.m.p in
-    zeros-add p (length a.acc.now) clear.last.0 clear.ensures (conv (Zmod p) (poly p a.a.now) (poly p (take a.from a.h.now)))
+    zeros_add p (length a.acc.now) clear.last.0 clear.ensures (conv (Zmod p) (poly p a.a.now) (poly p (take a.from a.h.now)))
     done.add_times.new.0 done.add_times.ensures
 
 pub multiply-spec : {M : Type 1} → statement M

@@ -4,7 +4,7 @@ use lib.ListN.{take}
 use Rattle.series.specs.Series.{conv}
 use Rattle.zmod.specs.Zmod.{Zmod}
 use Rattle.zmod.specs.Residues.{poly}
-use Rattle.substitution.specs.Sums.{multiple-low, multiple-add}
+use Rattle.substitution.specs.Sums.{multiple_low, multiple_add}
 use borrow.Author.Rules.{rules}
 use Rattle.substitution.proofs.multiply_add.Statement.{statement}
 use Rattle.substitution.proofs.multiply_add.Tie as tie
@@ -29,7 +29,7 @@ add-times-requires c κs =
         pre.0.1,
         pre.0.2,
         pre.0.3,
-        multiple-low a.m.p a.c a.b.now at.scale.new.1.1.0 at.scale.ensures pre.0.5 pre.0.4,
+        multiple_low a.m.p a.c a.b.now at.scale.new.1.1.0 at.scale.ensures pre.0.5 pre.0.4,
       ),
       (pre.1.0, pre.1.1, pre.1.2, omega (arith, pre.1.3, at.scale.auto), pre.1.4),
     )
@@ -50,7 +50,7 @@ returns c =
     let a = (start (scaled done)).args in
     let pre = (start (scaled done)).requires in
     let p = a.m.p in
-    multiple-add p a.c a.b.now scale.last.1.1.0 scale.ensures (conv (Zmod p) (poly p a.a.now) (poly p (take a.from a.h.now)))
+    multiple_add p a.c a.b.now scale.last.1.1.0 scale.ensures (conv (Zmod p) (poly p a.a.now) (poly p (take a.from a.h.now)))
     done.add_times.new.0 (omega (arith, pre.1.3, scale.kept, done.add_times.auto)) done.add_times.ensures
 
 pub multiply-add-spec : {M : Type 1} → statement M

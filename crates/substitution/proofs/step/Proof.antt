@@ -7,7 +7,7 @@ use lib.ListN.{length, take, drop}
 use lib.Seq.{length-take-le, length_front, take-take}
 use Rattle.zmod.specs.Zmod.{mk}
 use Rattle.zmod.specs.Residues.{Reduced}
-use Rattle.substitution.specs.Step.{next-denominator, next-numerator}
+use Rattle.substitution.specs.Step.{next_denominator, next_numerator}
 use borrow.Author.Rules.{rules}
 use Rattle.substitution.proofs.step.Statement.{statement}
 use Rattle.substitution.proofs.step.Tie as tie
@@ -52,16 +52,16 @@ multiply-requires c κs =
     let pre = (start c).requires in
     let p = a.m.p in
     let d = a.dl + (length a.square.now - 1) in
-    let size-den = length-take-le d a.den.now pre.1.8 in
+    let size_den = length-take-le d a.den.now pre.1.8 in
     let size-acc : length (take d a.acc.now) ≡ d = length-take-le d a.acc.now (omega (arith, pre.1)) in
     let size-e : length (take (d + 3) a.e.now) ≡ d + 3 = length-take-le (d + 3) a.e.now (omega (arith, pre.1)) in (
       (pre.0.0, pre.0.1, subst (Reduced p) (sym (take-take a.dl d a.den.now (omega arith))) pre.0.3, pre.0.5),
       (
-        omega (arith, size-den),
-        omega (arith, size-den, pre.1.3),
+        omega (arith, size_den),
+        omega (arith, size_den, pre.1.3),
         omega (arith, pre.1.1, pre.1.2),
-        omega (arith, size-den, size-acc),
-        omega (arith, size-den, size-e),
+        omega (arith, size_den, size-acc),
+        omega (arith, size_den, size-e),
       ),
     )
 
@@ -110,10 +110,10 @@ multiply-add-requires c κs =
     let long : length part ≡ d = omega (arith, product.kept, length-take-le d a.den.now pre.1.8) in
     let same-acc : length acc ≡ length a.acc.now = length_front a.acc.now product.last.1.1.1.1.0 d (omega (arith, product.kept)) in
     let same-e : length e ≡ length a.e.now = length_front a.e.now product.last.1.1.1.0 (d + 3) (omega (arith, product.kept)) in
-    let size-h = length-take-le k a.h.now pre.1.5 in
+    let size_h = length-take-le k a.h.now pre.1.5 in
     let size-acc : length (take k acc) ≡ k = length-take-le k acc (omega (arith, same-acc, pre.1.6)) in
     let size-e : length (take (k + 3) e) ≡ k + 3 = length-take-le (k + 3) e (omega (arith, same-e, pre.1.7)) in
-    let denominator = next-denominator p a.den.now a.square.now part a.dl d pre.1.3 pre.1.0 refl long product.ensures in (
+    let denominator = next_denominator p a.den.now a.square.now part a.dl d pre.1.3 pre.1.0 refl long product.ensures in (
       (
         pre.0.0,
         pre.0.1,
@@ -123,11 +123,11 @@ multiply-add-requires c κs =
         pre.0.6,
       ),
       (
-        omega (arith, size-h),
-        omega (arith, size-h, pre.1.1, pre.1.3, pre.1.4),
+        omega (arith, size_h),
+        omega (arith, size_h, pre.1.1, pre.1.3, pre.1.4),
         pre.1.2,
-        omega (arith, size-h, size-acc),
-        omega (arith, size-h, size-e),
+        omega (arith, size_h, size-acc),
+        omega (arith, size_h, size-e),
       ),
     )
 
@@ -156,8 +156,8 @@ returns c =
     let part = product.last.0 in
     let sum = done.multiply-add in
     let long : length part ≡ d = omega (arith, product.kept, length-take-le d a.den.now pre.1.8) in (
-      next-denominator p a.den.now a.square.now part a.dl d pre.1.3 pre.1.0 refl long product.ensures,
-      next-numerator p a.den.now a.square.now part a.dl d pre.1.3 pre.1.0 refl long product.ensures a.n.now a.h.now
+      next_denominator p a.den.now a.square.now part a.dl d pre.1.3 pre.1.0 refl long product.ensures,
+      next_numerator p a.den.now a.square.now part a.dl d pre.1.3 pre.1.0 refl long product.ensures a.n.now a.h.now
           sum.new.0 (drop k a.h.now) a.hl k (mk p a.c) (omega arith) (omega (arith, sum.auto, length-take-le k a.h.now pre.1.5))
           sum.ensures,
     )

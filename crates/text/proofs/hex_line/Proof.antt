@@ -1,6 +1,6 @@
 -- `text::hex_line` meets its contract. Assumes nothing.
 use borrow.Author.Rules.{rules}
-use Rattle.text.specs.Text.{hexLine}
+use Rattle.text.specs.Text.{hex_line}
 use Rattle.text.specs.Fills.{fills_one}
 use Rattle.text.proofs.hex_line.Statement.{statement}
 use Rattle.text.proofs.hex_line.Tie as tie
@@ -18,7 +18,7 @@ same_length : tie.Need-same-length
 same_length c = search rules
 
 returns : tie.Need-returns
-unfolding hexLine
+unfolding hex_line
 returns c = fills_one c.before.before.put-digits.ensures 10 (search rules)
 
 pub hex-line-spec : {M : Type 1} → statement M

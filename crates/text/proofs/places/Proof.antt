@@ -5,7 +5,7 @@ use Prim.Native.Nat.{◌+◌, ◌≤◌}
 use native.Mathlib.Omega.{arith}
 use lib.ListN.{length}
 use Rattle.text.specs.Text.{decimal}
-use Rattle.text.specs.Decimal.{decimal-one, length_more}
+use Rattle.text.specs.Decimal.{decimal_one, length_more}
 use Rattle.text.proofs.places.Statement.{statement}
 use Rattle.text.proofs.places.Tie as tie
 
@@ -28,7 +28,7 @@ loop-again : tie.Need-loop-preserved invariant-loop decreases-loop
 loop-again c = omega (arith, length_more c.before.loop.rest (omega arith))
 
 returns : tie.Need-returns invariant-loop decreases-loop
-returns c = omega (arith, ap length (decimal-one c.before.loop.rest (omega arith)))
+returns c = omega (arith, ap length (decimal_one c.before.loop.rest (omega arith)))
 
 pub places-spec : {M : Type 1} → statement M
 places-spec = tie.close (tie.spec invariant-loop decreases-loop loop-holds add-k loop-less loop-again returns)

@@ -18,7 +18,7 @@ abbrev decreases-loop : tie.decreases-loop
 decreases-loop bytes out₀ i₀ i-end out i = i-end - i
 
 loop-holds : tie.Need-loop-init invariant-loop decreases-loop
-loop-holds c = (search rules, search rules, record { count-is = refl; bytes = refl })
+loop-holds c = (search rules, search rules, record { count_is = refl; bytes = refl })
 
 shared-slice-read-out : tie.Need-shared-slice-read-out invariant-loop decreases-loop
 shared-slice-read-out c = search rules
@@ -26,8 +26,8 @@ shared-slice-read-out c = search rules
 slice-write-out : tie.Need-slice-write-out invariant-loop decreases-loop
 slice-write-out c = search rules
 
-add-i : tie.Need-overflow-add-i invariant-loop decreases-loop
-add-i c = search rules
+add_i : tie.Need-overflow-add-i invariant-loop decreases-loop
+add_i c = search rules
 
 loop-less : tie.Need-loop-smaller invariant-loop decreases-loop
 loop-less c = search rules
@@ -63,7 +63,7 @@ put-bytes-spec =
     loop-holds
     shared-slice-read-out
     slice-write-out
-    add-i
+    add_i
     loop-less
     loop-again
     same_length

@@ -8,7 +8,7 @@ use native.Mathlib.Nat.{mod-lt}
 use native.Mathlib.Omega.{arith}
 use lib.ListN.{length, drop, set, length-set}
 use Rattle.text.specs.Text.{digits}
-use Rattle.text.specs.Decimal.{length_digits, digits-set}
+use Rattle.text.specs.Decimal.{length_digits, digits_set}
 use Rattle.text.proofs.put_digits.Statement.{statement}
 use Rattle.text.proofs.put_digits.Tie as tie
 
@@ -49,7 +49,7 @@ loop-again c =
       omega arith,
       simp length-set loop.invariant.1,
       ap (λ v. digits at.base j (loop.rest / at.base) ++ drop j (set loop.out j v)) c.code_of_lem.ensures
-          ∙ digits-set at.base j loop.rest loop.out (omega arith)
+          ∙ digits_set at.base j loop.rest loop.out (omega arith)
           ∙ ap (λ i. digits at.base i loop.rest ++ drop i loop.out) back
           ∙ loop.invariant.2,
     )
@@ -64,7 +64,7 @@ returns c =
     let loop = c.before.loop in
     let none : 0 ≡ loop.i = omega arith in
     record {
-      count-is = sym (length_digits at.base at.k at.n);
+      count_is = sym (length_digits at.base at.k at.n);
       bytes = ap (λ i. digits at.base i loop.rest ++ drop i loop.out) none ∙ loop.invariant.2;
     }
 

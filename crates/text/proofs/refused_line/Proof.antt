@@ -5,9 +5,9 @@ use mathlib.Core.List.{List, [], ◌∷◌, ◌++◌}
 use Prim.Native.Nat.{ℕ, ◌+◌, ◌-◌, ◌^◌, ◌≤◌, ◌<◌}
 use native.Mathlib.Omega.{arith}
 use lib.ListN.{length, take, drop, length-take, length-drop, length-set}
-use Rattle.text.specs.Text.{decimal, refusedWord, refusedLine}
-use Rattle.text.specs.Fills.{Fills, fills-length, fills-as, fills_one, fills-part}
-use Rattle.text.specs.Decimal.{decimal-short}
+use Rattle.text.specs.Text.{decimal, refused_word, refused_line}
+use Rattle.text.specs.Fills.{Fills, fills_length, fills_as, fills_one, fills_part}
+use Rattle.text.specs.Decimal.{decimal_short}
 use Rattle.text.proofs.refused_line.Statement.{statement}
 use Rattle.text.proofs.refused_line.Tie as tie
 
@@ -31,13 +31,13 @@ part-put-decimal-end c = search rules
 
 -- a number of 32 bits has ten decimal digits at most
 ten : (n : ℕ) → n < 2 ^ 32 → length (decimal n) ≤ 10
-ten n h = decimal-short n 9 (omega arith)
+ten n h = decimal_short n 9 (omega arith)
 
 put-decimal-requires : tie.Need-put-decimal-requires
 put-decimal-requires c κs = simp (length-take, length-drop) (omega (arith, ten c.before.wide.result (omega arith)))
 
 add-end : tie.Need-overflow-add-end
-add-end c = omega (arith, ten c.before.before.before.before.wide.result (omega arith), c.before.before.put-decimal.ensures.count-is)
+add-end c = omega (arith, ten c.before.before.before.before.wide.result (omega arith), c.before.before.put-decimal.ensures.count_is)
 
 module _ (c : tie.After-slice-known3) where
   abbrev out : List ℕ
@@ -50,28 +50,28 @@ module _ (c : tie.After-slice-known3) where
   number = c.before.before.before.before.wide.result
 
   -- the word, the space and the digits
-  begun : Fills (refusedWord ++ decimal number) out
+  begun : Fills (refused_word ++ decimal number) out
       (take 8 word ++ (c.before.before.put-decimal.new.1.0 ++ drop (length word - 8) (drop 8 word))) (8 + c.before.before.put-decimal.result)
   begun =
-      fills-part c.before.before.before.before.before.before.before.put-bytes.ensures (length word - 8) (omega arith)
+      fills_part c.before.before.before.before.before.before.before.put-bytes.ensures (length word - 8) (omega arith)
       c.before.before.put-decimal.ensures
 
   room : 8 + c.before.before.put-decimal.result < length out
-  room = omega (arith, ten number (omega arith), c.before.before.put-decimal.ensures.count-is)
+  room = omega (arith, ten number (omega arith), c.before.before.put-decimal.ensures.count_is)
 
 slice-write-out : tie.Need-slice-write-out
-slice-write-out c = omega (arith, fills-length (begun c) (omega (arith, room c)), room c)
+slice-write-out c = omega (arith, fills_length (begun c) (omega (arith, room c)), room c)
 
 add-result : tie.Need-overflow-add-result
 add-result c = omega (arith, room c)
 
 same_length : tie.Need-same-length
-same_length c = simp length-set (fills-length (begun c) (omega (arith, room c)))
+same_length c = simp length-set (fills_length (begun c) (omega (arith, room c)))
 
 returns : tie.Need-returns
-unfolding refusedLine
+unfolding refused_line
 returns c =
-    fills-as (fills_one (begun c) 10 (room c)) (ap (λ n. (refusedWord ++ decimal n) ++ 10 ∷ []) c.before.before.before.before.wide.ensures) refl
+    fills_as (fills_one (begun c) 10 (room c)) (ap (λ n. (refused_word ++ decimal n) ++ 10 ∷ []) c.before.before.before.before.wide.ensures) refl
 
 pub refused-line-spec : {M : Type 1} → statement M
 refused-line-spec =

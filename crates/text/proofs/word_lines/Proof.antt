@@ -6,21 +6,21 @@ use Prim.Native.Nat.{ℕ, ◌+◌, ◌*◌, ◌-◌, ◌≤◌}
 use native.Mathlib.Omega.{arith}
 use lib.ListN.{length, take, length-take, length-drop}
 use lib.Seq.{take_all}
-use Rattle.text.specs.Text.{hexLine, hexLines}
-use Rattle.text.specs.Fills.{Fills, fills-length, fills-as, fills-part}
-use Rattle.text.specs.Lines.{length-hex-line, hex-lines-more}
+use Rattle.text.specs.Text.{hex_line, hex_lines}
+use Rattle.text.specs.Fills.{Fills, fills_length, fills_as, fills_part}
+use Rattle.text.specs.Lines.{length_hex_line, hex_lines_more}
 use Rattle.text.proofs.word_lines.Statement.{statement}
 use Rattle.text.proofs.word_lines.Tie as tie
 
 abbrev invariant-loop : tie.invariant-loop
-invariant-loop words out₀ i₀ i-end out i = (i ≤ length words) × (length out ≡ length out₀) × Fills (hexLines (take i words)) out₀ out (9 * i)
+invariant-loop words out₀ i₀ i-end out i = (i ≤ length words) × (length out ≡ length out₀) × Fills (hex_lines (take i words)) out₀ out (9 * i)
 
 abbrev decreases-loop : tie.decreases-loop
 decreases-loop words out₀ i₀ i-end out i = i-end - i
 
 loop-holds : tie.Need-loop-init invariant-loop decreases-loop
-unfolding hexLines
-loop-holds c = (search rules, search rules, record { count-is = refl; bytes = refl })
+unfolding hex_lines
+loop-holds c = (search rules, search rules, record { count_is = refl; bytes = refl })
 
 mul_at : tie.Need-overflow-mul-at invariant-loop decreases-loop
 mul_at c = search rules
@@ -46,8 +46,8 @@ part-hex-line-end c = search rules
 hex-line-requires : tie.Need-hex-line-requires invariant-loop decreases-loop
 hex-line-requires c κs = simp (length-take, length-drop) (omega arith)
 
-add-i : tie.Need-overflow-add-i invariant-loop decreases-loop
-add-i c = search rules
+add_i : tie.Need-overflow-add-i invariant-loop decreases-loop
+add_i c = search rules
 
 loop-less : tie.Need-loop-smaller invariant-loop decreases-loop
 loop-less c = search rules
@@ -58,13 +58,13 @@ loop-again c =
     let loop = c.before.before.before.before.before.before.before.loop in
     let i = loop.i in
     let line = c.before.before.hex-line in
-    let nine : line.result ≡ 9 = line.ensures.count-is ∙ length-hex-line 8 c.before.before.before.before.wide.result in
-    let more = fills-part loop.invariant.2 (length loop.out - 9 * i) (omega arith) line.ensures in (
+    let nine : line.result ≡ 9 = line.ensures.count_is ∙ length_hex_line 8 c.before.before.before.before.wide.result in
+    let more = fills_part loop.invariant.2 (length loop.out - 9 * i) (omega arith) line.ensures in (
       omega arith,
-      fills-length more (omega arith),
-      fills-as more
-          (ap (λ w. hexLines (take i at.words.now) ++ hexLine 8 w) c.before.before.before.before.wide.ensures
-          ∙ hex-lines-more at.words.now i (omega arith))
+      fills_length more (omega arith),
+      fills_as more
+          (ap (λ w. hex_lines (take i at.words.now) ++ hex_line 8 w) c.before.before.before.before.wide.ensures
+          ∙ hex_lines_more at.words.now i (omega arith))
           (omega arith),
     )
 
@@ -78,7 +78,7 @@ returns : tie.Need-returns invariant-loop decreases-loop
 returns c =
     let words = c.before.before.before.before.args.words.now in
     let all : c.before.loop.i ≡ length words = omega arith in
-    fills-as c.before.loop.invariant.2 (ap hexLines (take_all c.before.loop.i words (omega arith))) (ap (λ n. 9 * n) all)
+    fills_as c.before.loop.invariant.2 (ap hex_lines (take_all c.before.loop.i words (omega arith))) (ap (λ n. 9 * n) all)
 
 pub word-lines-spec : {M : Type 1} → statement M
 word-lines-spec =
@@ -95,7 +95,7 @@ word-lines-spec =
     part-hex-line-start
     part-hex-line-end
     hex-line-requires
-    add-i
+    add_i
     loop-less
     loop-again
     mul-result

@@ -6,11 +6,11 @@ use Prim.Native.Nat.{◌-◌, ◌%◌, ◌≤◌, ◌<◌}
 use native.Mathlib.Nat as N
 use native.Mathlib.Omega.{arith}
 use lib.ListN.{get_or}
-use Rattle.questions.specs.Tests.{says-no, says-yes}
-use Rattle.zmod.specs.Remainder.{product-below}
-use Rattle.trial.specs.Primes.{undivided-prime}
-use Rattle.trial.specs.Runs.{Missed, undivided-missed, missed_more, missed-undivided, missed-prime, found-composite}
-use Rattle.trial.specs.Beside.{pairs-from}
+use Rattle.questions.specs.Tests.{says_no, says_yes}
+use Rattle.zmod.specs.Remainder.{product_below}
+use Rattle.trial.specs.Primes.{undivided_prime}
+use Rattle.trial.specs.Runs.{Missed, undivided_missed, missed_more, missed_undivided, missed_prime, found_composite}
+use Rattle.trial.specs.Beside.{pairs_from}
 use Rattle.trial.proofs.by_blocks.Statement.{statement}
 use Rattle.trial.proofs.by_blocks.Tie as tie
 
@@ -34,7 +34,7 @@ loop-holds : tie.Need-loop-init invariant-loop decreases-loop
 loop-holds c =
     let begin = c.before.before in
     let p = begin.requires in
-    (omega arith, omega arith, omega arith, undivided-missed p.1.primes 171 (omega arith) p.1.first p.0.3)
+    (omega arith, omega arith, omega arith, undivided_missed p.1.primes 171 (omega arith) p.1.first p.0.3)
 
 mul-q : tie.Need-overflow-mul-q invariant-loop decreases-loop
 mul-q c = omega arith
@@ -49,13 +49,13 @@ cast-q : tie.Need-overflow-cast-q invariant-loop decreases-loop
 cast-q c = omega (arith, below c)
 
 mul-if1 : tie.Need-overflow-mul-if1 invariant-loop decreases-loop
-mul-if1 c = record { fits = N.lt_of_lt_of_le (product-below 14 (below c) (below c)) (omega arith) }
+mul-if1 c = record { fits = N.lt_of_lt_of_le (product_below 14 (below c) (below c)) (omega arith) }
 
 returns : tie.Need-returns invariant-loop decreases-loop
 returns c =
     let at = turn c.before in
     let p = (start at).pre in
-    says-yes (missed-prime p.1.primes p.0.0 (omega arith) at.loop.i (omega arith) c.if1.true at.loop.inv.3)
+    says_yes (missed_prime p.1.primes p.0.0 (omega arith) at.loop.i (omega arith) c.if1.true at.loop.inv.3)
 
 add-e : tie.Need-overflow-add-e invariant-loop decreases-loop
 add-e c = omega arith
@@ -63,12 +63,12 @@ add-e c = omega arith
 by-half-products-requires : tie.Need-by-half-products-requires invariant-loop decreases-loop
 by-half-products-requires c κs =
     let at = turn c.before in
-    ((omega arith, omega arith, omega arith, omega arith, omega arith), pairs-from (start at).pre.1.pairs at.loop.i at.loop.inv.0)
+    ((omega arith, omega arith, omega arith, omega arith, omega arith), pairs_from (start at).pre.1.pairs at.loop.i at.loop.inv.0)
 
 returns-2 : tie.Need-returns-2 invariant-loop decreases-loop
 returns-2 c =
     let call = c.before in
-    says-no (found-composite (start (tried call)).pre.1.primes (omega arith) call.by-half-products.ensures c.if2.true)
+    says_no (found_composite (start (tried call)).pre.1.primes (omega arith) call.by-half-products.ensures c.if2.true)
 
 loop-less : tie.Need-loop-smaller invariant-loop decreases-loop
 loop-less c = omega arith
@@ -84,7 +84,7 @@ returns-3 c =
     let at = c.before in
     let p = (start at).requires in
     let n = (start at).args.n in
-    says-yes (undivided-prime 16384 n p.0.0 (omega arith) (omega arith) (missed-undivided p.1.primes (λ j l. at.loop.invariant.3 j (omega arith))))
+    says_yes (undivided_prime 16384 n p.0.0 (omega arith) (omega arith) (missed_undivided p.1.primes (λ j l. at.loop.invariant.3 j (omega arith))))
 
 pub by-blocks-spec : {M : Type 1} → statement M
 by-blocks-spec =

@@ -5,7 +5,7 @@ use native.Mathlib.Omega.{arith}
 use mathlib.Core.Path.{subst}
 use Rattle.trial.specs.Divisors.{Found}
 use Rattle.trial.specs.Divisors.Found.{none}
-use Rattle.trial.specs.Runs.{found-more, found-most, told-most}
+use Rattle.trial.specs.Runs.{found_more, found_most, told_most}
 use Rattle.trial.proofs.by_half_products.Statement.{statement}
 use Rattle.trial.proofs.by_half_products.Tie as tie
 
@@ -48,16 +48,16 @@ divides-by-halves-requires c κs =
     (omega arith, omega arith, (start at).pre.1.pair at.loop.j (omega arith) (omega arith))
 
 add-found : tie.Need-overflow-add-found invariant-loop decreases-loop
-add-found c = omega (arith, found-most (turn c).loop.invariant.2, told-most c.divides-by-halves.ensures)
+add-found c = omega (arith, found_most (turn c).loop.invariant.2, told_most c.divides-by-halves.ensures)
 
-add-j : tie.Need-overflow-add-j invariant-loop decreases-loop
-add-j c = omega arith
+add_j : tie.Need-overflow-add-j invariant-loop decreases-loop
+add_j c = omega arith
 
 loop-less : tie.Need-loop-smaller invariant-loop decreases-loop
 loop-less c = omega arith
 
 loop-again : tie.Need-loop-preserved invariant-loop decreases-loop
-loop-again c = (omega arith, omega arith, found-more (turn c).loop.invariant.2 c.divides-by-halves.ensures)
+loop-again c = (omega arith, omega arith, found_more (turn c).loop.invariant.2 c.divides-by-halves.ensures)
 
 returns : tie.Need-returns invariant-loop decreases-loop
 returns c =
@@ -78,7 +78,7 @@ by-half-products-spec =
     shared-slice-read-divides-by-halves-2
     divides-by-halves-requires
     add-found
-    add-j
+    add_j
     loop-less
     loop-again
     returns)

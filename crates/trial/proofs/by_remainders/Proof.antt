@@ -6,7 +6,7 @@ use lib.ListN.{length}
 use mathlib.Core.Path.{subst}
 use Rattle.trial.specs.Divisors.{Found}
 use Rattle.trial.specs.Divisors.Found.{none}
-use Rattle.trial.specs.Runs.{found-more, found-most, told-most}
+use Rattle.trial.specs.Runs.{found_more, found_most, told_most}
 use Rattle.trial.proofs.by_remainders.Statement.{statement}
 use Rattle.trial.proofs.by_remainders.Tie as tie
 
@@ -41,16 +41,16 @@ divides-requires c κs =
     (omega arith, omega (arith, (start at).pre.2.above at.loop.j (omega arith)))
 
 add-found : tie.Need-overflow-add-found invariant-loop decreases-loop
-add-found c = omega (arith, found-most (turn c).loop.invariant.1, told-most c.divides.ensures)
+add-found c = omega (arith, found_most (turn c).loop.invariant.1, told_most c.divides.ensures)
 
-add-j : tie.Need-overflow-add-j invariant-loop decreases-loop
-add-j c = omega arith
+add_j : tie.Need-overflow-add-j invariant-loop decreases-loop
+add_j c = omega arith
 
 loop-less : tie.Need-loop-smaller invariant-loop decreases-loop
 loop-less c = omega arith
 
 loop-again : tie.Need-loop-preserved invariant-loop decreases-loop
-loop-again c = (omega arith, found-more (turn c).loop.invariant.1 c.divides.ensures)
+loop-again c = (omega arith, found_more (turn c).loop.invariant.1 c.divides.ensures)
 
 returns : tie.Need-returns invariant-loop decreases-loop
 returns c =
@@ -69,7 +69,7 @@ by-remainders-spec =
     shared-slice-read-divides
     divides-requires
     add-found
-    add-j
+    add_j
     loop-less
     loop-again
     returns)

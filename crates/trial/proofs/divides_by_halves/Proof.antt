@@ -7,7 +7,7 @@ use native.Mathlib.Nat as N
 use native.Mathlib.Omega.{arith}
 use borrow.Author.Rules.{rules}
 use Rattle.trial.specs.Table.{Pair}
-use Rattle.trial.proofs.Quotient.{by-halves}
+use Rattle.trial.proofs.Quotient.{by_halves}
 use Rattle.trial.proofs.divides_by_halves.Statement.{statement}
 use Rattle.trial.proofs.divides_by_halves.Tie as tie
 
@@ -60,7 +60,7 @@ module _ (c : tie.After-low-half2) where
   halves =
       let t = with-t (with_rest c) in
       let m = with-m t in
-      by-halves (2 ^ 16) 4 q begin.args.inverse (omega (arith, pair.above)) pair.inverse (omega (arith, pair.below)) (n / 2 ^ 16) (n % 2 ^ 16)
+      by_halves (2 ^ 16) 4 q begin.args.inverse (omega (arith, pair.above)) pair.inverse (omega (arith, pair.below)) (n / 2 ^ 16) (n % 2 ^ 16)
       m.low_half_lem.result t.high_half_lem.result (with_rest c).difference.result (omega (arith, begin.pre.1, pair.above)) (N.mod-lt n (omega arith))
       m.low_half_lem.ensures t.high_half_lem.ensures (with_rest c).difference.ensures
 

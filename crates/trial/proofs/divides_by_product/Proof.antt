@@ -5,13 +5,13 @@ use mathlib.Core.Logic.{inl, inr, ◌↔◌}
 use Prim.Native.Nat.{◌*◌, ◌%◌, ◌^◌, ◌<◌, ◌∣◌}
 use native.Mathlib.Omega.{arith}
 use borrow.Author.Rules.{rules}
-use Rattle.zmod.specs.Remainder.{product-below}
+use Rattle.zmod.specs.Remainder.{product_below}
 use Rattle.trial.proofs.Quotient.{one_product}
 use Rattle.trial.proofs.divides_by_product.Statement.{statement}
 use Rattle.trial.proofs.divides_by_product.Tie as tie
 
 mul-if1 : tie.Need-overflow-mul-if1
-mul-if1 c = record { fits = product-below 32 (search rules) (search rules) }
+mul-if1 c = record { fits = product_below 32 (search rules) (search rules) }
 
 decides : (c : tie.Start) → (c.args.q ∣ c.args.n) ↔ ((c.args.n * c.args.inverse) % 2 ^ 32 < 2 ^ 22)
 decides c =

@@ -4,18 +4,18 @@ use Prim.Native.Nat.{◌*◌, ◌^◌, ◌<◌}
 use native.Mathlib.Nat as N
 use native.Mathlib.Omega.{arith}
 use borrow.Author.Rules.{rules}
-use Rattle.zmod.specs.Remainder.{product-below}
+use Rattle.zmod.specs.Remainder.{product_below}
 use Rattle.trial.proofs.high_half.Statement.{statement}
 use Rattle.trial.proofs.high_half.Tie as tie
 
 mul-result : tie.Need-overflow-mul-result
-mul-result c = record { fits = product-below 16 (search rules) (search rules) }
+mul-result c = record { fits = product_below 16 (search rules) (search rules) }
 
 cast-result : tie.Need-overflow-cast-result
 cast-result c =
     let a = c.args.a in
     let b = c.args.b in
-    let product : a * b < 2 ^ 32 = product-below 16 (search rules) (search rules) in
+    let product : a * b < 2 ^ 32 = product_below 16 (search rules) (search rules) in
     let pos : 0 < 65536 = omega arith in
     record { fits = (N.div-lt_iff_lt-mul pos).1 (omega (arith, product)) }
 

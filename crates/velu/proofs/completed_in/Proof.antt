@@ -19,7 +19,7 @@ power-sums-requires c κs =
 
 expansion-requires : tie.Need-expansion-requires
 expansion-requires c κs =
-    let sums = c.before.before.before.before.before.before.before.before.power-sums in
+    let sums = c.before.before.before.before.before.before.before.before.power_sums_of in
     let start = c.before.before.before.before.before.before.before.before.before.before.before.before.before.before.before.before.before in
     (start.requires.0.0, ((omega arith, omega arith, omega arith, sums.ensures.reduced, omega arith), λ k l. absurd (omega arith)))
 
@@ -70,7 +70,7 @@ same-length-4 c = search rules
 returns : tie.Need-returns
 returns c =
     let expansion = c.before.before.before.before.before.before.before.before.before.expansion in
-    let sums = c.before.before.before.before.before.before.before.before.before.before.before.before.before.before.before.before.before.before.power-sums in
+    let sums = c.before.before.before.before.before.before.before.before.before.before.before.before.before.before.before.before.before.before.power_sums_of in
     let start = c.before.before.before.before.before.before.before.before.before.before.before.before.before.before.before.before.before.before.before.before.before.before.before.before.before.before.before in
     completes start.args.v start.args.g.now sums.last.1.1.1.1.0 expansion.new.1.1.0 start.pre.0.0 start.pre.0.1
     (omega arith) (omega arith) sums.ensures expansion.ensures

@@ -5,7 +5,7 @@ use mathlib.Core.Logic.{inl, inr}
 use native.Mathlib.Omega.{arith}
 use Rattle.questions.specs.Tests.{refuted, shown}
 use Rattle.promises.specs.Asked.{Leading}
-use Rattle.velu.proofs.Codomains.{Facts, facts, is_leading, not-leading}
+use Rattle.velu.proofs.Codomains.{Facts, facts, is_leading, not_leading}
 use Rattle.velu.proofs.finish.Statement.{statement}
 use Rattle.velu.proofs.finish.Tie as tie
 
@@ -39,7 +39,7 @@ shared-slice-read-if1 c = search rules
 returns : tie.Need-returns
 returns c =
     let s = c.before.before.before.before in
-    (inl (refl, not-leading s.args.v s.requires.0.0 s.args.g.now s.requires.0.1 c.if1.true), refl)
+    (inl (refl, not_leading s.args.v s.requires.0.0 s.args.g.now s.requires.0.1 c.if1.true), refl)
 
 completed-requires : tie.Need-completed-requires
 completed-requires c κs = search rules
@@ -56,7 +56,7 @@ certify-requires : tie.Need-certify-requires
 certify-requires c κs =
     let completed = c.before.before.before in
     let f = known completed in
-    (f.ready, ((f.g-words, f.r1), (start completed).requires.1))
+    (f.ready, ((f.g_words, f.r1), (start completed).requires.1))
 
 same_length : tie.Need-same-length
 same_length c = search rules

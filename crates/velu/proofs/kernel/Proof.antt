@@ -3,12 +3,12 @@ use borrow.Author.Rules.{rules}
 use mathlib.Core.Path.{refl, subst}
 use mathlib.Core.Logic.{inl, inr}
 use native.Mathlib.Omega.{arith}
-use Rattle.questions.specs.Joined.{no-before}
+use Rattle.questions.specs.Joined.{no_before}
 use Rattle.sheet.specs.declared.Form.TheVariants.{Kernel}
-use Rattle.sheet.specs.Values.{valuesOf, gOf}
+use Rattle.sheet.specs.Values.{values_of, gOf}
 use Rattle.sheet.specs.Asked.{asked}
 use Rattle.reading.specs.Reading.{Right}
-use Rattle.promises.specs.Asked.{last-ask}
+use Rattle.promises.specs.Asked.{last_ask}
 use Rattle.velu.proofs.kernel.Statement.{statement}
 use Rattle.velu.proofs.kernel.Tie as tie
 
@@ -38,7 +38,7 @@ returns-2 c =
     let start = read.before.before.before.before in
     let ws = start.args.ws.now in
     let unread = subst (Right Kernel ws) told.1 read.read.ensures in
-    (inr (omega (arith, read.before.if1.false), no-before (asked Kernel ws) (last-ask (valuesOf Kernel ws) (gOf Kernel ws)) told.0.0 unread), refl)
+    (inr (omega (arith, read.before.if1.false), no_before (asked Kernel ws) (last_ask (values_of Kernel ws) (gOf Kernel ws)) told.0.0 unread), refl)
 
 same_length : tie.Need-same-length
 same_length c = search rules
@@ -46,8 +46,8 @@ same_length c = search rules
 returns-3 : tie.Need-returns-3
 returns-3 c = search rules
 
-pub kernel-spec : {M : Type 1} → statement M
-kernel-spec =
+pub kernel_spec : {M : Type 1} → statement M
+kernel_spec =
     tie.close
     (tie.spec
     returns

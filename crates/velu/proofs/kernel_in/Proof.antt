@@ -4,7 +4,7 @@ use mathlib.Core.List.{List}
 use Prim.Native.Nat.{ℕ}
 use native.Mathlib.Omega.{arith}
 use lib.ListN.{length}
-use Rattle.velu.proofs.Sheets.{ready, long, g-words, kernel-right}
+use Rattle.velu.proofs.Sheets.{ready, long, g_words, kernel_right}
 use Rattle.velu.proofs.kernel_in.Statement.{statement}
 use Rattle.velu.proofs.kernel_in.Tie as tie
 
@@ -33,7 +33,7 @@ finish-requires c κs =
     let a = s.args in (
       (
         ready a.ws.now s.pre.0.0 a.v s.pre.0.1,
-        g-words a.ws.now s.pre.0.0 a.v s.pre.0.1 (g-read read) (length a.g.now) s.pre.1.0
+        g_words a.ws.now s.pre.0.0 a.v s.pre.0.1 (g-read read) (length a.g.now) s.pre.1.0
             read.g-coefficients.ensures,
       ),
       s.pre.1.1,
@@ -51,7 +51,7 @@ returns c =
     let read = finish.before.before.before.before.before in
     let s = start read in
     let a = s.args in
-    kernel-right a.ws.now s.pre.0.0 a.v s.pre.0.1 (g-read read) (length a.g.now) s.pre.1.0
+    kernel_right a.ws.now s.pre.0.0 a.v s.pre.0.1 (g-read read) (length a.g.now) s.pre.1.0
     read.g-coefficients.ensures a.answer.now finish.finish.new.1.1.0 s.pre.1.1 finish.finish.result finish.finish.ensures
 
 pub kernel-in-spec : {M : Type 1} → statement M

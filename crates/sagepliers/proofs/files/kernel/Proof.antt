@@ -3,9 +3,9 @@ use borrow.Author.Rules.{rules}
 use native.Mathlib.Omega.{arith}
 use mathlib.Core.Logic.{inl, inr}
 use mathlib.Core.Path.{refl}
-use Rattle.sagepliers.proofs.Loading.{at-kept}
-use Rattle.sagepliers.proofs.Long.{kernel-long}
-use Rattle.sagepliers.proofs.Bytes.{kernel-bytes}
+use Rattle.sagepliers.proofs.Loading.{at_kept}
+use Rattle.sagepliers.proofs.Long.{kernel_long}
+use Rattle.sagepliers.proofs.Bytes.{kernel_bytes}
 use Rattle.promises.specs.Answer.{KernelRight}
 use Rattle.sagepliers.proofs.files.kernel.Statement.{statement}
 use Rattle.sagepliers.proofs.files.kernel.Tie as tie
@@ -19,17 +19,17 @@ returns-2 c = (inr (omega (arith, c.before.if1.false), inl (refl, λ even. omega
 blank-requires : tie.Need-blank-requires
 blank-requires c κs = search rules
 
-slice-aggregate-keep : tie.Need-slice-aggregate-keep
-slice-aggregate-keep c = search rules
+slice_aggregate_keep : tie.Need-slice-aggregate-keep
+slice_aggregate_keep c = search rules
 
 keep-requires : tie.Need-keep-requires
 keep-requires c κs = search rules
 
-array-share-prefix-words : tie.Need-array-share-prefix-words
-array-share-prefix-words c = search rules
+array_share_prefix_words : tie.Need-array-share-prefix-words
+array_share_prefix_words c = search rules
 
-slice-aggregate-kernel : tie.Need-slice-aggregate-kernel
-slice-aggregate-kernel c = c.before.before.keep.ensures.counted
+slice_aggregate_kernel : tie.Need-slice-aggregate-kernel
+slice_aggregate_kernel c = c.before.before.keep.ensures.counted
 
 kernel-requires : tie.Need-kernel-requires
 kernel-requires c κs = search rules
@@ -41,24 +41,24 @@ returns-3 : tie.Need-returns-3
 returns-3 c =
     let kept = c.before.before.before.before.before.before in
     let start = kept.before.before.before.before.before.before.before in
-    kernel-bytes start.args.bytes.now start.args.answer.now c.before.before.kernel.new.1.0 c.before.before.kernel.result
+    kernel_bytes start.args.bytes.now start.args.answer.now c.before.before.kernel.new.1.0 c.before.before.kernel.result
     (omega (arith, kept.before.before.before.if2.false))
-    (kernel-long _ start.args.answer.now c.before.before.kernel.new.1.0 c.before.before.kernel.result
-    (at-kept (λ ws. KernelRight ws start.args.answer.now c.before.before.kernel.new.1.0 c.before.before.kernel.result)
+    (kernel_long _ start.args.answer.now c.before.before.kernel.new.1.0 c.before.before.kernel.result
+    (at_kept (λ ws. KernelRight ws start.args.answer.now c.before.before.kernel.new.1.0 c.before.before.kernel.result)
     kept.before.before.blank.result kept.before.before.blank.ensures kept.keep.ensures
     c.before.before.kernel.ensures))
 
-pub kernel-spec : {M : Type 1} → statement M
-kernel-spec =
+pub kernel_spec : {M : Type 1} → statement M
+kernel_spec =
     tie.close
     (tie.spec
     returns
     returns-2
     blank-requires
-    slice-aggregate-keep
+    slice_aggregate_keep
     keep-requires
-    array-share-prefix-words
-    slice-aggregate-kernel
+    array_share_prefix_words
+    slice_aggregate_kernel
     kernel-requires
     same_length
     returns-3)

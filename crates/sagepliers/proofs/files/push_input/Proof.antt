@@ -15,14 +15,14 @@ returns c = record { short = λ l. refl; long = λ l. absurd (omega arith) }
 number-requires : tie.Need-number-requires
 number-requires c κs = search rules
 
-sub-push : tie.Need-overflow-sub-push
-sub-push c = search rules
+sub_push : tie.Need-overflow-sub-push
+sub_push c = search rules
 
-part-push-start : tie.Need-slice-bounds-push-start
-part-push-start c = search rules
+part_push_start : tie.Need-slice-bounds-push-start
+part_push_start c = search rules
 
-part-push-end : tie.Need-slice-bounds-push-end
-part-push-end c = search rules
+part_push_end : tie.Need-slice-bounds-push-end
+part_push_end c = search rules
 
 push-requires : tie.Need-push-requires
 push-requires c κs = search rules
@@ -37,5 +37,5 @@ returns-2 c =
           (subst (λ b. PushAnswer b c.before.before.number.result c.push.result) rest c.push.ensures);
     }
 
-pub push-input-spec : {M : Type 1} → statement M
-push-input-spec = tie.close (tie.spec returns number-requires sub-push part-push-start part-push-end push-requires returns-2)
+pub push_input_spec : {M : Type 1} → statement M
+push_input_spec = tie.close (tie.spec returns number-requires sub_push part_push_start part_push_end push-requires returns-2)
