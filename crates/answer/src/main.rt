@@ -1,4 +1,6 @@
 // Reads a question from standard input and prints the certificate that answers it.
+#![tactic(auto)]
+
 ghost use Rattle.printing.specs.Printing.{SolveText};
 
 // The one place that prints. What it asks has `main` proved to hand over nothing but the right text for its input.

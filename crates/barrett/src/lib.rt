@@ -1,5 +1,7 @@
 // Remainders over whole slices by products and shifts, for a p that is prepared once. P is p shifted to 28 bits. One remainder has no comparison and no
 // division by p, and each of its products is of two words, so that the compiler turns the loop of `remainders` into vectors.
+#![tactic(auto)]
+
 ghost use Rattle.std.specs.Prelude.{◌≡◌, ℕ, ◌*◌, ◌%◌, ◌^◌, ◌<◌, ◌≤◌, length, get_or};
 ghost use Rattle.zmod.specs.Zmod.{mk};
 ghost use Rattle.zmod.specs.Residues.{Residue, Residues, poly};

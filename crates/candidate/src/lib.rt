@@ -1,6 +1,8 @@
 // The one polynomial that can meet the rules for a question: from the curves the expansion at infinity (crate `recurrence`), from it and σ the power sums,
 // from them the coefficients. Each loop fills a slice from the front, a word a turn, by a function that solves the equation at that place from the words
 // before it.
+#![tactic(auto)]
+
 ghost use Rattle.std.specs.Prelude.{◌≡◌, ◌+◌, ◌-◌, ◌*◌, ◌^◌, ◌<◌, ◌≤◌, length};
 ghost use Rattle.series.specs.Series.{Seq};
 ghost use Rattle.zmod.specs.Zmod.{Zmod, minus};

@@ -1,5 +1,7 @@
 // The one kernel sum that can have a polynomial which meets the rules, for two curves and a degree (document 02, E9): N/g² is x and the expansion at infinity
 // that the curves determine, up to h_(4d), and g² is its denominator, of degree 2d; so σ, which counts each root of g twice, is the sum of the poles.
+#![tactic(auto)]
+
 ghost use Rattle.std.specs.Prelude.{◌≡◌, ◌+◌, ◌*◌, ◌≤◌, length};
 ghost use Rattle.sheet.specs.Values.{half};
 ghost use Rattle.candidate_sum.specs.CandidateSum.{Determined, CandidateSum};

@@ -1,4 +1,6 @@
 // The end of every service that writes a certificate: from the values and a g with R1 to N, R3, the count of rational abscissas and the words.
+#![tactic(auto)]
+
 ghost use Rattle.std.specs.Prelude.{◌≡◌, ◌↔◌, true, ◌+◌, ◌*◌, length};
 ghost use Rattle.zmod.specs.Zmod.{Zmod};
 ghost use Rattle.zmod.specs.Residues.{poly};

@@ -1,4 +1,6 @@
 // Check, and the beginning of every service that takes a certificate: questions 2 to 10, with the coefficients of g and N in lent slices.
+#![tactic(auto)]
+
 ghost use Rattle.std.specs.Prelude.{◌≡◌, true, ◌↔◌, ◌+◌, ◌*◌, length};
 ghost use Rattle.zmod.specs.Zmod.{Zmod};
 ghost use Rattle.zmod.specs.Residues.{poly};

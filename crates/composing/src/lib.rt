@@ -1,5 +1,7 @@
 // Compose: the certificate of one map followed by another. It begins twice as check does and ends as solve and kernel do. R3 is not evaluated: the composite of
 // two maps that meet the rules meets them.
+#![tactic(auto)]
+
 ghost use Rattle.std.specs.Prelude.{◌≡◌, true, ◌↔◌, ◌+◌, ◌*◌, length};
 ghost use Rattle.questions.specs.Questions.{AllYes};
 ghost use Rattle.sheet.specs.declared.Form.TheVariants.{Certificate};

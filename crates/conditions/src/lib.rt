@@ -1,4 +1,6 @@
 // R3 by the expansion at infinity, for a g with R1 and p > 3ℓ - 3, in lent room: two equations for the codomain, and the recurrence up to ℓ.
+#![tactic(auto)]
+
 ghost use Rattle.std.specs.Prelude.{◌≡◌, ◌↔◌, true, ◌+◌, ◌-◌, ◌*◌, ◌%◌, ◌<◌, ◌≤◌, length};
 ghost use Rattle.zmod.specs.Zmod.{Zmod};
 ghost use Rattle.zmod.specs.Residues.{Reduced, poly};

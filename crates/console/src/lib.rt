@@ -1,5 +1,7 @@
 // Standard input to its end, and a run of bytes to standard output: all that the programs have of the operating system. No contract can say which bytes
 // came from an input or reached an output; what is said is how many.
+#![tactic(auto)]
+
 ghost use Rattle.std.specs.Prelude.{◌≤◌, ◌<◌, length};
 ghost use Rattle.io.specs.Counts.{IsPrefixLen};
 

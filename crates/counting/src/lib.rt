@@ -1,5 +1,7 @@
 // The number of a monic polynomial's roots in ℤ/p, for p below 2^28 and a degree d from 1 to 127: the degree of its greatest common divisor with x^p − x.
 // Slices hold residues, the constant term first, as in `poly`; a slice for g has d + 1 words, of which the last is 1.
+#![tactic(auto)]
+
 ghost use Rattle.std.specs.Prelude.{◌≡◌, ◌+◌, ◌-◌, ◌*◌, ◌<◌, ◌≤◌, length};
 ghost use Rattle.zmod.specs.Prime.{Prime};
 ghost use Rattle.zmod.specs.Residues.{poly};

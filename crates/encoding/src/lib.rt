@@ -1,5 +1,7 @@
 // Sheets, points and answers as bytes and numbers, as files and C programs have them: words of four bytes, lowest first; the affine point (u, v) as
 // u + 2^28·v and infinity as 2^56; an answer as one number, a refusal of 64 bits as 2^57 plus its own.
+#![tactic(auto)]
+
 ghost use Rattle.std.specs.Prelude.{◌≡◌, ◌+◌, ◌*◌, ◌^◌, ◌<◌, ◌≤◌, min, length};
 ghost use Rattle.sheet.specs.Word.{word_at};
 ghost use Rattle.sheet.specs.Form.{most_words};

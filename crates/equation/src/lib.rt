@@ -1,5 +1,7 @@
 // R3, the equation that takes the domain to the codomain, for a g with R1 and the N that R2 gives: by the expansion at infinity where p > 3ℓ - 3, and
 // coefficient by coefficient below.
+#![tactic(auto)]
+
 mod short;
 
 ghost use Rattle.std.specs.Prelude.{◌≡◌, ◌↔◌, true, ◌+◌, ◌-◌, ◌*◌, ◌%◌, ◌≤◌, length};

@@ -2,6 +2,8 @@
 // The words have 64 bits, so that the compiler makes vectors of the one long loop without widening and narrowing them.
 // No coefficient is divided: a division step multiplies what is divided by the square of the divisor's last word, a unit, and takes two coefficients away at
 // once, so that there are half as many passes over the words.
+#![tactic(auto)]
+
 ghost use Rattle.std.specs.Prelude.{◌≡◌, ◌∷◌, ◌+◌, ◌-◌, ◌*◌, ◌^◌, ◌<◌, ◌≤◌, length, get_or};
 ghost use Rattle.series.specs.Series.{conv, sums, scaled};
 ghost use Rattle.series.specs.Reversal.{shift};

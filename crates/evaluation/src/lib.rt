@@ -1,6 +1,8 @@
 // The values of a polynomial over ℤ/p and of its derivative at a point x, for p up to 2^28, by blocks of 16 coefficients: a block is a sum of
 // products with the powers of x and takes one remainder, and Horner's rule goes from block to block. The powers and their derivatives,
 // i x^(i − 1), stand in tables, which serve for every polynomial at x.
+#![tactic(auto)]
+
 ghost use Rattle.std.specs.Prelude.{◌≡◌, ℕ, ◌+◌, ◌-◌, ◌*◌, ◌^◌, ◌<◌, ◌≤◌, min, length, get_or};
 ghost use Rattle.ring.specs.Ring.{pow};
 ghost use Rattle.slices.specs.Filling.{Filled};
@@ -10,7 +12,7 @@ ghost use Rattle.evaluation.specs.Tables.{Low, Slopes, Tables, weighed};
 ghost use Rattle.evaluation.specs.Jets.{JetOf, Stepped};
 
 // What a polynomial and its derivative are at a point.
-#[derive(Drop)]
+#[derive(Clone, Copy)]
 pub struct Jet {
     pub value: u32,
     pub slope: u32,

@@ -1,4 +1,6 @@
 // The expansion at infinity over ℤ/p, on slices of residues: from the power sums of a polynomial's roots, and document 01's recurrence for it.
+#![tactic(auto)]
+
 ghost use Rattle.std.specs.Prelude.{◌≡◌, ◌↔◌, true, ℕ, ◌+◌, ◌-◌, ◌*◌, ◌^◌, ◌<◌, ◌≤◌, length, get_or};
 ghost use Rattle.slices.specs.Filling.{Filled};
 ghost use Rattle.zmod.specs.Zmod.{Zmod, mk, plus, times};

@@ -1,6 +1,8 @@
 // Arithmetic in ℤ/p on residues held in u32, for p up to 2^28: a residue is below p, and what a function promises is the residue of the sum, the
 // product, .. of the classes of its arguments. `Residue p x r` says that r is the residue of the element x, `InverseOf p a r` that r is the inverse
 // of a.
+#![tactic(auto)]
+
 ghost use Rattle.std.specs.Prelude.{◌≡◌, ◌+◌, ◌*◌, ◌%◌, ◌^◌, ◌<◌, ◌≤◌, length};
 ghost use Rattle.ring.specs.Ring.{pow};
 ghost use Rattle.slices.specs.Filling.{Filled};

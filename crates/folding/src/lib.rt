@@ -1,6 +1,8 @@
 // x^p modulo a monic polynomial g of small degree d over ℤ/p, for p below 2^28. x^d, .., x^(2d − 1) modulo g are made once, the rows of a table, and the upper
 // half of each square is folded back by them: its lower half stays as sums, to which multiples of the rows are added before any remainder. Slices hold
 // residues, the constant term first, as in `poly`; where g is x^d − n, it is given by n, which has d words.
+#![tactic(auto)]
+
 ghost use Rattle.std.specs.Prelude.{◌≡◌, ℕ, ◌+◌, ◌-◌, ◌*◌, ◌^◌, ◌<◌, ◌≤◌, length, get_or};
 ghost use Rattle.slices.specs.Filling.{Filled};
 ghost use Rattle.series.specs.Series.{Seq, conv, sums, scaled};

@@ -1,4 +1,6 @@
 // Reads a kernel sheet from standard input and prints the certificate of its domain and kernel polynomial.
+#![tactic(auto)]
+
 ghost use Rattle.printing.specs.Printing.{KernelText};
 
 // The one place that prints. What it asks has `main` proved to hand over nothing but the right text for its input.

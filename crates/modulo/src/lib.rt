@@ -1,5 +1,7 @@
 // What both ways to x^p modulo a monic g over ℤ/p share, for p below 2^28: the power of x that squaring begins with, and −a. Slices hold residues, the
 // constant term first, as in `poly`.
+#![tactic(auto)]
+
 ghost use Rattle.std.specs.Prelude.{◌/◌, ◌^◌, ◌<◌, ◌≤◌, length};
 ghost use Rattle.series.specs.Series.{Seq, negs};
 ghost use Rattle.zmod.specs.Zmod.{Zmod};

@@ -1,4 +1,6 @@
 // Name's questions 3, 5 and 7 for one curve, and the j-value.
+#![tactic(auto)]
+
 ghost use Rattle.std.specs.Prelude.{◌^◌, ◌<◌, ◌≤◌};
 ghost use Rattle.zmod.specs.Zmod.{Zmod, mk};
 ghost use Rattle.zmod.specs.Prime.{Prime};

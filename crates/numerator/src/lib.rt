@@ -1,5 +1,7 @@
 // The N that R2 gives for the values of a sheet and a g, from the products that its parts are made of, in room of three sizes. g has d + 1 words and N has
 // 2d + 2, the constant term first.
+#![tactic(auto)]
+
 ghost use Rattle.std.specs.Prelude.{◌≡◌, ◌+◌, ◌-◌, ◌*◌, ◌≤◌, length};
 ghost use Rattle.zmod.specs.Zmod.{Zmod};
 ghost use Rattle.zmod.specs.Residues.{poly, Residues};

@@ -1,6 +1,8 @@
 // Prints the parts of N for document 01's first marked sheet, as `rules` works them out: the case of E5 in document 02. A line of eight hexadecimal digits
 // for each coefficient, the constant term first: four lines for each part, in the order of source document 001's formula (13). That they are document
 // 02's numbers is proved, and the output is compared with them.
+#![tactic(auto)]
+
 ghost use Rattle.std.specs.Prelude.{◌≡◌, length};
 ghost use Rattle.series.specs.Series.{Seq};
 ghost use Rattle.zmod.specs.Zmod.{Zmod};

@@ -2,6 +2,8 @@
 // has degree n/2 at most: Euclid's algorithm on xⁿ and h₁ xⁿ⁻¹ + .. + h_n finds the denominator t in lowest terms, and the sum is minus its second coefficient
 // over its first. Of the remainders nothing is stored: a coefficient of one is a sum of products of the words of its t with those of h. Nor is anything
 // divided before the end: a row is multiplied by a unit, and two coefficients of a remainder are cancelled at once.
+#![tactic(auto)]
+
 ghost use Rattle.std.specs.Prelude.{◌≡◌, ℕ, ◌+◌, ◌-◌, ◌^◌, ◌<◌, ◌≤◌, length, get_or};
 ghost use Rattle.series.specs.Series.{zeros, const};
 ghost use Rattle.series.specs.Degree.{Below};
@@ -17,21 +19,21 @@ ghost use Rattle.poles.specs.Poles.{Running, Stepped, QuotientOf, PolesOf};
 use barrett::Modulus;
 
 // The sum of the poles, each as often as it counts, if there are n/2 of them; fewer have no sum here.
-#[derive(Drop)]
+#[derive(Clone, Copy)]
 pub enum PoleSum {
     Missing,
     Sum(u32),
 }
 
 // The highest coefficient of a remainder, and where it stands.
-#[derive(Drop)]
+#[derive(Clone, Copy)]
 struct Term {
     degree: usize,
     top: u64,
 }
 
 // The degree of a remainder, its highest coefficient and the next one.
-#[derive(Drop)]
+#[derive(Clone, Copy)]
 struct Row {
     degree: usize,
     top: u64,

@@ -1,6 +1,8 @@
 // Polynomials over ℤ/p in lent slices of u32, the constant term first, for p up to 2^28. A slice `xs` of residues stands for the polynomial
 // `poly p xs`. A function that fills `out` gives it the residues of the first coefficients of the polynomial that its contract names, as many as
 // `out` has words: a longer `out` ends in zeros, a shorter one holds the front.
+#![tactic(auto)]
+
 ghost use Rattle.std.specs.Prelude.{◌≡◌, ◌↔◌, true, ℕ, ◌+◌, ◌-◌, ◌*◌, ◌^◌, ◌<◌, ◌≤◌, max, length, get_or, replicate};
 ghost use Rattle.series.specs.Series.{conv, sums, negs, scaled, ∂};
 ghost use Rattle.zmod.specs.Zmod.{Zmod, mk, plus, times};

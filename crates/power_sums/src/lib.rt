@@ -1,4 +1,6 @@
 // The power sums of a polynomial's roots over ℤ/p, by Newton's identities, on slices of residues: four at a time and by rows, from where they are known.
+#![tactic(auto)]
+
 ghost use Rattle.std.specs.Prelude.{◌≡◌, ℕ, ◌+◌, ◌*◌, ◌%◌, ◌^◌, ◌<◌, ◌≤◌, length, get_or};
 ghost use Rattle.series.specs.Series.{Seq};
 ghost use Rattle.zmod.specs.Zmod.{Zmod, mk};

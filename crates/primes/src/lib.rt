@@ -2,6 +2,8 @@
 // 2^14, smallest first. There are three runs: those below 2^6, below 2^10 and below 2^14. An n that none below such a bound divides is a prime if the
 // bound's square is above n. The compiler stores a constant array on the stack where it is lent, unless all of it dissolves into constants, so the whole
 // table is lent in one place alone, which small numbers and most composite ones do not reach.
+#![tactic(auto)]
+
 mod inverses;
 mod table;
 

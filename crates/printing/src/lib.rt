@@ -1,5 +1,7 @@
 // What each program prints for the bytes of its input: the service's answer, put into words by `text`, at the front of a lent buffer. The answer is the
 // count of the bytes.
+#![tactic(auto)]
+
 ghost use Rattle.std.specs.Prelude.{◌*◌, ◌≤◌, length};
 ghost use Rattle.text.specs.Fills.{Fills};
 ghost use Rattle.printing.specs.Printing.{written_text, verdict_text, image_text, Prints, SolveText, KernelText, CheckText, PushText};

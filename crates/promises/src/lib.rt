@@ -1,29 +1,31 @@
 // What the services answer, and room for coefficients of every degree. specs/ says what each answer stands for and which one is right.
+#![tactic(auto)]
+
 ghost use Rattle.std.specs.Prelude.{◌≡◌, replicate};
 
 // What check answers.
-#[derive(Drop)]
+#[derive(Clone, Copy)]
 pub enum Verdict {
     Passes,
     Refused(u32),
 }
 
 // What solve, kernel and compose answer: how many words they wrote, or a refusal.
-#[derive(Drop)]
+#[derive(Clone, Copy)]
 pub enum Written {
     Count(u32),
     Refused(u32),
 }
 
 // A point of a curve.
-#[derive(Drop)]
+#[derive(Clone, Copy)]
 pub enum Point {
     Affine(u32, u32),
     Infinity,
 }
 
 // What push answers: a point of the codomain, or a refusal.
-#[derive(Drop)]
+#[derive(Clone, Copy)]
 pub enum Image {
     Affine(u32, u32),
     Infinity,
@@ -31,7 +33,7 @@ pub enum Image {
 }
 
 // What name answers: a j-value, or a refusal.
-#[derive(Drop)]
+#[derive(Clone, Copy)]
 pub enum Named {
     Value(u32),
     Refused(u32),

@@ -1,4 +1,6 @@
 // Reads a point's number, eight bytes with the lowest first, and then a certificate from standard input, and prints the number of the point's image.
+#![tactic(auto)]
+
 ghost use Rattle.printing.specs.Printing.{PushText};
 
 // The one place that prints. What it asks has `main` proved to hand over nothing but the right text for its input.

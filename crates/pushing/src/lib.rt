@@ -1,4 +1,6 @@
 // Question 12, and the image of a point of the domain under the g and N of a certificate.
+#![tactic(auto)]
+
 ghost use Rattle.std.specs.Prelude.{◌≡◌, true, ◌↔◌, ◌+◌, ◌^◌, ◌<◌, ◌≤◌, min, length};
 ghost use Rattle.ring.specs.Ring.{pow};
 ghost use Rattle.zmod.specs.Zmod.{Zmod, mk, plus, times};

@@ -1,6 +1,8 @@
 // x^p modulo a monic polynomial g over ℤ/p, for p below 2^28 and a degree of up to 127, by squaring. A square is reduced by two products, where long division
 // would wait for a remainder at every step: its quotient by g comes from the inverse of g backwards, a power series that is made once. Slices hold residues,
 // the constant term first, as in `poly`; a slice for g has d + 1 words, of which the last is 1.
+#![tactic(auto)]
+
 ghost use Rattle.std.specs.Prelude.{◌≡◌, ◌+◌, ◌-◌, ◌*◌, ◌^◌, ◌<◌, ◌≤◌, length, get_or, set, replicate};
 ghost use Rattle.series.specs.Series.{conv, sums};
 ghost use Rattle.series.specs.Reversal.{shift};

@@ -1,4 +1,6 @@
 // The reader: questions 2 to 7 put to a sheet.
+#![tactic(auto)]
+
 ghost use Rattle.std.specs.Prelude.{◌≡◌, ◌^◌, ◌<◌, ◌≤◌, true, ◌↔◌, length};
 ghost use Rattle.zmod.specs.Zmod.{Zmod, mk};
 ghost use Rattle.zmod.specs.Residues.{Residue};
@@ -13,7 +15,7 @@ ghost use Rattle.reading.specs.Leaf.{Stands, Fits, Section, Sections, Bounds};
 use sheet::{Form, Values};
 
 // What reading a sheet gives: its values, or the number of the first question that it does not pass.
-#[derive(Drop)]
+#[derive(Clone, Copy)]
 pub enum Reading {
     Accepted(Values),
     Refused(u32),

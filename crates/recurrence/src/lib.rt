@@ -1,5 +1,7 @@
 // The expansion at infinity from the two curves of a question, by document 01's recurrence: σ is not read. A loop fills a slice from the front, a word a
 // turn, by a function that solves the equation at that place from the words before it.
+#![tactic(auto)]
+
 ghost use Rattle.std.specs.Prelude.{List, ℕ, ◌+◌, ◌-◌, ◌*◌, ◌^◌, ◌<◌, ◌≤◌, min, length};
 ghost use Rattle.zmod.specs.Zmod.{Zmod, mk, minus};
 ghost use Rattle.field.specs.Inverse.{Inverses};

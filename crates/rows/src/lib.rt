@@ -1,5 +1,7 @@
 // Products of polynomials by rows: four words of one factor at a time, times all words of the other, are added to sums of 64 bits, which take no remainder
 // until all is added. The other factor lies in room of 64-bit words, behind three zeros and before three, so that the four rows have no ends of their own.
+#![tactic(auto)]
+
 ghost use Rattle.std.specs.Prelude.{◌≡◌, ◌∷◌, ℕ, ◌+◌, ◌-◌, ◌*◌, ◌^◌, ◌<◌, ◌≤◌, min, length, get_or, replicate};
 ghost use Rattle.slices.specs.Filling.{Filled};
 ghost use Rattle.series.specs.Series.{conv, sums};

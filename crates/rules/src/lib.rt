@@ -1,5 +1,7 @@
 // The rules R1 and R2 over slices of residues, for the values of a sheet: whether g meets R1, and the N that R2 gives, in three parts. g has d + 1
 // words and N has 2d + 2, the constant term first.
+#![tactic(auto)]
+
 ghost use Rattle.std.specs.Prelude.{◌≡◌, ◌↔◌, true, ◌+◌, ◌-◌, ◌*◌, ◌^◌, ◌<◌, ◌≤◌, length, get_or};
 ghost use Rattle.series.specs.Series.{Seq, conv, negs, ∂};
 ghost use Rattle.zmod.specs.Zmod.{Zmod, mk, minus, times};

@@ -1,4 +1,6 @@
 // The C entries: the six services on bytes and words, one thin function each. `include/sagepliers.h` documents them.
+#![tactic(auto)]
+
 pub mod files;
 
 ghost use Rattle.sagepliers.specs.Entry.{CheckNumber, PushNumber, SolveNumber, KernelNumber, ComposeNumber, NameNumber};

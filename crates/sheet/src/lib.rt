@@ -1,4 +1,6 @@
 // Sheets: words, kinds and values; the three forms, the table of places, and what a sheet says by them.
+#![tactic(auto)]
+
 ghost use Rattle.std.specs.Prelude.{◌≡◌, ◌+◌, ◌-◌, ◌*◌, ◌^◌, ◌<◌, ◌≤◌, map, length, get_or, take, drop};
 ghost use Rattle.sheet.specs.declared.Form.TheVariants.{Certificate};
 ghost use Rattle.sheet.specs.Word.{kind_of, value_of, word_at, words_of};
@@ -10,7 +12,7 @@ ghost use Rattle.sheet.specs.Values.{values_of, half, coefficient_in};
 pub const MOST_WORDS: usize = 393;
 
 // The form in which a sheet is read.
-#[derive(Drop)]
+#[derive(Clone, Copy)]
 pub enum Form {
     Question,
     Certificate,
@@ -18,7 +20,7 @@ pub enum Form {
 }
 
 // The values in a sheet's header; 0 where its form has no such word.
-#[derive(Drop)]
+#[derive(Clone, Copy)]
 pub struct Values {
     pub p: u32,
     pub a: u32,

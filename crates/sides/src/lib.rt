@@ -1,4 +1,6 @@
 // R3 coefficient by coefficient: both sides whole, and compared. It asks nothing of p.
+#![tactic(auto)]
+
 ghost use Rattle.std.specs.Prelude.{◌≡◌, ◌↔◌, true, ◌+◌, ◌*◌, ◌^◌, ◌<◌, ◌≤◌, length, take};
 ghost use Rattle.series.specs.Series.{conv, sums, scaled, ∂};
 ghost use Rattle.zmod.specs.Zmod.{Zmod, mk};

@@ -1,4 +1,6 @@
 // Solve on the values of an accepted question: the one polynomial that can meet the rules, and its certificate if it does, in room of three sizes.
+#![tactic(auto)]
+
 ghost use Rattle.std.specs.Prelude.{◌≡◌, ◌+◌, ◌%◌, ◌≤◌, length};
 ghost use Rattle.sheet.specs.Values.{half};
 ghost use Rattle.sheet.specs.Ready.{Ready};

@@ -1,4 +1,6 @@
 // Solve: the question is read, and its certificate written if the one polynomial that can meet the rules does.
+#![tactic(auto)]
+
 ghost use Rattle.promises.specs.Answer.{SolveRight};
 
 use promises::Written;

@@ -1,5 +1,7 @@
 // The kernel polynomial of a composite over ℤ/p, for p below 2^28: g₁ times g₂ at n / g₁², cleared of denominators, by Horner's rule in the numerator and the
 // denominator. Each product is by rows, and each of its coefficients takes one remainder. Slices hold residues, the constant term first, as in `poly`.
+#![tactic(auto)]
+
 ghost use Rattle.std.specs.Prelude.{◌≡◌, ℕ, ◌+◌, ◌-◌, ◌*◌, ◌<◌, ◌≤◌, length, get_or, take};
 ghost use Rattle.ring.specs.Ring.{pow};
 ghost use Rattle.slices.specs.Filling.{Filled};

@@ -1,5 +1,7 @@
 // What the programs print, as bytes in a lent buffer. Each function puts a text at the front of `out` and leaves what stands behind it; the public
 // ones answer the count of the text's bytes.
+#![tactic(auto)]
+
 ghost use Rattle.std.specs.Prelude.{◌≡◌, ◌*◌, ◌<◌, ◌≤◌, length};
 ghost use Rattle.text.specs.Text.{code, digits, decimal, hex_line, hex_lines, refused_line, passes_line};
 ghost use Rattle.text.specs.Fills.{Fills};

@@ -1,6 +1,8 @@
 // Trial division by the entries of a table of primes. A trial tells whether an entry q divides n and is not n itself. A run counts what its trials find and
 // goes on behind a divisor, so that the compiler can try several at once. A remainder costs a division, unless q is constant. Where the inverse i of q modulo
 // W stands beside q, a product is enough: n i modulo W is n / q where q divides n, and elsewhere so large that its product with q is not below W.
+#![tactic(auto)]
+
 ghost use Rattle.std.specs.Prelude.{◌≡◌, ◌↔◌, true, ◌+◌, ◌-◌, ◌*◌, ◌/◌, ◌%◌, ◌^◌, ◌≤◌, ◌<◌, length};
 ghost use Rattle.zmod.specs.Prime.{Prime};
 ghost use Rattle.trial.specs.Divisors.{Odd, Proper, Undivided, Told, Found};

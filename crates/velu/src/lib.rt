@@ -1,4 +1,6 @@
 // Kernel: a kernel polynomial's σ and codomain by Vélu's formulas, questions 8 and 11 of a kernel sheet, and its certificate.
+#![tactic(auto)]
+
 ghost use Rattle.std.specs.Prelude.{◌≡◌, ◌+◌, ◌^◌, ◌<◌, ◌≤◌, length};
 ghost use Rattle.zmod.specs.Zmod.{mk, plus, times, minus};
 ghost use Rattle.zmod.specs.Residues.{Residue};

@@ -1,4 +1,6 @@
 // Reads a certificate from standard input and says whether it passes.
+#![tactic(auto)]
+
 ghost use Rattle.printing.specs.Printing.{CheckText};
 
 // The one place that prints. What it asks has `main` proved to hand over nothing but the right text for its input.

@@ -1,0 +1,69 @@
+-- `trial::by_blocks` meets its contract. The invariant: i is 171 and a whole number of blocks, and none of the first i entries divides n. The measure is
+-- what is left of the table.
+-- Assumes nothing.
+use Rattle.std.proofs.Common.{arith, get_or, ◌-◌, ◌<◌}
+use native.Mathlib.Nat as N
+use Rattle.questions.specs.Tests.{says_no, says_yes}
+use Rattle.zmod.specs.Remainder.{product_below}
+use Rattle.trial.specs.Primes.{undivided_prime}
+use Rattle.trial.specs.Runs.{undivided_missed, missed_more, missed_undivided, missed_prime, found_composite}
+use Rattle.trial.specs.Beside.{pairs_from}
+use Rattle.trial.proofs.by_blocks.Goals as goal
+
+pub loop-i-init : goal.loop-i-init
+loop-i-init c =
+    let p = (c.requires.odd, c.requires.whole) in
+    (omega arith, omega arith, omega arith, undivided_missed p.1.primes 171 (omega arith) p.1.first p.0.3)
+
+pub offset_bounds-primes-i : goal.offset_bounds-primes-i
+offset_bounds-primes-i c = omega arith
+
+pub bounds-primes-i : goal.bounds-primes-i
+bounds-primes-i c = omega arith
+
+pub overflow_cast-q : goal.overflow_cast-q
+overflow_cast-q c =
+    let below : get_or c.args.primes.now c.loop-i.i 0 < 16384 =
+    c.requires.whole.primes.below c.loop-i.i (omega arith)
+    in
+    omega (arith, below)
+
+pub overflow_mul-q : goal.overflow_mul-q
+overflow_mul-q c =
+    let below : get_or c.args.primes.now c.loop-i.i 0 < 16384 =
+    c.requires.whole.primes.below c.loop-i.i (omega arith)
+    in
+    record { fits = N.lt_of_lt_of_le (product_below 14 (below) (below)) (omega arith) }
+
+pub returns-then-n-q : goal.returns-then-n-q
+returns-then-n-q c =
+    let p = (c.requires.odd, c.requires.whole) in
+    says_yes (missed_prime p.1.primes p.0.0 (omega arith) c.loop-i.i (omega arith) c.if-n-q.true c.loop-i.inv.3)
+
+pub overflow_add-e : goal.overflow_add-e
+overflow_add-e c = omega arith
+
+pub by_half_products-requires : goal.by_half_products-requires
+by_half_products-requires c =
+    record {
+      le_n = (omega arith, omega arith, omega arith, omega arith, omega arith);
+      pairs = pairs_from c.requires.whole.pairs c.loop-i.i c.loop-i.inv.0;
+    }
+
+pub returns-then-by_half_products-ne0 : goal.returns-then-by_half_products-ne0
+returns-then-by_half_products-ne0 c =
+    says_no (found_composite c.requires.whole.primes (omega arith) c.by_half_products.ensures c.if-by_half_products-ne0.true)
+
+pub loop-i-smaller : goal.loop-i-smaller
+loop-i-smaller c = omega arith
+
+pub loop-i-preserved : goal.loop-i-preserved
+loop-i-preserved c =
+    let table = c.requires.whole.primes in
+    (omega arith, omega arith, omega arith, missed_more table c.loop-i.invariant.3 c.by_half_products.ensures c.if-by_half_products-ne0.false)
+
+pub returns : goal.returns
+returns c =
+    let p = (c.requires.odd, c.requires.whole) in
+    let n = c.args.n in
+    says_yes (undivided_prime 16384 n p.0.0 (omega arith) (omega arith) (missed_undivided p.1.primes (λ j l. c.loop-i.invariant.3 j (omega arith))))
