@@ -12,8 +12,7 @@ use Rattle.trial.proofs.by_blocks.Goals as goal
 
 pub loop-i-init : goal.loop-i-init
 loop-i-init c =
-    let p = (c.requires.odd, c.requires.whole) in
-    (omega arith, omega arith, omega arith, undivided_missed p.1.primes 171 (omega arith) p.1.first p.0.3)
+    (omega arith, omega arith, omega arith, undivided_missed c.requires.whole.primes 171 (omega arith) c.requires.whole.first c.requires.odd.3)
 
 pub offset_bounds-primes-i : goal.offset_bounds-primes-i
 offset_bounds-primes-i c = omega arith
@@ -37,8 +36,7 @@ overflow_mul-q c =
 
 pub returns-then-n-q : goal.returns-then-n-q
 returns-then-n-q c =
-    let p = (c.requires.odd, c.requires.whole) in
-    says_yes (missed_prime p.1.primes p.0.0 (omega arith) c.loop-i.i (omega arith) c.if-n-q.true c.loop-i.inv.3)
+    says_yes (missed_prime c.requires.whole.primes c.requires.odd.0 (omega arith) c.loop-i.i (omega arith) c.if-n-q.true c.loop-i.invariant.3)
 
 pub overflow_add-e : goal.overflow_add-e
 overflow_add-e c = omega arith
@@ -47,7 +45,7 @@ pub by_half_products-requires : goal.by_half_products-requires
 by_half_products-requires c =
     record {
       le_n = (omega arith, omega arith, omega arith, omega arith, omega arith);
-      pairs = pairs_from c.requires.whole.pairs c.loop-i.i c.loop-i.inv.0;
+      pairs = pairs_from c.requires.whole.pairs c.loop-i.i c.loop-i.invariant.0;
     }
 
 pub returns-then-by_half_products-ne0 : goal.returns-then-by_half_products-ne0
@@ -64,6 +62,5 @@ loop-i-preserved c =
 
 pub returns : goal.returns
 returns c =
-    let p = (c.requires.odd, c.requires.whole) in
     let n = c.args.n in
-    says_yes (undivided_prime 16384 n p.0.0 (omega arith) (omega arith) (missed_undivided p.1.primes (λ j l. c.loop-i.invariant.3 j (omega arith))))
+    says_yes (undivided_prime 16384 n c.requires.odd.0 (omega arith) (omega arith) (missed_undivided c.requires.whole.primes (λ j l. c.loop-i.invariant.3 j (omega arith))))

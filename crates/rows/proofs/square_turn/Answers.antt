@@ -1,0 +1,68 @@
+-- `rows::square_turn` meets its contract. Assumes nothing.
+use Rattle.std.proofs.Common.{arith, drop, get_or, length, rules, take, ℕ, ◌+◌, ◌-◌, ◌<◌, ◌^◌}
+use Rattle.slices.specs.Stored.{part_below}
+use Rattle.rows.specs.Rows.{Four, RowsAdded, row_more, of_words, to_words}
+use Rattle.rows.specs.Room.{Held, held, held_le, above_more}
+use Rattle.rows.specs.Square.{turn_fits, turned}
+use Rattle.rows.proofs.square_turn.Goals as goal
+
+pub add_rows-requires : goal.add_rows-requires
+add_rows-requires c =
+    let words : (P : ℕ → ℕ → ℕ → ℕ → Type 0) → P c.word-w.result c.word-x.result c.word-y.result c.word-z.result
+    → P (get_or c.args.a.now c.args.i 0) (get_or c.args.a.now (1 + c.args.i) 0) (get_or c.args.a.now (2 + c.args.i) 0)
+    (get_or c.args.a.now (3 + c.args.i) 0) =
+    λ P. of_words c.args.a.now c.args.i _ _ _ _ c.word-w.ensures c.word-x.ensures c.word-y.ensures c.word-z.ensures P
+    in
+    let room : Held c.args.a.now c.args.i c.put.new.out =
+    let a = c.args in
+    held a.a.now a.e.now c.put.new.out a.i c.requires.above.0 (words (λ w x y z. Four a.e.now (a.i + 3) w x y z c.put.new.out)
+    c.put.ensures)
+    in
+    let a = c.args in
+    let i = a.i in
+    let size = c.least-len.ensures in
+    let low = c.requires.p_nonzero.2 in record {
+      len_in_bounds = (
+        omega (arith, size),
+        omega (arith, size),
+        part_below c.put.new.out i (length c.put.new.out - i) (2 ^ 32) (search rules)
+            (λ j. omega (arith, held_le a.a.now c.put.new.out i (a.p - 1) (room) (λ u. omega (arith, low u)) j)),
+      );
+      w_bound = (
+        omega (arith, c.word-w.ensures, low i),
+        omega (arith, c.word-x.ensures, low (1 + i)),
+        omega (arith, c.word-y.ensures, low (2 + i)),
+        omega (arith, c.word-z.ensures, low (3 + i)),
+      );
+      by_index = λ j l.
+          to_words a.a.now i _ _ _ _ c.word-w.ensures c.word-x.ensures c.word-y.ensures c.word-z.ensures
+          (λ w x y z. row_more (get_or a.acc.now (i + i + j) 0) (take (length c.put.new.out - i) (drop i c.put.new.out)) j w x y z < 2 ^ 64)
+          (omega (
+            arith,
+            turn_fits a.p a.a.now c.put.new.out a.acc.now i c.least-len.result c.requires.i_in_bounds.0 (room) low
+                (get_or a.acc.now (i + i + j) 0) j,
+            c.requires.above.1 (i + i + j),
+          ));
+    }
+
+pub returns : goal.returns
+returns c =
+    let words : (P : ℕ → ℕ → ℕ → ℕ → Type 0) → P c.word-w.result c.word-x.result c.word-y.result c.word-z.result
+    → P (get_or c.args.a.now c.args.i 0) (get_or c.args.a.now (1 + c.args.i) 0) (get_or c.args.a.now (2 + c.args.i) 0)
+    (get_or c.args.a.now (3 + c.args.i) 0) =
+    λ P. of_words c.args.a.now c.args.i _ _ _ _ c.word-w.ensures c.word-x.ensures c.word-y.ensures c.word-z.ensures P
+    in
+    let room : Held c.args.a.now c.args.i c.put.new.out =
+    let a = c.args in
+    held a.a.now a.e.now c.put.new.out a.i c.requires.above.0 (words (λ w x y z. Four a.e.now (a.i + 3) w x y z c.put.new.out)
+    c.put.ensures)
+    in
+    let a = c.args in
+    let low = c.requires.p_nonzero.2 in
+    let size = c.least-len.ensures in (
+      above_more a.a.now c.put.new.out c.put-2.new.out a.i (room) c.put-2.ensures,
+      turned a.p a.a.now c.put.new.out a.acc.now a.i c.least-len.result c.requires.i_in_bounds.0 (room) low c.add_rows.new.acc
+          (omega (arith, size)) size
+          (words (λ w x y z. RowsAdded a.acc.now (take (length c.put.new.out - a.i) (drop a.i c.put.new.out)) (a.i + a.i) c.least-len.result w x y z
+          c.add_rows.new.acc) c.add_rows.ensures),
+    )

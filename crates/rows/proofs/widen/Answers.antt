@@ -1,0 +1,23 @@
+-- `rows::widen` meets its contract. The invariant: the words before k are stored. Assumes nothing.
+use Rattle.std.proofs.Common.{arith, length-set, refl, ◌-◌}
+use Rattle.slices.specs.Filling.{filled_none, filled_more}
+use Rattle.rows.proofs.widen.Invariants.{Same}
+use Rattle.rows.proofs.widen.Goals as goal
+
+pub loop-k-init : goal.loop-k-init
+loop-k-init c =
+    (refl, omega arith, filled_none (Same c.args.a.now) c.args.out.now)
+
+pub loop-k-preserved : goal.loop-k-preserved
+loop-k-preserved c =
+    let loop = c.loop-k in (
+      simp length-set loop.invariant.0,
+      omega arith,
+      filled_more (Same c.args.a.now) loop.out loop.k _ (omega (arith, loop.invariant.0))
+          loop.invariant.2 c.word.ensures,
+    )
+
+pub returns : goal.returns
+returns c =
+    let loop = c.loop-k in
+    λ j l. loop.invariant.2 j (omega (arith, loop.invariant.0))
