@@ -1,0 +1,10 @@
+-- `euclid::negate` meets its contract. Assumes nothing.
+use Rattle.std.proofs.Common.{subst, sym}
+use Rattle.zmod.specs.Zmod.{mk, minus}
+use Rattle.zmod.specs.Residues.{Residue}
+use Rattle.euclid.proofs.negate.Goals as goal
+
+pub returns : goal.returns
+returns c =
+    let a = c.args in
+    subst (Residue a.m.p (minus a.m.p (mk a.m.p a.x))) (sym c.wide.ensures) c.negate.ensures

@@ -1,0 +1,48 @@
+-- `folding::fill_row` meets its contract. Assumes nothing.
+use Rattle.std.proofs.Common.{arith, drop, length, length-drop, length-take, rules, subst, ◌*◌, ◌+◌, ◌-◌, ◌≡◌}
+use Rattle.modulo.specs.Modulo.{RemainderOf}
+use Rattle.modulo.specs.Power.{x_to}
+use Rattle.folding.specs.Table.{monic_of, row_inside, next_power, begun_more}
+use Rattle.folding.proofs.fill_row.Goals as goal
+
+pub overflow_mul-at : goal.overflow_mul-at
+overflow_mul-at c =
+    let a = c.args in
+    search (rules, row_inside (length a.n.now) a.i (omega arith))
+
+pub overflow_add-to : goal.overflow_add-to
+overflow_add-to c =
+    let a = c.args in
+    search (rules, row_inside (length a.n.now) a.i (omega arith))
+
+pub offset_bounds-t-at : goal.offset_bounds-t-at
+offset_bounds-t-at c =
+    let a = c.args in
+    search (rules, row_inside (length a.n.now) a.i (omega arith))
+
+pub slice_bounds-widen-end : goal.slice_bounds-widen-end
+slice_bounds-widen-end c =
+    let a = c.args in
+    search (rules, row_inside (length a.n.now) a.i (omega arith))
+
+pub times_x-requires : goal.times_x-requires
+times_x-requires c =
+    (c.requires.prepared.0, omega arith, c.requires.prepared.2, c.requires.begun_table.1.reduced, c.requires.prepared.4)
+
+pub returns : goal.returns
+returns c =
+    let a = c.args in
+    let d = length a.n.now in
+    let at = a.i * d in
+    let widened = c.widen in
+    let same : length widened.new.out ≡ at + d - at = omega (
+      arith,
+      length-take (at + d - at) (drop at a.t.now),
+      length-drop at a.t.now,
+      row_inside d a.i (omega arith),
+    ) in (
+      begun_more a.m.p a.n.now a.t.now a.i (at + d - at) a.r.now widened.new.out c.requires.prepared.1 c.requires.prepared.3 (omega arith) same
+          c.requires.begun_table.0 c.requires.begun_table.1 (λ k l. widened.ensures k (omega arith)),
+      subst (λ e. RemainderOf a.m.p d (monic_of a.m.p a.n.now) (x_to a.m.p e) c.times_x.new.r) (omega arith)
+          (next_power (d + a.i) c.requires.begun_table.1 c.times_x.ensures),
+    )

@@ -1,0 +1,45 @@
+-- `quotients::lifted_square` meets its contract. Assumes nothing.
+use Rattle.std.proofs.Common.{arith, drop, length, length-drop, length-set, length-take, rules, set, ◌-◌, ◌≡◌}
+use Rattle.series.specs.Series.{conv}
+use Rattle.zmod.specs.Zmod.{Zmod}
+use Rattle.zmod.specs.Residues.{poly}
+use Rattle.barrett.specs.Modulus.{prepared_positive, prepared_below}
+use Rattle.rows.specs.Room.{turns_fit}
+use Rattle.quotients.specs.Lifted.{lifted}
+use Rattle.quotients.proofs.lifted_square.Goals as goal
+
+pub slice_bounds-square-count-2 : goal.slice_bounds-square-count-2
+slice_bounds-square-count-2 c =
+    omega (arith, length-set c.args.out.now 0 0)
+
+pub slice_bounds-square-start-2 : goal.slice_bounds-square-start-2
+slice_bounds-square-start-2 c =
+    search (rules, length-set c.args.out.now 0 0, c.requires.prepared.2, c.requires.out_nonzero.0)
+
+pub square-requires : goal.square-requires
+square-requires c =
+    let a = c.args in
+    let size = length-set a.out.now 0 0 in record {
+      prepared = (c.requires.prepared.0, c.requires.prepared.1, turns_fit _ _ a.m.p (omega (arith, prepared_below c.requires.prepared.0)) (omega (arith, c.requires.prepared.3)));
+      acc_len = (simp (length-take, length-drop) (omega (arith, size, c.requires.out_nonzero.1)), c.requires.out_nonzero.2, omega (arith, c.requires.prepared.3));
+    }
+
+pub shape_of-out : goal.shape_of-out
+shape_of-out c =
+    search (rules, length-set c.args.out.now 0 0)
+
+pub returns : goal.returns
+returns c =
+    let a = c.args in
+    let p = a.m.p in
+    let part = c.square.new.out in
+    let size = length-set a.out.now 0 0 in
+    let long : length part ≡ length (set a.out.now 0 0) - a.bit =
+    omega (
+      arith,
+      c.square.auto,
+      length-take (length (set a.out.now 0 0) - a.bit) (drop a.bit (set a.out.now 0 0)),
+      length-drop a.bit (set a.out.now 0 0),
+    ) in
+    lifted p a.bit (length (set a.out.now 0 0) - a.bit) (conv (Zmod p) (poly p a.a.now) (poly p a.a.now)) a.out.now part
+    (prepared_positive c.requires.prepared.0) c.requires.prepared.2 c.requires.out_nonzero.0 (omega (arith, size)) long c.square.ensures
