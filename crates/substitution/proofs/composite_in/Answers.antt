@@ -348,7 +348,6 @@ multiply-requires c =
     let a = c.args in
     let size = sizes in
     let kept = after-horner in
-    let last = c.horner.last in
     let part = c.horner.new.h in
     let rest = drop (first) a.out.now in
     let acc : length (take (length (part ++ rest)) c.horner.new.acc) ≡ length (part ++ rest) =

@@ -1,0 +1,15 @@
+use Rattle.std.proofs.Common.{length, min, ◌*◌, ◌-◌, ◌≡◌, ◌≤◌}
+use Rattle.zmod.specs.Zmod.{Zmod, minus}
+use Rattle.sheet.specs.Values.{question}
+use Rattle.recurrence.specs.Equations.{HAt}
+use Rattle.expansion.specs.Multiple.{Multiple}
+use Rattle.expansion.specs.Equations.{Solved}
+use Rattle.recurrence.proofs.expansion_of_curves.Given as goal
+
+abbrev pub invariant-loop-k : goal.invariant-loop-k
+invariant-loop-k l =
+    (length l.h ≡ length l.initial.h) × (3 ≤ l.k) × (Solved l.v.p (HAt (Zmod l.v.p) (question l.v)) l.h (min l.k (length l.h)))
+    × (Multiple l.v.p (2 * l.k - 3) (minus l.v.p (question l.v).A) l.y) × Multiple l.v.p (2 * l.k - 6) (minus l.v.p (question l.v).B) l.z
+
+abbrev pub decreases-loop-k : goal.decreases-loop-k
+decreases-loop-k l = length l.initial.h - l.k
