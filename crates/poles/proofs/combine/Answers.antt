@@ -23,11 +23,11 @@ slice_bounds-add_multiple-end-3 c =
 
 pub add_multiple-requires : goal.add_multiple-requires
 add_multiple-requires c =
-    let size-u : length (take (c.args.len - c.args.s) c.args.u.now) ≡ c.args.len - c.args.s =
-    length-take-le (c.args.len - c.args.s) c.args.u.now (omega arith)
-    in
     let size-t : length (take c.args.len c.args.t.now) ≡ c.args.len =
     length-take-le c.args.len c.args.t.now (omega arith)
+    in
+    let size-u : length (take (c.args.len - c.args.s) c.args.u.now) ≡ c.args.len - c.args.s =
+    length-take-le (c.args.len - c.args.s) c.args.u.now (omega arith)
     in
     let a = c.args in
     let pos = prepared_positive c.requires.prepared.0 in record {

@@ -16,7 +16,10 @@ overflow_cast-u c = omega (arith, c.requires.prime.3 (length c.args.u.now - 1))
 
 pub inverse_by_euclid-inverse-requires : goal.inverse_by_euclid-inverse-requires
 inverse_by_euclid-inverse-requires c =
-    (c.requires.prime.0, (c.requires.nonzero (omega (arith, c.if-k-a.false)), c.requires.prime.3 (length c.args.u.now - 1)))
+    record {
+      prime = c.requires.prime.0;
+      a_nonzero = (c.requires.nonzero (omega (arith, c.if-k-a.false)), c.requires.prime.3 (length c.args.u.now - 1));
+    }
 
 pub overflow_cast-u-2 : goal.overflow_cast-u-2
 overflow_cast-u-2 c = omega (arith, c.requires.prime.3 (length c.args.u.now - 1 - 1))

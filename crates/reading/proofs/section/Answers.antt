@@ -12,7 +12,7 @@ pub loop-i-preserved : goal.loop-i-preserved
 loop-i-preserved c =
     let loop = c.loop-i in
     let a = c.args in
-    let both = together loop.invariant.2 c.fits2.ensures in (
+    let both = together loop.invariant.2 c.fits-all.ensures in (
       omega (arith, loop.invariant.0),
       omega (arith, c.loop-i-test.true),
       (
