@@ -94,7 +94,7 @@ sums_turns-requires c =
 
 pub shape_of-s : goal.shape_of-s
 shape_of-s c =
-    c.sums_turns.auto.1.1.1.0 ∙ length-set c.args.s.now 0 c.reduce.result
+    c.sums_turns.auto.s ∙ length-set c.args.s.now 0 c.reduce.result
 
 pub returns : goal.returns
 returns c =
@@ -119,7 +119,7 @@ returns c =
       solved = front_solved p d G (set a.s.now 0 r.result) from known-front;
       due_from = c.known_rows.ensures.due G n (λ k l m. due k (omega arith) m);
     }) in
-    let size : length (set a.s.now 0 r.result) ≡ length s = sym c.sums_turns.auto.1.1.1.0 in
+    let size : length (set a.s.now 0 r.result) ≡ length s = sym c.sums_turns.auto.s in
     record {
       reduced = solved_all p (Newton (Zmod p) d G) (search rules) s _ (omega (arith, size)) known.solved;
       coefficients = λ i l. sums_step (Zmod p) d G (poly p s) _ known.solved.equations i (omega (arith, size)) ∙ ap (λ m. power_sums_of (Zmod p) m G i)

@@ -16,8 +16,8 @@ sum_more-sum-requires c =
     let a = c.args in
     let w = c.wide.ensures in
     let x = c.wide-2.ensures in
-    let y = c.wide-3.ensures in (
-      (
+    let y = c.wide-3.ensures in record {
+      w_bound = (
         omega (arith, w, c.ranges.w.fits),
         search rules,
         omega (arith, x, c.ranges.x.fits),
@@ -26,9 +26,9 @@ sum_more-sum-requires c =
         search rules,
         search rules,
         search rules,
-      ),
-      subst (λ n. n < 2 ^ 64) (sym (total)) c.requires.4,
-    )
+      );
+      d_bound = subst (λ n. n < 2 ^ 64) (sym (total)) c.requires.4;
+    }
 
 pub returns : goal.returns
 returns c =

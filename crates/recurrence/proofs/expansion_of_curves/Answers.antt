@@ -30,7 +30,7 @@ loop-k-init c =
     let words = c.begin_h in (
       refl,
       omega arith,
-      subst (λ n. Solved p (HAt (Zmod p) (question v)) words.new.h (min 3 n)) (sym words.auto.1.1.0) words.ensures,
+      subst (λ n. Solved p (HAt (Zmod p) (question v)) words.new.h (min 3 n)) (sym words.auto.h) words.ensures,
       both A 2 1 3 refl c.minus_twice-a.ensures (once A c.negate.ensures) c.add-y.ensures,
       none (minus p (question v).B) (omega arith),
     )
@@ -38,7 +38,7 @@ loop-k-init c =
 pub next_h-requires : goal.next_h-requires
 next_h-requires c =
     let inv = c.loop-k.invariant in
-    let size = c.begin_h.auto.1.1.0 in record {
+    let size = c.begin_h.auto.h in record {
       ready = c.requires.ready;
       inverses = (c.requires.inverses.0, omega (arith, size));
       le_k = (omega arith, omega (arith, size), omega arith, λ j l. inv.2.reduced j (omega arith));
@@ -75,12 +75,12 @@ loop-k-preserved c =
 
 pub shape_of-h : goal.shape_of-h
 shape_of-h c =
-    c.loop-k.invariant.0 ∙ c.begin_h.auto.1.1.0
+    c.loop-k.invariant.0 ∙ c.begin_h.auto.h
 
 pub returns : goal.returns
 returns c =
     let a = c.args in
     let p = a.v.p in
     let loop = c.loop-k in
-    let end : min loop.k (length loop.h) ≡ length a.h.now = omega (arith, c.begin_h.auto.1.1.0) in
+    let end : min loop.k (length loop.h) ≡ length a.h.now = omega (arith, c.begin_h.auto.h) in
     subst (Solved p (HAt (Zmod p) (question a.v)) loop.h) end loop.invariant.2
