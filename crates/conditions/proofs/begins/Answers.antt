@@ -1,0 +1,22 @@
+-- `conditions::begins` meets its contract. Assumes nothing.
+use Rattle.conditions.proofs.Decided.{begins_known, first_no, second}
+use Rattle.conditions.proofs.begins.Goals as goal
+
+pub returns-then-known-ge3 : goal.returns-then-known-ge3
+returns-then-known-ge3 c =
+    let a = c.args in
+    begins_known a.v a.h.now a.known c.if-known-ge3.true c.requires.2
+
+pub returns-then-multiply-subtract : goal.returns-then-multiply-subtract
+returns-then-multiply-subtract c =
+    let a = c.args in
+    first_no a.v a.h.now c.multiply.result c.subtract.result c.multiply.ensures
+    c.subtract.ensures
+    c.if-multiply-subtract.true
+
+pub returns : goal.returns
+returns c =
+    let a = c.args in
+    second a.v a.h.now c.multiply.result c.subtract.result c.multiply.ensures c.subtract.ensures
+    c.multiply-2.result c.subtract-2.result c.multiply-2.ensures c.subtract-2.ensures
+    c.if-multiply-subtract.false
