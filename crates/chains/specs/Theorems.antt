@@ -75,6 +75,8 @@ module _ (s s' t t' : Brackets) (e : sheets s ++ sheets s' ≡ sheets t ++ sheet
 -- Whatever the sheets are, two ways to put the brackets agree: both end with the same words, or both are refused.
 pub any_brackets : (s t : Brackets) → sheets s ≡ sheets t → (o o' : Outcome (List ℕ)) → Way s o → Way t o' → Agree o o'
 any_brackets (sheet ws) (sheet us) e (result _) (result _) given given = let one : ws ≡ us = cc in one
+any_brackets (sheet ws) (sheet us) e (result _) (refused _) a b = elim b [ ]
+any_brackets (sheet ws) (sheet us) e (refused _) o' a b = elim a [ ]
 any_brackets (sheet ws) (both t t') e o o' a b = absurd (not_one ws t t' e)
 any_brackets (both s s') (sheet us) e o o' a b = absurd (not_one us s s' (sym e))
 any_brackets (both s s') (both t t') e o o' a b = agree_both s s' t t' e o o' a b

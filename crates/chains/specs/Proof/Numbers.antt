@@ -154,6 +154,7 @@ module _ (s t : Brackets) (first second : List ℕ) (k : ℕ) (xs ys : List (Lis
 
 -- The number of a way that is refused is that of a question which is answered with no.
 refused_between : (t : Brackets) (k : ℕ) (xs ys : List (List ℕ)) → Way t (refused k) → SomeNo (chain_asks (xs ++ (sheets t ++ ys))) k
+refused_between (sheet _) k xs ys way = elim way [ ]
 refused_between (both s t) k xs ys (called {first = first} {second = second} a b call) = go call.answer call.right call.outcome
   where
     go : (r : Written) → ComposeRight first second call.before call.after r → wrote r call.after ≡ refused k
