@@ -2,13 +2,13 @@
 -- Assumes nothing.
 use mathlib.Core.Path.{◌≡◌, refl, sym, ◌∙◌, ap, ap₂}
 use mathlib.Core.List.{List}
-use Prim.Native.Nat.{ℕ, zero, suc, ◌+◌, ◌-◌, ◌*◌, ◌≤◌, ◌<◌, min, max}
+use Prim.Native.Nat.{ℕ, ◌+◌, ◌-◌, ◌*◌, ◌≤◌, ◌<◌, min, max}
 use native.Mathlib.Numerals.{add-one}
 use native.Mathlib.Omega.{arith}
 use lib.ListN.{length, get_or}
 use Rattle.ring.specs.Ring
 use Rattle.series.specs.Series.{Seq, sum, sum_suc, sum_rest, conv, conv_sum}
-use Rattle.zmod.specs.Zmod.{Elt, Zmod, mk, plus, times, plus_assoc, plus_zero, mk_add, mk_mul}
+use Rattle.zmod.specs.Zmod.{Elt, Zmod, mk, plus, times, plus_assoc, mk_add, mk_mul}
 use Rattle.zmod.specs.Residues.{Residue, Reduced, poly, poly_at, poly_past, residue_same}
 use Rattle.poly.specs.Partial.{partial}
 

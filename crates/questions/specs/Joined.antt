@@ -1,6 +1,6 @@
 -- Lists of questions after each other.
 -- Assumes nothing.
-use Rattle.std.specs.Prelude.{◌⊎◌, List, [], ◌∷◌, ◌++◌, ℕ}
+use Rattle.std.specs.Prelude.{◌⊎◌, [], ◌∷◌, ◌++◌, ℕ}
 use Rattle.std.proofs.Common.{inl, inr}
 use Rattle.questions.specs.Questions.{Questions, AllYes, FirstNo}
 

@@ -1,9 +1,8 @@
 -- The number that stands for a list of questions: 0, or that of the first no.
 -- Assumes nothing.
-use Rattle.std.specs.Prelude.{◌≡◌, ◌⊎◌, ◌++◌, ℕ}
+use Rattle.std.specs.Prelude.{◌≡◌, ◌⊎◌, ℕ}
 use Rattle.std.proofs.Common.{inl, inr}
 use Rattle.questions.specs.Questions.{Questions, AllYes, FirstNo}
-use Rattle.questions.specs.Joined.{no_before, no_after, all_all}
 
 -- 0 where all are answered with yes, else the number of the first no
 abbrev pub Judged : Questions → ℕ → Type 0

@@ -1,7 +1,7 @@
 -- A question by its number: what it asks, that it is answered with yes where all are, and that it is the first no where those before it are answered with yes.
 -- A question that joins a list elsewhere leaves what is said so as it is.
 -- Assumes nothing.
-use Rattle.std.specs.Prelude.{◌≡◌, refl, Bool, true, false, cond, not, List, [], ◌∷◌, ℕ, T, eqb}
+use Rattle.std.specs.Prelude.{◌≡◌, refl, Bool, true, false, cond, not, [], ◌∷◌, ℕ, T, eqb}
 use Rattle.std.proofs.lemmas.Bool.{false≢true}
 use Rattle.std.proofs.Common.{inl, inr, T_not, eqb-true, eq-eqb}
 use Rattle.questions.specs.Questions.{Questions, AllYes, FirstNo}

@@ -9,25 +9,7 @@ use Rattle.ring.specs.Ring
 use Rattle.ring.specs.Ring.{CRing}
 use Rattle.ring.specs.Identity.{solve2, solve4}
 use Rattle.ring.specs.Identity.Ex.{:0, ◌:+◌, ◌:*◌}
-use Rattle.series.specs.Series.{
-  Seq,
-  Series,
-  tail,
-  head_then,
-  zeros,
-  const,
-  sums,
-  sum,
-  sum_suc,
-  sum_same,
-  conv,
-  conv_zero,
-  conv_suc,
-  conv_sum,
-  conv_const,
-  conv_sums,
-  conv_zeros,
-}
+use Rattle.series.specs.Series.{Seq, Series, tail, head_then, zeros, const, sums, sum, sum_suc, sum_same, conv, conv_zero, conv_suc, conv_sum, conv_const, conv_zeros}
 use Rattle.series.specs.Degree.{Below}
 use Rattle.series.specs.Reversal.{shift, shift_low, shift_at, conv_shift}
 

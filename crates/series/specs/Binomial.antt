@@ -3,7 +3,7 @@
 use Rattle.std.specs.Prelude.{◌≡◌, ◌≢◌}
 use Rattle.std.proofs.Math.Path.{refl, sym, ap}
 use Rattle.std.proofs.Common.{◌∙◌, ap₂, subst, arith}
-use Prim.Native.Nat.{ℕ, zero, suc, ◌+◌, ◌*◌}
+use Prim.Native.Nat.{ℕ, zero, suc, ◌+◌}
 use Rattle.ring.specs.Ring
 use Rattle.ring.specs.Ring.{CRing, cast, cast_suc, pow, pow-zero, pow-suc}
 use Rattle.ring.specs.Identity.{solve1, solve2, solve3, solve4}

@@ -1,7 +1,7 @@
 -- Fermat's little theorem for a prime known only at run time: xᵖ = x in ℤ/p, and so x^(p − 2) is the inverse of a nonzero x.
 -- (1 + x)ᵖ = 1 + xᵖ wherever p = 0 and the numbers below p have inverses; the rest is induction on x.
 -- Assumes nothing.
-use Rattle.std.specs.Prelude.{◌≡◌, refl, ◌⊎◌, ◌≢◌, ℕ, zero, suc, ◌+◌, ◌-◌, ◌<◌, ◌≤◌}
+use Rattle.std.specs.Prelude.{◌≡◌, refl, ◌⊎◌, ◌≢◌, ℕ, zero, suc, ◌-◌, ◌<◌}
 use Rattle.std.proofs.Math.Path.{sym, ap}
 use Rattle.std.proofs.Common.{◌∙◌, subst, inl, inr, arith}
 use Rattle.std.proofs.Math.Nat as N
@@ -12,7 +12,7 @@ use Rattle.ring.specs.Identity.{solve1, solve3}
 use Rattle.ring.specs.Identity.Ex.{:0, :1, ◌:+◌, ◌:*◌}
 use Rattle.ring.specs.Field.{Inverse, unit_cancel}
 use Rattle.series.specs.Series.{Series, Seq, sums, const}
-use Rattle.series.specs.Degree.{Below, const_below}
+use Rattle.series.specs.Degree.{const_below}
 use Rattle.series.specs.Indeterminate.{ind}
 use Rattle.series.specs.Value.{value, value_same, value_sums}
 use Rattle.series.specs.Binomial.{binomial, binomial_zero, binomial_monic, binomial_value, absorb, monic_power, value_power, ind_monic, ind_value, ind_power}

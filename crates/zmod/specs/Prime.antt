@@ -2,15 +2,14 @@
 -- only if a factor is, and so Euclid's lemma.
 -- The inverse of a is found from that of r = p % a, as −(p / a) · r⁻¹: a well-founded descent, with no greatest common divisor.
 -- Assumes nothing.
-use Rattle.std.specs.Prelude.{◌≡◌, refl, ◌⊎◌, ◌≢◌, ℕ, zero, suc, ◌+◌, ◌*◌, ◌-◌, ◌<◌, ◌≤◌, ◌%◌, ◌/◌}
+use Rattle.std.specs.Prelude.{◌≡◌, ◌⊎◌, ◌≢◌, ℕ, zero, suc, ◌*◌, ◌<◌, ◌≤◌, ◌%◌, ◌/◌}
 use Rattle.std.proofs.Common.{sym, ◌∙◌, ap, ap₂, subst, inl, inr, arith}
 use Rattle.std.specs.Int.{◌∣◌}
 use Rattle.std.proofs.Math.Nat as N
 use Rattle.std.proofs.Math.Decide.{dec_le}
-use Rattle.ring.specs.Ring
 use Rattle.ring.specs.Ring.{CRing, cast}
 use Rattle.ring.specs.Identity.{solve2, solve4}
-use Rattle.ring.specs.Identity.Ex.{:0, :1, ◌:+◌, ◌:-◌, ◌:*◌, :-◌}
+use Rattle.ring.specs.Identity.Ex.{:0, ◌:+◌, ◌:-◌, ◌:*◌, :-◌}
 use Rattle.ring.specs.Field.{Inverse, Field, unit_cancel}
 use Rattle.zmod.specs.Zmod.{
   Elt,

@@ -1,6 +1,6 @@
 -- `barrett::remainders` meets its contract. The invariant: the words before i are residues. The measure is what is left.
 -- Assumes nothing.
-use Rattle.std.proofs.Common.{arith, length, length-set, rules, sym, ◌-◌, ◌<◌}
+use Rattle.std.proofs.Common.{arith, length, length-set, rules, sym, ◌<◌}
 use Rattle.slices.specs.Filling.{filled_none, filled_more}
 use Rattle.zmod.specs.Residues.{poly, poly_at, residue_same, residues_filled}
 use Rattle.barrett.specs.Modulus.{prepared_positive}

@@ -1,5 +1,5 @@
 -- `evaluation::dot` meets its contract. The invariant: s is the sum of the products passed. Assumes nothing.
-use Rattle.std.proofs.Common.{ap, arith, get_or, length, rules, ◌*◌, ◌+◌, ◌-◌, ◌∙◌, ◌≡◌, ◌≤◌}
+use Rattle.std.proofs.Common.{ap, arith, get_or, length, rules, ◌*◌, ◌+◌, ◌∙◌, ◌≡◌, ◌≤◌}
 use Rattle.zmod.specs.Zmod.{Zmod}
 use Rattle.zmod.specs.Residues.{poly}
 use Rattle.evaluation.specs.Tables.{weighed}

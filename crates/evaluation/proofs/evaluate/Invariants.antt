@@ -1,4 +1,4 @@
-use Rattle.std.proofs.Common.{length, ◌-◌, ◌<◌, ◌≤◌}
+use Rattle.std.proofs.Common.{length, ◌<◌, ◌≤◌}
 use Rattle.zmod.specs.Zmod.{Elt}
 use Rattle.zmod.specs.Residues.{poly}
 use Rattle.evaluation.specs.Tables.{Tables}

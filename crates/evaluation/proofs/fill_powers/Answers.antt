@@ -1,5 +1,5 @@
 -- `evaluation::fill_powers` meets its contract. The invariant: the powers before i stand in the table. Assumes nothing.
-use Rattle.std.proofs.Common.{arith, length, length-set, rules, ◌-◌, ◌<◌}
+use Rattle.std.proofs.Common.{arith, length, length-set, rules, ◌<◌}
 use Rattle.ring.specs.Ring.{pow}
 use Rattle.slices.specs.Filling.{filled_none, filled_more}
 use Rattle.zmod.specs.Zmod.{Zmod, mk}

@@ -1,5 +1,5 @@
 -- `evaluation::fill_slopes` meets its contract. The invariant: the slopes before i stand in the table. Assumes nothing.
-use Rattle.std.proofs.Common.{arith, get_or, length, length-set, rules, ◌-◌, ◌<◌, ◌∙◌}
+use Rattle.std.proofs.Common.{arith, get_or, length, length-set, rules, ◌<◌, ◌∙◌}
 use Rattle.slices.specs.Filling.{filled_none, filled_more}
 use Rattle.zmod.specs.Residues.{poly_at}
 use Rattle.evaluation.proofs.Words.{Slope, slope_at, slopes_low}

@@ -25,30 +25,29 @@ overflow_sub-q c =
 pub overflow_cast-i : goal.overflow_cast-i
 overflow_cast-i c =
     let earlier : c.args.p % c.args.k < c.args.k =
-        mod-lt c.args.p (omega arith)
+    mod-lt c.args.p (omega arith)
     in
- omega (arith, earlier)
+    omega (arith, earlier)
 
 pub offset_bounds-table-i : goal.offset_bounds-table-i
 offset_bounds-table-i c =
     let earlier : c.args.p % c.args.k < c.args.k =
-        mod-lt c.args.p (omega arith)
+    mod-lt c.args.p (omega arith)
     in
- omega (arith, earlier)
+    omega (arith, earlier)
 
 pub bounds-table-i : goal.bounds-table-i
 bounds-table-i c =
     let earlier : c.args.p % c.args.k < c.args.k =
-        mod-lt c.args.p (omega arith)
+    mod-lt c.args.p (omega arith)
     in
- omega (arith, earlier)
+    omega (arith, earlier)
 
 pub returns : goal.returns
 returns c =
     let earlier : c.args.p % c.args.k < c.args.k =
-        mod-lt c.args.p (omega arith)
+    mod-lt c.args.p (omega arith)
     in
-
     let k = c.args.k in
     let i = c.args.p % k in
     entry_high k (get_or c.args.table.now i 0) c.requires.prime c.if-k-lt2.false c.requires.k_lt_p.0

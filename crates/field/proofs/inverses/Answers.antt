@@ -1,6 +1,6 @@
 -- `field::inverses` meets its contract. The invariant: the table is filled up to k. The measure is n − k.
 -- Assumes nothing.
-use Rattle.std.proofs.Common.{arith, length, length-set, rules, ◌-◌, ◌<◌}
+use Rattle.std.proofs.Common.{arith, length, length-set, rules, ◌<◌}
 use Rattle.slices.specs.Filling.{filled_none, filled_more}
 use Rattle.field.specs.Inverse.{Entry}
 use Rattle.field.proofs.Table.{whole}

@@ -1,6 +1,6 @@
 -- `poly::add_product` meets its contract. The invariant: the coefficients before k are stored, the words from k on are as they were.
 -- Assumes nothing.
-use Rattle.std.proofs.Common.{arith, get_or, rules, ◌-◌, ◌≡◌}
+use Rattle.std.proofs.Common.{arith, get_or, rules, ◌≡◌}
 use Rattle.slices.specs.Stored.{stored_none, stored_more, word_kept}
 use Rattle.poly.specs.Stored.{stored_all}
 use Rattle.poly.proofs.Laws.{add_product_turn}

@@ -1,7 +1,7 @@
 -- `poly::add_scaled` meets its contract. The invariant: the coefficients before k are stored, the words from k on are as they were; past the end
 -- of a they stay.
 -- Assumes nothing.
-use Rattle.std.proofs.Common.{arith, get_or, rules, ◌-◌}
+use Rattle.std.proofs.Common.{arith, get_or, rules}
 use Rattle.slices.specs.Stored.{stored_none, stored_more, word_kept}
 use Rattle.poly.specs.Stored.{stored_front}
 use Rattle.poly.proofs.Laws.{add_nothing, add_scaled_turn}

@@ -1,5 +1,5 @@
 -- `poly::clear` meets its contract. The invariant: the words before k are 0. Assumes nothing.
-use Rattle.std.proofs.Common.{arith, ext_get_or, length, refl, replicate, rules, sym, ◌-◌, ◌∙◌}
+use Rattle.std.proofs.Common.{arith, ext_get_or, length, refl, replicate, rules, sym, ◌∙◌}
 use lib.ListN.{length-replicate, get_or-replicate}
 use Rattle.slices.specs.Stored.{stored_none, stored_more}
 use Rattle.poly.proofs.clear.Goals as goal

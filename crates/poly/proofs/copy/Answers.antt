@@ -1,5 +1,5 @@
 -- `poly::copy` meets its contract. The invariant: the words before k are those of a. Assumes nothing.
-use Rattle.std.proofs.Common.{ap, arith, get_or, rules, sym, ◌-◌, ◌∙◌, ◌≡◌}
+use Rattle.std.proofs.Common.{ap, arith, get_or, rules, sym, ◌∙◌, ◌≡◌}
 use Rattle.zmod.specs.Zmod.{mk}
 use Rattle.zmod.specs.Residues.{poly, poly_at}
 use Rattle.slices.specs.Stored.{stored_none, stored_more}

@@ -1,5 +1,5 @@
 -- `poly::equal` meets its contract. The invariant: the words before i are equal. Assumes nothing.
-use Rattle.std.proofs.Common.{arith, below_more, below_none, get_or, refl, rules, sym, ◌-◌, ◌∙◌, ◌≡◌}
+use Rattle.std.proofs.Common.{arith, below_more, below_none, get_or, refl, rules, sym, ◌∙◌, ◌≡◌}
 use mathlib.Core.Bool.{false≢true}
 use Rattle.poly.proofs.Laws.{same_words, same_word}
 use Rattle.poly.proofs.equal.Goals as goal

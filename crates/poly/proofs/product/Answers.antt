@@ -1,5 +1,5 @@
 -- `poly::product` meets its contract. The invariant: the coefficients before n are stored. Assumes nothing.
-use Rattle.std.proofs.Common.{rules, ◌-◌}
+use Rattle.std.proofs.Common.{rules}
 use Rattle.slices.specs.Stored.{stored_none, stored_more}
 use Rattle.poly.specs.Stored.{stored_all}
 use Rattle.poly.proofs.Laws.{product_turn}

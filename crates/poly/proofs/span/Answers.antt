@@ -1,5 +1,5 @@
 -- `poly::span` meets its contract. The invariant: s is the residue of `start` and the products before i. Assumes nothing.
-use Rattle.std.proofs.Common.{ap, arith, rules, ◌+◌, ◌-◌, ◌∙◌}
+use Rattle.std.proofs.Common.{ap, arith, rules, ◌+◌, ◌∙◌}
 use Rattle.zmod.specs.Zmod.{mk, plus_comm}
 use Rattle.poly.proofs.Sums.{reduced_mono, span_turn}
 use Rattle.poly.proofs.span.Goals as goal

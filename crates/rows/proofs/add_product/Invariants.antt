@@ -1,5 +1,4 @@
 use Rattle.std.proofs.Common.{length, ◌+◌, ◌-◌, ◌<◌, ◌≡◌}
-use native.Mathlib.Nat as N
 use Rattle.rows.specs.Product.{ProductAdded}
 use Rattle.rows.proofs.add_product.Given as goal
 

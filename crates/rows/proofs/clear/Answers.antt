@@ -1,5 +1,5 @@
 -- `rows::clear` meets its contract. Assumes nothing.
-use Rattle.std.proofs.Common.{arith, ext_get_or, length, refl, replicate, rules, sym, ◌-◌, ◌∙◌}
+use Rattle.std.proofs.Common.{arith, ext_get_or, length, refl, replicate, rules, sym, ◌∙◌}
 use lib.ListN.{length-replicate, get_or-replicate}
 use Rattle.slices.specs.Stored.{stored_none, stored_more}
 use Rattle.rows.proofs.clear.Goals as goal

@@ -1,5 +1,5 @@
 -- `rows::double` meets its contract. Assumes nothing.
-use Rattle.std.proofs.Common.{ap, arith, length, length-set, refl, rules, subst, ◌*◌, ◌-◌, ◌≡◌}
+use Rattle.std.proofs.Common.{ap, arith, length, length-set, refl, rules, subst, ◌*◌, ◌≡◌}
 use Rattle.rows.specs.Rows.{Twice, twice_none, twice_more}
 use Rattle.rows.proofs.double.Goals as goal
 

@@ -1,5 +1,5 @@
 -- `rows::four` meets its contract. Assumes nothing.
-use Rattle.std.proofs.Common.{arith, rules, ◌-◌}
+use Rattle.std.proofs.Common.{arith, rules}
 use Rattle.slices.specs.Stored.{stored_none, stored_more, word_kept}
 use Rattle.rows.proofs.four.Goals as goal
 

@@ -1,5 +1,5 @@
 -- `rows::put_behind` meets its contract. The invariant: the words before k are stored. Assumes nothing.
-use Rattle.std.proofs.Common.{arith, length-set, refl, ◌-◌}
+use Rattle.std.proofs.Common.{arith, length-set, refl}
 use Rattle.slices.specs.Filling.{filled_none, filled_more}
 use Rattle.rows.specs.Product.{behind_all}
 use Rattle.rows.proofs.put_behind.Invariants.{Behind}

@@ -1,5 +1,5 @@
 -- `rows::square_turns` meets its contract. Assumes nothing.
-use Rattle.std.proofs.Common.{arith, length, refl, rules, ◌-◌}
+use Rattle.std.proofs.Common.{arith, length, refl, rules}
 use Rattle.rows.specs.Square.{added_none, added_more, added_end, added_all, turn_counts, turn_room, turn_below}
 use Rattle.rows.proofs.square_turns.Goals as goal
 

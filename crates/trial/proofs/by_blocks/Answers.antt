@@ -1,7 +1,7 @@
 -- `trial::by_blocks` meets its contract. The invariant: i is 171 and a whole number of blocks, and none of the first i entries divides n. The measure is
 -- what is left of the table.
 -- Assumes nothing.
-use Rattle.std.proofs.Common.{arith, get_or, ◌-◌, ◌<◌}
+use Rattle.std.proofs.Common.{arith, get_or, ◌<◌}
 use native.Mathlib.Nat as N
 use Rattle.questions.specs.Tests.{says_no, says_yes}
 use Rattle.zmod.specs.Remainder.{product_below}

@@ -1,5 +1,4 @@
 use Rattle.std.proofs.Common.{◌%◌, ◌-◌, ◌≡◌, ◌≤◌}
-use native.Mathlib.Nat as N
 use Rattle.trial.specs.Runs.{Missed}
 use Rattle.trial.proofs.by_blocks.Given as goal
 

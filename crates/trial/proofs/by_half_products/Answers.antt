@@ -1,6 +1,6 @@
 -- `trial::by_half_products` meets its contract. The invariant: what is found is that of the places before j. The measure is what is left of them.
 -- Assumes nothing.
-use Rattle.std.proofs.Common.{arith, subst, ◌-◌}
+use Rattle.std.proofs.Common.{arith, subst}
 use Rattle.trial.specs.Divisors.{Found}
 use Rattle.trial.specs.Divisors.Found.{none}
 use Rattle.trial.specs.Runs.{found_more, found_most, told_most}
