@@ -92,9 +92,10 @@ numerator-requires c =
     let over : Over (joint) c.modulus-m.result =
     record { prepared = c.modulus-m.ensures.1; same = same-p }
     in
-    subst
-    (λ (u : Values). (Ready u × HoldsG u c.composite.new.out × Over u c.modulus-m.result) × (length c.args.n.now ≡ 2 * half u + 2))
-    (sym (values_are)) ((ready, g_words, over), c.requires.g_len.1)
+    record {
+      ready = subst (λ (u : Values). Ready u × HoldsG u c.composite.new.out × Over u c.modulus-m.result) (sym (values_are)) (ready, g_words, over);
+      out_len = subst (λ (u : Values). length c.args.n.now ≡ 2 * half u + 2) (sym (values_are)) c.requires.g_len.1;
+    }
 
 pub finish-requires : goal.finish-requires
 finish-requires c =
@@ -137,30 +138,25 @@ finish-requires c =
     let n : List ℕ = c.numerator.new.out in
     let known = ready in
     let whole = whole_numerator (joint) known g n (g_words) (n-count) (n_is) in
-    subst
-    (λ (u : Values).
-    (Ready u × Over u c.modulus-m.result)
-    × ((HoldsG u g × R1 (Zmod u.p) (question u) (poly u.p g))
-    × ((HoldsN u n × (poly u.p n ≡ N (Zmod u.p) (question u) (poly u.p g)))
-    × (((true ≡ true) ↔ R3 (Zmod u.p) (question u) (poly u.p g) (poly u.p n)) × Room (length a.answer.now)))))
-    (sym (values_are)) (
-      (known, over),
-      (
-        (
-          g_words,
-          (both_meets a.v a.w a.g1.now a.n1.now a.g2.now c.requires.joined c.modulus-m.result.p (same-p) g (g-count)
-              c.composite.ensures).r1,
-        ),
-        (
-          (holds_n (joint) known g n (g_words) (n-count) (n_is), whole),
-          (
-            third_rule a.v a.w a.g1.now a.n1.now a.g2.now c.requires.joined c.modulus-m.result.p (same-p) g (g-count)
-                c.composite.ensures n whole,
-            c.requires.g_len.2,
-          ),
-        ),
-      ),
-    )
+    let back = sym values_are in record {
+      ready = subst (λ (u : Values). Ready u × Over u c.modulus-m.result) back (known, over);
+      holds_g =
+          subst (λ (u : Values). HoldsG u g × R1 (Zmod u.p) (question u) (poly u.p g)) back (
+            g_words,
+            (both_meets a.v a.w a.g1.now a.n1.now a.g2.now c.requires.joined c.modulus-m.result.p (same-p) g (g-count)
+                c.composite.ensures).r1,
+          );
+      holds_n =
+          subst (λ (u : Values). HoldsN u n × (poly u.p n ≡ N (Zmod u.p) (question u) (poly u.p g))) back (
+            holds_n (joint) known g n (g_words) (n-count) (n_is),
+            whole,
+          );
+      variant =
+          subst (λ (u : Values). (true ≡ true) ↔ R3 (Zmod u.p) (question u) (poly u.p g) (poly u.p n)) back
+          (third_rule a.v a.w a.g1.now a.n1.now a.g2.now c.requires.joined c.modulus-m.result.p (same-p) g (g-count)
+          c.composite.ensures n whole);
+      room = c.requires.g_len.2;
+    }
 
 pub returns : goal.returns
 returns c =

@@ -71,11 +71,18 @@ compose_in-requires c =
     let half_is : c.half_degree-count.result ≡ half (composed c.args.v c.args.w) =
     c.half_degree-count.ensures.0 ∙ ap half c.composite_values.ensures
     in
+    let ready : Ready (composed c.args.v c.args.w) =
+    let a = c.args in
+    both_ready a.v a.w a.g1.now a.n1.now a.g2.now c.requires.joined
+    in
+    let small : c.half_degree-count.result ≤ 127 =
+    omega (arith, half_is, half_most _ (ready))
+    in
     record {
       joined = c.requires.joined;
       g_len = (
-        sym (slice_bounds-compose_in-end c.before.before) ∙ ap (λ d. d + 1) (half_is),
-        sym (slice_bounds-compose_in-end-2 c.before) ∙ omega (arith, ap (λ d. 2 * d + 2) (half_is)),
+        length-take-le _ _ (omega (arith, small)) ∙ ap (λ d. d + 1) (half_is),
+        length-take-le _ _ (omega (arith, small)) ∙ omega (arith, ap (λ d. 2 * d + 2) (half_is)),
         c.requires.room,
       );
     }
