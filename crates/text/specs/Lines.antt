@@ -1,6 +1,6 @@
 -- Laws of the lines: their lengths, the lines of words one after the other, and two lines computed.
 -- Assumes nothing.
-use Rattle.std.specs.Prelude.{◌≡◌, refl, List, [], ◌∷◌, ◌++◌, ℕ, zero, suc, ◌+◌, ◌*◌, ◌<◌, ◌≤◌, length, get_or, take}
+use Rattle.std.specs.Prelude.{◌≡◌, refl, List, [], ◌∷◌, ◌++◌, ℕ, ◌+◌, ◌*◌, ◌<◌, length, get_or, take}
 use Rattle.std.proofs.Common.{sym, ◌∙◌, ap, append_assoc, append-nil, add-one, arith, length-append, take-suc}
 use Rattle.text.specs.Text.{digits, decimal, decimal_in, hex_line, hex_lines, refused_line}
 use Rattle.text.specs.Decimal.{length_digits}

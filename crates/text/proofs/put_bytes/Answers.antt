@@ -1,5 +1,5 @@
 -- `text::put_bytes` meets its contract. The invariant: the first i bytes stand at the front. Assumes nothing.
-use Rattle.std.proofs.Common.{List, add-one, ap, arith, get_or, length, length-set, refl, rules, set, subst, sym, take, take-suc, take_all, ℕ, ◌+◌, ◌-◌, ◌∙◌, ◌≡◌}
+use Rattle.std.proofs.Common.{List, add-one, ap, arith, get_or, length, length-set, refl, rules, set, subst, sym, take, take-suc, take_all, ℕ, ◌+◌, ◌∙◌, ◌≡◌}
 use Rattle.text.specs.Fills.{Fills, fills_one}
 use Rattle.text.proofs.put_bytes.Goals as goal
 

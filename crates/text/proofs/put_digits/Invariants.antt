@@ -1,4 +1,4 @@
-use Rattle.std.proofs.Common.{drop, length, ◌++◌, ◌+◌, ◌-◌, ◌≡◌, ◌≤◌}
+use Rattle.std.proofs.Common.{drop, length, ◌++◌, ◌≡◌, ◌≤◌}
 use Rattle.text.specs.Text.{digits}
 use Rattle.text.proofs.put_digits.Given as goal
 

@@ -1,5 +1,5 @@
 -- `text::word_lines` meets its contract. The invariant: the lines of the first i words stand at the front. Assumes nothing.
-use Rattle.std.proofs.Common.{ap, arith, length, length-drop, length-take, refl, rules, take, take_all, ◌*◌, ◌++◌, ◌+◌, ◌-◌, ◌∙◌, ◌≡◌}
+use Rattle.std.proofs.Common.{ap, arith, length, length-drop, length-take, refl, rules, take, take_all, ◌*◌, ◌++◌, ◌-◌, ◌∙◌, ◌≡◌}
 use Rattle.text.specs.Text.{hex_line, hex_lines}
 use Rattle.text.specs.Fills.{fills_length, fills_as, fills_part}
 use Rattle.text.specs.Lines.{length_hex_line, hex_lines_more}
