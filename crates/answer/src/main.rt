@@ -4,16 +4,16 @@
 ghost use Rattle.printing.specs.Printing.{SolveText};
 
 // The one place that prints. What it asks has `main` proved to hand over nothing but the right text for its input.
-fn print(question: &[u8], text: &[u8])
+fn print(rt: &HostRuntime, question: &[u8], text: &[u8])
     requires { SolveText question.now text.now }
 {
-    console::write(text);
+    console::write(&mut rt.stdout(), text);
 }
 
-fn main() {
+fn main(rt: HostRuntime) {
     let mut bytes = [0u8; printing::INPUT];
-    let n = console::read(&mut bytes);
+    let n = console::read(&mut rt.stdin(), &mut bytes);
     let mut text = [0u8; printing::ROOM];
     let count = printing::solve(&bytes[..n], &mut text);
-    print(&bytes[..n], &text[..count]);
+    print(&rt, &bytes[..n], &text[..count]);
 }

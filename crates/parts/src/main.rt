@@ -49,15 +49,16 @@ fn lines(part: &[u32]) -> [u8; 36]
 }
 
 // The one place that prints. What it asks has `main` proved to hand over nothing but the lines of the marked parts, in this order.
-fn print(linear: &[u8], first: &[u8], second: &[u8])
+fn print(rt: &HostRuntime, linear: &[u8], first: &[u8], second: &[u8])
     requires { PartsText linear.now first.now second.now }
 {
-    console::write(linear);
-    console::write(first);
-    console::write(second);
+    let mut output = rt.stdout();
+    console::write(&mut output, linear);
+    console::write(&mut output, first);
+    console::write(&mut output, second);
 }
 
-fn main() {
+fn main(rt: HostRuntime) {
     let v = Values {
         p: 1009,
         a: 1,
@@ -103,5 +104,5 @@ fn main() {
     let one = lines(&linear);
     let two = lines(&first);
     let three = lines(&second);
-    print(&one, &two, &three);
+    print(&rt, &one, &two, &three);
 }
