@@ -49,24 +49,29 @@ all: proved command
 ## proved           the proved library and programs, built with rt where they are missing
 proved: library programs
 
-# What is there is taken as it is. What is missing is built, but only at rt's own place: a LIBRARY or BIN of the caller's choice has to be there.
+# rt builds a crate in the crate's folder: the library under the crate's name, and a program as it runs it, here on no input.
+build-library = (cd crates/sagepliers_c && $(RT) lib) && mkdir -p target/staticlib && \
+	cp crates/sagepliers_c/out/libsagepliers_c.a target/staticlib/libsagepliers.a
+build-program = (cd crates/$$name && $(RT) run </dev/null >/dev/null) && mkdir -p target/bin && cp crates/$$name/out/$$name target/bin/$$name
+
+# What is there is taken as it is. What is missing is built, but only in target/: a LIBRARY or BIN of the caller's choice has to be there.
 library:
 	@if [ -f "$(LIBRARY)" ]; then :; \
-	elif [ "$(origin LIBRARY)" = file ]; then set -x; $(RT) staticlib sagepliers; \
+	elif [ "$(origin LIBRARY)" = file ]; then set -x; $(build-library); \
 	else echo "make: LIBRARY: there is no $(LIBRARY)" >&2; exit 1; fi
 
-# A directory of programs as rt makes it, or as make install does, with sagepliers- in front of the names.
+# A directory of programs as they are built here, or as make install does it, with sagepliers- in front of the names.
 programs:
 	@for name in $(PROGRAMS); do \
 		if [ -f "$(BIN)/$$name" ] || [ -f "$(BIN)/sagepliers-$$name" ]; then :; \
-		elif [ "$(origin BIN)" = file ]; then (set -x; $(RT) check $(PROGRAMS)) || exit 1; \
+		elif [ "$(origin BIN)" = file ]; then (set -x; $(build-program)) || exit 1; \
 		else echo "make: BIN: there is no $(BIN)/$$name" >&2; exit 1; fi; \
 	done
 
 ## rebuild          the same, built with rt in any case; rt proves again what has changed
 rebuild:
-	$(RT) staticlib sagepliers
-	$(RT) check $(PROGRAMS)
+	$(build-library)
+	for name in $(PROGRAMS); do $(build-program) || exit 1; done
 
 ## ---- the command and the libraries around the proved archive
 

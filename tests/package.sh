@@ -107,34 +107,42 @@ for left in "$work/no" relative; do
 done
 
 step "make builds with rt what is missing, and only that"
-# A copy without target/, and in place of rt a script that notes its words and makes empty files where rt would build. The command is not built of these.
+# A copy without what is built, and in place of rt a script that notes the crate and its words and makes empty files where rt would build. The command is
+# not built of these.
 mkdir "$work/copy"
 cp -R Makefile TOOLCHAIN LICENSE CHANGELOG.md sagepliers.pc.in include host tools docs examples "$work/copy"
+for name in sagepliers_c answer kernel verify push; do mkdir -p "$work/copy/crates/$name"; done
 cat >"$work/copy/rt" <<'SH'
 #!/bin/sh
-echo "$*" >>calls
-case $* in
-"staticlib sagepliers") mkdir -p target/staticlib && : >target/staticlib/libsagepliers.a ;;
-"check answer kernel verify push") mkdir -p target/bin && for name in answer kernel verify push; do : >target/bin/$name; done ;;
+crate=${PWD##*/}
+echo "$crate: $*" >>../../calls
+case "$crate: $*" in
+"sagepliers_c: lib") mkdir -p out && : >out/libsagepliers_c.a ;;
+"answer: run" | "kernel: run" | "verify: run" | "push: run") mkdir -p out && : >"out/$crate" ;;
 *) exit 1 ;;
 esac
 SH
 chmod +x "$work/copy/rt"
 (
     cd "$work/copy"
+    rt=$(pwd)/rt
     make RT=false PREFIX="$work/no" install >log 2>&1 && fail "make installs though rt failed"
     [ ! -e "$work/no/lib" ] || fail "make installed though rt failed"
-    make RT=./rt proved >log 2>&1 || { cat log; fail "make proved"; }
-    printf '%s\n' 'staticlib sagepliers' 'check answer kernel verify push' >wanted
+    make RT="$rt" proved >log 2>&1 || { cat log; fail "make proved"; }
+    printf '%s\n' 'sagepliers_c: lib' 'answer: run' 'kernel: run' 'verify: run' 'push: run' >all
+    cp all wanted
     diff wanted calls || fail "make called rt with other words"
-    make RT=./rt proved >log 2>&1 || { cat log; fail "make proved, once more"; }
+    for built in staticlib/libsagepliers.a bin/answer bin/kernel bin/verify bin/push; do
+        [ -f "target/$built" ] || fail "make proved has not made target/$built"
+    done
+    make RT="$rt" proved >log 2>&1 || { cat log; fail "make proved, once more"; }
     diff wanted calls || fail "make built again what is built"
     rm target/bin/verify
-    make RT=./rt proved >log 2>&1 || { cat log; fail "make proved, with a program missing"; }
-    echo 'check answer kernel verify push' >>wanted
-    diff wanted calls || fail "make did not build the missing program"
-    make RT=./rt rebuild >log 2>&1 || { cat log; fail "make rebuild"; }
-    printf '%s\n' 'staticlib sagepliers' 'check answer kernel verify push' >>wanted
+    make RT="$rt" proved >log 2>&1 || { cat log; fail "make proved, with a program missing"; }
+    echo 'verify: run' >>wanted
+    diff wanted calls || fail "make did not build the missing program alone"
+    make RT="$rt" rebuild >log 2>&1 || { cat log; fail "make rebuild"; }
+    cat all >>wanted
     diff wanted calls || fail "make rebuild did not ask rt"
 ) || exit 1
 

@@ -1,4 +1,4 @@
-// The C entries: the six services on bytes and words, one thin function each. `include/sagepliers.h` documents them.
+// The entries: the six services on bytes and words, one thin function each. `sagepliers_c` exports them to C, and `include/sagepliers.h` documents them.
 #![tactic(auto)]
 
 pub mod files;
@@ -8,15 +8,13 @@ ghost use Rattle.sagepliers.specs.Entry.{CheckNumber, PushNumber, SolveNumber, K
 pub use encoding::point_number;
 use services::{Image, Named};
 
-#[unsafe(no_mangle)]
-pub extern "C" fn sagepliers_check(bytes: &[u8]) -> u32
+pub fn sagepliers_check(bytes: &[u8]) -> u32
     ensures { CheckNumber bytes.now result }
 {
     encoding::verdict_number(files::check(bytes))
 }
 
-#[unsafe(no_mangle)]
-pub extern "C" fn sagepliers_push(bytes: &[u8], point: u64) -> u64
+pub fn sagepliers_push(bytes: &[u8], point: u64) -> u64
     ensures { PushNumber bytes.now point result }
 {
     let image = files::push(bytes, point);
@@ -29,29 +27,25 @@ pub extern "C" fn sagepliers_push(bytes: &[u8], point: u64) -> u64
     encoding::point_number(u, v)
 }
 
-#[unsafe(no_mangle)]
-pub extern "C" fn sagepliers_solve(sheet: &[u32], answer: &mut [u32]) -> u64
+pub fn sagepliers_solve(sheet: &[u32], answer: &mut [u32]) -> u64
     ensures { SolveNumber sheet.now answer.old answer.new result }
 {
     encoding::written_number(services::solve(sheet, answer))
 }
 
-#[unsafe(no_mangle)]
-pub extern "C" fn sagepliers_kernel(sheet: &[u32], answer: &mut [u32]) -> u64
+pub fn sagepliers_kernel(sheet: &[u32], answer: &mut [u32]) -> u64
     ensures { KernelNumber sheet.now answer.old answer.new result }
 {
     encoding::written_number(services::kernel(sheet, answer))
 }
 
-#[unsafe(no_mangle)]
-pub extern "C" fn sagepliers_compose(first: &[u32], second: &[u32], answer: &mut [u32]) -> u64
+pub fn sagepliers_compose(first: &[u32], second: &[u32], answer: &mut [u32]) -> u64
     ensures { ComposeNumber first.now second.now answer.old answer.new result }
 {
     encoding::written_number(services::compose(first, second, answer))
 }
 
-#[unsafe(no_mangle)]
-pub extern "C" fn sagepliers_name(p: u32, a: u32, b: u32) -> u64
+pub fn sagepliers_name(p: u32, a: u32, b: u32) -> u64
     ensures { NameNumber p a b result }
 {
     let name = services::name(p, a, b);
