@@ -1,9 +1,11 @@
--- No more bytes are taken than there are. The measure is the count of those that are left.
-use Rattle.std.proofs.Common.{length, ◌-◌, ◌≤◌}
+-- The bytes that were taken are the first ones, no more than there are. The measure is the count of those that are left.
+use Rattle.std.proofs.Common.{length, take, ◌-◌, ◌≤◌}
+use Rattle.std.specs.Io.KnownBytes.{Appends}
 use Rattle.console.proofs.write.Given as goal
 
 abbrev pub invariant-loop-done : goal.invariant-loop-done
-invariant-loop-done g l = l.done ≤ length l.bytes
+invariant-loop-done g l =
+    (l.done ≤ length l.bytes) × Appends (g.W.Write.contents l.initial.output) (g.W.Write.contents l.output) (take l.done l.bytes)
 
 abbrev pub decreases-loop-done : goal.decreases-loop-done
 decreases-loop-done g l = length l.bytes - l.done
