@@ -1,0 +1,24 @@
+-- `printing::kernel` meets its contract. Assumes nothing.
+use Rattle.std.proofs.Common.{arith, length, refl, rules, subst, sym, ◌≡◌}
+use Rattle.sheet.specs.Form.{most_words}
+use Rattle.printing.specs.Printing.{blank, KernelText}
+use Rattle.printing.specs.Room.{Within, kernel_within}
+use Rattle.printing.proofs.Printed.{printed}
+use Rattle.printing.proofs.kernel.Goals as goal
+
+pub written_text-requires : goal.written_text-requires
+written_text-requires c =
+    let call = c.kernel-written in
+    let words : most_words ≡ length call.new.answer = sym call.auto.answer in (
+      subst (Within call.result) words
+          (kernel_within c.args.bytes.now blank call.new.answer call.result call.ensures),
+      omega (arith, words),
+      search rules,
+    )
+
+pub returns : goal.returns
+returns c =
+    let call = c.kernel-written in
+    printed (KernelText c.args.bytes.now)
+    c.written_text.ensures
+    (record { after = call.new.answer; answer = call.result; right = call.ensures; text_is = refl })
