@@ -1,19 +1,10 @@
 -- An image that is neither an affine point nor a refusal is infinity.
 -- Assumes nothing.
-use mathlib.Core.Path.{◌≡◌, refl}
-use mathlib.Core.Logic.{inl, inr}
-use mathlib.Core.List.{[], ◌∷◌}
-use Prim.Native.Nat.{◌^◌}
-use native.Mathlib.Omega.{arith}
-use types.Run.{OneOf}
-use denote.Enum.Declared.{tag_of}
-use Rattle.promises.specs.contracts.Image as declared
+use Rattle.std.specs.Prelude.{◌≡◌, refl, ℕ}
 use Rattle.promises.specs.declared.Image.{Image}
 use Rattle.promises.specs.declared.Image.TheVariants.{Affine, Infinity, Refused}
 
-pub is_infinity : (i : Image) → OneOf (1 ∷ 2 ∷ []) (tag_of declared.the_type i) → OneOf (0 ∷ 1 ∷ []) (tag_of declared.the_type i) → Infinity ≡ i
-is_infinity (Affine u v) (inl e) h = absurd (omega (arith, e))
-is_infinity (Affine u v) (inr e) h = absurd (omega (arith, e))
+pub is_infinity : (i : Image) → ((u v : ℕ) → i ≡ Affine u v → ⊥) → ((n : ℕ) → i ≡ Refused n → ⊥) → Infinity ≡ i
+is_infinity (Affine u v) h k = absurd (h u v refl)
 is_infinity Infinity h k = refl
-is_infinity (Refused n) h (inl e) = absurd (omega (arith, e))
-is_infinity (Refused n) h (inr e) = absurd (omega (arith, e))
+is_infinity (Refused n) h k = absurd (k n refl)

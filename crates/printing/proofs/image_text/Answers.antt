@@ -9,7 +9,7 @@ use Rattle.printing.proofs.image_text.Goals as goal
 pub returns-in_default-image : goal.returns-in_default-image
 returns-in_default-image c =
     fills_as c.number_line.ensures
-    (ap image_text (is_infinity c.args.image c.in_default.in_default-own.keys2 c.in_default-image.in_default-image-own.keys2)) refl
+    (ap image_text (is_infinity c.args.image c.in_default.not-Affine c.in_default-image.not-Refused)) refl
 
 pub returns-in_default : goal.returns-in_default
 returns-in_default c =

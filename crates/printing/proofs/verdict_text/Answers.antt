@@ -6,7 +6,7 @@ use Rattle.printing.proofs.verdict_text.Goals as goal
 
 pub returns-in-Passes : goal.returns-in-Passes
 returns-in-Passes c =
-    fills_as c.Passes-line.ensures (ap verdict_text (sym c.in-Passes.is)) refl
+    fills_as c.passes_line.ensures (ap verdict_text (sym c.in-Passes.is)) refl
 
 pub returns-in-Refused : goal.returns-in-Refused
 returns-in-Refused c =
