@@ -16,8 +16,8 @@ use Rattle.zmod.specs.Residues.{Residue, poly, poly_at, poly_past}
 use Rattle.isogeny.specs.Rules.{Question, ℓ, R1, Meets}
 use Rattle.isogeny.specs.Expansion.{from_sums, expansion, power_sums_of}
 use Rattle.isogeny.specs.Solution.{Computed, Coefficients}
-use Rattle.isogeny.specs.Theorems.{solution_R1, is_solution}
-use Rattle.isogeny.specs.Proof.Sums.{sums_unique}
+use Rattle.isogeny.proofs.Theorems.{solution_R1, is_solution}
+use Rattle.isogeny.proofs.Sums.{sums_unique}
 use Rattle.sheet.specs.declared.Values.{Values}
 use Rattle.sheet.specs.Values.{half, question}
 use Rattle.candidate.specs.Candidate.{Candidate}

@@ -11,7 +11,7 @@ use Rattle.isogeny.specs.Curve.{Nonsingular}
 use Rattle.isogeny.specs.Rules.{Question, Meets}
 use Rattle.reconstruction.specs.Approximant.{Fits}
 use Rattle.kernel_sum.specs.WithoutSum.{with_sum, Expands, Found}
-use Rattle.kernel_sum.specs.Theorems as Theorems
+use Rattle.kernel_sum.proofs.Theorems as Theorems
 use Rattle.sheet.specs.declared.Values.{Values}
 use Rattle.sheet.specs.Values.{half, question}
 use Rattle.sheet.specs.Ready.{Ready, half_least, degree_half}

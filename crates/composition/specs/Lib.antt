@@ -3,6 +3,3 @@ pub mod Homogenized
 pub mod SubstitutionAt
 pub mod SubstitutionReversed
 pub mod Composite
-pub mod Theorems
-pub mod Examples
-pub mod Proof

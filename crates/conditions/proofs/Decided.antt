@@ -16,8 +16,8 @@ use Rattle.zmod.specs.Zmod.{Elt, Zmod, mk, plus, minus, times, cast_mk}
 use Rattle.zmod.specs.Residues.{Residue, poly, poly_at, Residues, residue_same, residue_unique}
 use Rattle.isogeny.specs.Rules.{Question, ℓ, N, R1, R3}
 use Rattle.isogeny.specs.Expansion.{Short, Recurs, expansion}
-use Rattle.isogeny.specs.Proof.Terms.{expansion_same, short_same}
-use Rattle.isogeny.specs.Theorems.{fast}
+use Rattle.isogeny.proofs.Terms.{expansion_same, short_same}
+use Rattle.isogeny.proofs.Theorems.{fast}
 use Rattle.expansion.specs.Begun.{ShortTo, short_to_same, Begun, sums_of, terms_of}
 use Rattle.sheet.specs.declared.Values.{Values}
 use Rattle.sheet.specs.Values.{half, question}

@@ -12,7 +12,7 @@ use Rattle.zmod.specs.Zmod.{Zmod, mk, plus, minus, plus_zero}
 use Rattle.zmod.specs.Prime.{Prime}
 use Rattle.zmod.specs.Residues.{Residue, Reduced, poly, poly_at, poly_past}
 use Rattle.roots.specs.Rational.{rational_roots}
-use Rattle.roots.specs.Theorems.{roots_modulo, roots_most, roots_linear}
+use Rattle.roots.proofs.Theorems.{roots_modulo, roots_most, roots_linear}
 use Rattle.modulo.specs.Modulo.{Divisor, RemainderOf}
 use Rattle.modulo.specs.Power.{x_to}
 use Rattle.euclid.specs.Words.{Leads, monic_leads}

@@ -1,18 +1,16 @@
--- Greatest common divisors: over a field, Euclid's algorithm gives a monic common divisor c = u a + v b, which every common divisor divides.
+-- Greatest common divisors: a monic common divisor c = u a + v b, which every common divisor divides. (Over a field Euclid's algorithm gives one: `proofs/Gcd`.)
 -- Assumes nothing.
-use Rattle.std.specs.Prelude.{◌≡◌, ◌⊎◌, ℕ, zero, suc, ◌<◌}
-use Rattle.std.proofs.Common.{sym, ◌∙◌, inl, inr, arith}
+use Rattle.std.specs.Prelude.{◌≡◌, ℕ}
+use Rattle.std.proofs.Common.{sym, ◌∙◌, arith}
 use Rattle.std.proofs.Math.Path.{ap, subst}
 use Rattle.ring.specs.Ring
 use Rattle.ring.specs.Ring.{CRing}
-use Rattle.ring.specs.Field.{Field}
 use Rattle.ring.specs.Identity.{solve2, solve3}
 use Rattle.ring.specs.Identity.Ex.{:0, :1, ◌:+◌, ◌:-◌, ◌:*◌}
 use Rattle.series.specs.Series.{Series, Seq, const, zeros, conv_const}
-use Rattle.series.specs.Degree.{Below, Leading, Monic, degree, below_zeros, below_const, poly_zeros, poly_const}
-use Rattle.divisibility.specs.Division.{Division, divide}
+use Rattle.series.specs.Degree.{Leading, Monic, below_const, poly_zeros, poly_const}
 use Rattle.divisibility.specs.Divides.{Divides, divides_zeros, divides_sum}
-use Rattle.divisibility.specs.Congruence.{Congruent, congruent_remainder}
+use Rattle.divisibility.specs.Congruence.{Congruent}
 use Rattle.divisibility.specs.Coprime.{Bezout, Coprime, bezout_sym, bezout_divides, bezout_modulo, const_unit}
 
 module _ (R : CRing) where
@@ -94,20 +92,3 @@ module _ (R : CRing) where
   pub gcd_one : (a b : Seq R) (n : ℕ) (c : Seq R) → Gcd a b n c → n ≡ 0 → Coprime R a b
   gcd_one a b n c G e =
       subst (Bezout R a b) (below_const R c (λ i l. G.monic.below i (omega arith)) ∙ ap (const R) (ap c (sym e) ∙ G.monic.one)) G.bezout
-
-  -- Euclid's algorithm, for a that is not zero
-  module _ (F : Field R) where
-    pub euclid : (j m : ℕ) (a b : Seq R) → Leading R m a → Below R j b → (n : ℕ) × (c : Seq R) × Gcd a b n c
-    euclid zero m a b L h = (m, normalized m a L, gcd_zeros m a b L (below_zeros R b h))
-    euclid (suc j) m a b L h = go (degree R F (suc j) b h) (euclid j)
-      where
-        go : (b ≡ zeros R) ⊎ ((n : ℕ) × (n < suc j) × Leading R n b)
-            → ((n : ℕ) (a b : Seq R) → Leading R n a → Below R j b → (n : ℕ) × (c : Seq R) × Gcd a b n c) → (n : ℕ) × (c : Seq R) × Gcd a b n c
-        go (inl e) rec = (m, normalized m a L, gcd_zeros m a b L e)
-        go (inr d) rec = up (rec d.0 b D.remainder d.2 (λ i g. D.below i (let l : d.0 < suc j = d.1 in omega arith)))
-          where
-            D : Division R d.0 a b
-            D = divide R d.0 b d.2 (suc m) a L.below
-
-            up : (n : ℕ) × (c : Seq R) × Gcd b D.remainder n c → (n : ℕ) × (c : Seq R) × Gcd a b n c
-            up (n, c, G) = (n, c, gcd_step a b D.remainder (congruent_remainder R d.0 a b D) n c G)

@@ -10,7 +10,7 @@ use Rattle.zmod.specs.Zmod.{Zmod}
 use Rattle.zmod.specs.Residues.{Residue, poly}
 use Rattle.isogeny.specs.Rules.{Question}
 use Rattle.isogeny.specs.Expansion.{expansion, power_sums_of, Recurs}
-use Rattle.isogeny.specs.Proof.Terms.{recurrence_same}
+use Rattle.isogeny.proofs.Terms.{recurrence_same}
 use Rattle.sheet.specs.declared.Values.{Values}
 use Rattle.sheet.specs.Values.{half, question}
 

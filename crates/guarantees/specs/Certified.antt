@@ -5,7 +5,7 @@ use Rattle.std.proofs.Common.{sym, ◌∙◌, ap, ap₂, subst, arith, take_at}
 use Rattle.zmod.specs.Zmod.{Zmod}
 use Rattle.zmod.specs.Residues.{poly, residues_self, residues_same, residues_unique}
 use Rattle.isogeny.specs.Rules.{N, R3}
-use Rattle.isogeny.specs.Theorems.{unique}
+use Rattle.isogeny.proofs.Theorems.{unique}
 use Rattle.questions.specs.Questions.{AllYes}
 use Rattle.questions.specs.Joined.{all_all}
 use Rattle.sheet.specs.declared.Form.TheVariants.{Certificate}

@@ -11,7 +11,7 @@ use Rattle.isogeny.specs.Curve.{OnCurve}
 use Rattle.isogeny.specs.Rules as Rules
 use Rattle.isogeny.specs.Rules.{Question, N, Meets, g_at, N_at}
 use Rattle.composition.specs.Composite.{composite, composite_g}
-use Rattle.composition.specs.Theorems as T
+use Rattle.composition.proofs.Theorems as T
 use Rattle.questions.specs.Questions.{AllYes, FirstNo, not_both}
 use Rattle.questions.specs.Joined.{no_after, all_all, no_split}
 use Rattle.questions.specs.Numbered.{yes_to}

@@ -9,7 +9,7 @@ use Rattle.zmod.specs.Residues.{poly}
 use Rattle.isogeny.specs.Curve.{OnCurve}
 use Rattle.isogeny.specs.Kernel.{Passes}
 use Rattle.isogeny.specs.Rules.{Meets, g_at}
-use Rattle.isogeny.specs.Theorems.{unique}
+use Rattle.isogeny.proofs.Theorems.{unique}
 use Rattle.questions.specs.Questions.{Questions, AllYes, not_both}
 use Rattle.questions.specs.Joined.{no_after, all_all, all_front, all_back}
 use Rattle.questions.specs.Numbered.{no_by}

@@ -10,7 +10,7 @@ use Rattle.zmod.specs.Residues.{poly}
 use Rattle.isogeny.specs.Rules.{Meets}
 use Rattle.isogeny.specs.Expansion.{power_sums_of}
 use Rattle.isogeny.specs.Kernel.{codomain_A, codomain_B}
-use Rattle.isogeny.specs.Theorems as T
+use Rattle.isogeny.proofs.Theorems as T
 use Rattle.questions.specs.Questions.{AllYes}
 use Rattle.questions.specs.Joined.{all_front}
 use Rattle.questions.specs.Numbered.{yes_to}

@@ -15,7 +15,7 @@ use Rattle.isogeny.specs.Rules as Rules
 use Rattle.isogeny.specs.Rules.{Question, Meets}
 use Rattle.divisibility.specs.Divides.{Divides, NoCommonFactor, SquareFree}
 use Rattle.divisibility.specs.Coprime.{Coprime}
-use Rattle.lowest_terms.specs.Theorems as Theorems
+use Rattle.lowest_terms.proofs.Theorems as Theorems
 use Rattle.questions.specs.Numbered.{yes_to}
 use Rattle.sheet.specs.declared.Form.TheVariants.{Certificate}
 use Rattle.sheet.specs.Values.{values_of}

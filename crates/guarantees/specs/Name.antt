@@ -4,7 +4,7 @@ use Rattle.std.specs.Prelude.{◌≡◌, ℕ, ◌<◌}
 use Rattle.zmod.specs.Zmod.{Zmod, mk, mk_apart}
 use Rattle.zmod.specs.Prime.{prime_pos}
 use Rattle.isogeny.specs.Curve.{JValue}
-use Rattle.isogeny.specs.Theorems as T
+use Rattle.isogeny.proofs.Theorems as T
 use Rattle.questions.specs.Answers.{answers_unique}
 use Rattle.questions.specs.Numbered.{yes_to}
 use Rattle.promises.specs.declared.Named.{Named}

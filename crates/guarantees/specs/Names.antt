@@ -5,7 +5,7 @@ use Rattle.std.proofs.Common.{sym, ◌∙◌, subst}
 use Rattle.zmod.specs.Zmod.{Zmod, mk, mk_apart}
 use Rattle.zmod.specs.Prime.{Prime, prime_pos}
 use Rattle.isogeny.specs.Curve.{Nonsingular, SameName, JValue}
-use Rattle.isogeny.specs.Theorems.{j_unique}
+use Rattle.isogeny.proofs.Theorems.{j_unique}
 use Rattle.promises.specs.declared.Named.TheVariants as named
 use Rattle.questions.specs.Numbered.{yes_to}
 use Rattle.promises.specs.Asked.{name_asks}

@@ -11,7 +11,7 @@ use Rattle.zmod.specs.Residues.{poly_past}
 use Rattle.isogeny.specs.Curve.{OnCurve}
 use Rattle.isogeny.specs.Rules as Rules
 use Rattle.isogeny.specs.Rules.{ℓ, g_at}
-use Rattle.isogeny.specs.Theorems as T
+use Rattle.isogeny.proofs.Theorems as T
 use Rattle.questions.specs.Questions.{AllYes}
 use Rattle.questions.specs.Joined.{all_front, all_all, no_after}
 use Rattle.questions.specs.Numbered.{yes_to}

@@ -11,8 +11,9 @@ use Rattle.zmod.specs.Residues.{poly_below}
 use Rattle.isogeny.specs.Rules.{R1, R3, N, Meets}
 use Rattle.isogeny.specs.Kernel.{kernel_question}
 use Rattle.isogeny.specs.Velu.{velu_A, velu_B}
-use Rattle.isogeny.specs.Source.{velu, Formula13, formula_13}
-use Rattle.isogeny.specs.Theorems.{kernel_R1}
+use Rattle.isogeny.specs.Source.{Formula13}
+use Rattle.isogeny.proofs.Source.{velu, formula_13}
+use Rattle.isogeny.proofs.Theorems.{kernel_R1}
 use Rattle.questions.specs.Questions.{AllYes}
 use Rattle.questions.specs.Numbered.{yes_to}
 use Rattle.sheet.specs.declared.Form.TheVariants.{Certificate, Kernel}

@@ -5,6 +5,3 @@ pub mod Solution
 pub mod Kernel
 pub mod Velu
 pub mod Source
-pub mod Theorems
-pub mod Examples
-pub mod Proof

@@ -1,5 +1,5 @@
 -- What solving computes from a question, as equations with no division: h from the codomain by document 01's recurrence, the power sums s from h and σ,
--- and c, the coefficients of g from that of x^d down, from s by Newton's identities. (`Proof.Existence`: there are such sequences where the integers
+-- and c, the coefficients of g from that of x^d down, from s by Newton's identities. (`proofs/Existence`: there are such sequences where the integers
 -- from 1 to ℓ are invertible. `Theorems`: a g that meets the rules has the coefficients c.)
 -- Assumes nothing.
 use Rattle.std.specs.Prelude.{◌≡◌, ℕ, suc, ◌*◌, ◌-◌, ◌≤◌, ◌<◌}

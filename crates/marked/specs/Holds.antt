@@ -13,7 +13,7 @@ use Rattle.roots.specs.Computed.{found, roots_computed}
 use Rattle.isogeny.specs.Curve.{Nonsingular}
 use Rattle.isogeny.specs.Rules as Rules
 use Rattle.isogeny.specs.Rules.{N, R1, R3, Meets}
-use Rattle.isogeny.specs.Theorems.{unique}
+use Rattle.isogeny.proofs.Theorems.{unique}
 use Rattle.composition.specs.Composite.{composite_g}
 use Rattle.sheet.specs.declared.Form.TheVariants.{Question, Certificate, Kernel}
 use Rattle.sheet.specs.declared.Values.{Values}

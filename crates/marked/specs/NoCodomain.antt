@@ -16,7 +16,7 @@ use Rattle.zmod.specs.Calculation.{mul, poly_mul, mk_neg}
 use Rattle.isogeny.specs.Rules.{Question, N, R1, R3}
 use Rattle.isogeny.specs.Kernel.{kernel_question}
 use Rattle.isogeny.specs.Velu.{sigma, sigma₂, sigma₃, t, w, velu_A, velu_B}
-use Rattle.isogeny.specs.Source.{velu}
+use Rattle.isogeny.proofs.Source.{velu}
 use Rattle.sheet.specs.declared.Values.{Values}
 use Rattle.sheet.specs.Values.{question, half}
 use Rattle.promises.specs.Asked.{Passing}

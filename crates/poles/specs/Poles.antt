@@ -19,7 +19,8 @@ use Rattle.zmod.specs.Zmod.{Zmod, mk, minus, times, mk_nonzero, mk_apart}
 use Rattle.zmod.specs.Prime.{Prime, prime_pos, inverse, Zmod_field}
 use Rattle.zmod.specs.Residues.{Residue, Reduced, poly, poly_at, residues_poly, residues_zeros}
 use Rattle.divisibility.specs.Coprime.{Coprime}
-use Rattle.reconstruction.specs.Approximant.{Fits, proportional, multiple_nonzero}
+use Rattle.reconstruction.specs.Approximant.{Fits, multiple_nonzero}
+use Rattle.reconstruction.proofs.Approximant.{proportional}
 use Rattle.poles.specs.Rows.{Rows, rows_start, rows_stop, rows_coprime, rows_nonzero, rows_leading, rows_below, turn}
 use Rattle.poles.specs.Words.{remainder, RowsOf, cancelling}
 use Rattle.poles.specs.Steps.{Sized, Highest, highest_unit}

@@ -19,6 +19,7 @@ use Rattle.series.specs.Reversal.{rev, rev_sub, rev_past, shift, conv_shift}
 use Rattle.divisibility.specs.Coprime.{Coprime}
 use Rattle.reconstruction.specs.Approximant.{Fits}
 use Rattle.reconstruction.specs.Euclid as Euclid
+use Rattle.reconstruction.proofs.Euclid as EuclidLaws
 use Rattle.reconstruction.specs.Euclid.{Stage, Eliminated, eliminated_none, eliminated_more, eliminated_row}
 use Rattle.euclid.specs.Combination.{linear, linear_poly, shifted_at, cancelled_two}
 
@@ -212,7 +213,7 @@ module _ (R : CRing) where
           → Coprime R (rows_stop a whole least none).s t'
       unfolding rows_stop
       rows_coprime a whole least none =
-          subst (λ s. Coprime R s t') (sym (Euclid.stop_cofactor R m H n k (n - k) rows.r r' t t' stage a a whole least _))
+          subst (λ s. Coprime R s t') (sym (EuclidLaws.stop_cofactor R m H n k (n - k) rows.r r' t t' stage a a whole least _))
           (Euclid.coprime R m H n k (n - k) rows.r r' t t' stage)
 
       pub rows_nonzero : R.𝟙 ≢ R.𝟘 → t' ≢ zeros R

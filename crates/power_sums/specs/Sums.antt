@@ -21,7 +21,7 @@ use Rattle.slices.specs.Stored.{Stored}
 use Rattle.rows.specs.Room.{blank, zero_at}
 use Rattle.rows.specs.Rows.{row_more, RowsAdded, Four}
 use Rattle.expansion.specs.Equations.{Solved}
-use Rattle.isogeny.specs.Proof.Sums.{newton_local, sums_obey}
+use Rattle.isogeny.proofs.Sums.{newton_local, sums_obey}
 use Rattle.expansion.specs.Stores.{Causal, stored_at, solved_none, solved_more}
 
 module _ (R : CRing) where

@@ -7,7 +7,7 @@ use Rattle.zmod.specs.Zmod.{Zmod}
 use Rattle.zmod.specs.Residues.{poly}
 use Rattle.isogeny.specs.Rules.{R1}
 use Rattle.roots.specs.Rational.{rational_roots}
-use Rattle.roots.specs.Theorems.{roots_most}
+use Rattle.roots.proofs.Theorems.{roots_most}
 use Rattle.sheet.specs.declared.Values.{Values}
 use Rattle.sheet.specs.Values.{half, question}
 use Rattle.sheet.specs.Ready.{Ready, HoldsG, half_most}

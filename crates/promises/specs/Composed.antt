@@ -12,7 +12,7 @@ use Rattle.zmod.specs.Remainder.{mul_mod_right}
 use Rattle.zmod.specs.Residues.{poly, Residues, residues_poly}
 use Rattle.isogeny.specs.Rules.{Question, ℓ, Meets}
 use Rattle.composition.specs.Composite.{Composable, composite, composite_g, composite_degree}
-use Rattle.composition.specs.Theorems as T
+use Rattle.composition.proofs.Theorems as T
 use Rattle.sheet.specs.declared.Values.{Values}
 use Rattle.sheet.specs.Values.{half, question}
 use Rattle.sheet.specs.Fields.{same}

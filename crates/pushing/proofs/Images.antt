@@ -19,7 +19,7 @@ use Rattle.zmod.specs.Zmod.{Elt, Zmod, mk, plus, times, minus, mk_add, mk_mul, m
 use Rattle.zmod.specs.Residues.{Residue, poly, poly_past, residue_same}
 use Rattle.isogeny.specs.Curve.{OnCurve}
 use Rattle.isogeny.specs.Rules.{W_at, g_at, N_at}
-use Rattle.isogeny.specs.Theorems.{W_at_is}
+use Rattle.isogeny.proofs.Theorems.{W_at_is}
 use Rattle.field.specs.Inverse.{InverseOf}
 use Rattle.evaluation.specs.declared.Jet.{Jet}
 use Rattle.evaluation.specs.Jets.{JetOf}

@@ -203,7 +203,7 @@ module _ (R : CRing) (m H : Seq R) (e : ℕ) where
 
     -- ── the end: r has degree a or more, and r' less
 
-    pub stop : (a n : ℕ) → a + n ≡ e → a ≤ k → Below R a r' → Approximant R m H a n r' t'
+    unfoldable pub stop : (a n : ℕ) → a + n ≡ e → a ≤ k → Below R a r' → Approximant R m H a n r' t'
     stop a n sum h below = record {
       s = stage.s';
       poly_s = stage.poly_s';
@@ -211,10 +211,6 @@ module _ (R : CRing) (m H : Seq R) (e : ℕ) where
       r_below = below;
       t_below = λ i g. stage.t'_degree.below i (omega arith);
     }
-
-    pub stop_cofactor : (a n : ℕ) (sum : a + n ≡ e) (h : a ≤ k) (below : Below R a r') → (stop a n sum h below).s ≡ stage.s'
-    unfolding stop
-    stop_cofactor a n sum h below = refl
 
     -- the cofactors of a row are coprime, since s t' − s' t is a unit
     pub coprime : Coprime R stage.s' t'

@@ -7,7 +7,7 @@ use Rattle.ring.specs.Ring.{CRing, cast}
 use Rattle.series.specs.Series.{Seq}
 use Rattle.series.specs.Recursion.{Before}
 use Rattle.isogeny.specs.Rules.{Question}
-use Rattle.isogeny.specs.Proof.Terms.{recurrence_same}
+use Rattle.isogeny.proofs.Terms.{recurrence_same}
 use Rattle.recurrence.specs.Equations.{HAt}
 
 module _ (R : CRing) (q : Question R) where

@@ -14,7 +14,7 @@ use Rattle.zmod.specs.Zmod.{Elt, Zmod, mk, plus, times, minus, mk_mul, cast_mk, 
 use Rattle.zmod.specs.Residues.{Residue, poly, poly_at}
 use Rattle.isogeny.specs.Rules.{Question}
 use Rattle.isogeny.specs.Expansion.{sum_to, recurrence}
-use Rattle.isogeny.specs.Proof.Terms.{recurrence_same}
+use Rattle.isogeny.proofs.Terms.{recurrence_same}
 use Rattle.field.specs.Inverse.{InverseOf}
 use Rattle.expansion.specs.Multiple.{Multiple}
 use Rattle.expansion.specs.Equations.{Solves}

@@ -16,8 +16,8 @@ use Rattle.isogeny.specs.Curve.{Nonsingular}
 use Rattle.isogeny.specs.Rules.{Question, N, R1, R3, Meets}
 use Rattle.isogeny.specs.Expansion.{from_sums, expansion, power_sums_of}
 use Rattle.isogeny.specs.Kernel.{kernel_question, codomain_A, codomain_B, Passes}
-use Rattle.isogeny.specs.Theorems as T
-use Rattle.isogeny.specs.Proof.Terms.{expansion_same}
+use Rattle.isogeny.proofs.Theorems as T
+use Rattle.isogeny.proofs.Terms.{expansion_same}
 use Rattle.sheet.specs.declared.Values.{Values}
 use Rattle.sheet.specs.Values.{question, half}
 use Rattle.sheet.specs.Ready.{Ready, HoldsG, half_least}

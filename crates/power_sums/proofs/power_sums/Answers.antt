@@ -4,7 +4,7 @@ use Rattle.series.specs.Series.{Seq}
 use Rattle.zmod.specs.Zmod.{Zmod, mk, cast_mk}
 use Rattle.zmod.specs.Residues.{Residue, poly, residue_same}
 use Rattle.isogeny.specs.Expansion.{power_sums_of}
-use Rattle.isogeny.specs.Proof.Sums.{sums_step, sums_obey}
+use Rattle.isogeny.proofs.Sums.{sums_step, sums_obey}
 use Rattle.sheet.specs.Values.{half}
 use Rattle.expansion.specs.Stores.{solved_all}
 use Rattle.power_sums.specs.Sums.{Newton, newton_step_zero, backwards_reduced, backwards_negated, weights_low, known_first, front_solved}

@@ -1,0 +1,4 @@
+pub mod Coprime
+pub mod Division
+pub mod Gcd
+pub mod Irreducible
