@@ -7,7 +7,7 @@ use Prim.Native.Nat.{ℕ, zero, suc}
 use Rattle.ring.specs.Ring.{CRing, pow, pow-suc}
 use Rattle.ring.specs.Identity.{solve3, solve5}
 use Rattle.ring.specs.Identity.Ex.{:0, ◌:+◌, ◌:*◌, ◌:^◌}
-use Rattle.series.specs.Series.{Series, Seq, tail, const}
+use Rattle.series.specs.Series.{Seq, tail, const}
 use Rattle.series.specs.Degree.{Poly, poly_add, poly_mul, poly_pow, poly_const}
 use Rattle.series.specs.Value as Value
 use Rattle.series.specs.Value.{value, at_same, at_add, at_mul, at_pow, at_const}

@@ -1,20 +1,19 @@
 -- Remainders up to a unit, as divisions without inverses leave them: `PseudoRemainder p n b a r`, r holds the residues of a polynomial with n coefficients at
 -- most, which modulo b is a unit times a. It has the greatest common divisors with b that a has.
 -- Assumes nothing.
-use Rattle.std.specs.Prelude.{◌≡◌, List, ◌++◌, ℕ, ◌≤◌, ◌<◌, length, get_or, take, drop}
-use Rattle.std.proofs.Common.{sym, ◌∙◌, ap, ap₂, subst, arith}
+use Rattle.std.specs.Prelude.{◌≡◌, List, ◌++◌, ℕ, ◌≤◌, length, take, drop}
+use Rattle.std.proofs.Common.{sym, ◌∙◌, ap, subst}
 use Rattle.std.proofs.Math.Path.{fun_ext}
-use Rattle.std.proofs.Math.Decide.{dec_lt}
 use Rattle.ring.specs.Ring
 use Rattle.ring.specs.Ring.{CRing}
 use Rattle.ring.specs.Field.{Inverse, unit_product}
-use Rattle.ring.specs.Identity.{solve3, solve4, solve5}
+use Rattle.ring.specs.Identity.{solve3, solve5}
 use Rattle.ring.specs.Identity.Ex.{◌:+◌, ◌:*◌}
 use Rattle.series.specs.Series.{Series, Seq, scaled, const, conv_scalar}
 use Rattle.series.specs.Degree.{Below, below_mono, poly_const, poly_mul}
 use Rattle.series.specs.Indeterminate.{const_mul}
 use Rattle.zmod.specs.Zmod.{Elt, Zmod, mk, times}
-use Rattle.zmod.specs.Residues.{Reduced, poly, poly_at, poly_past}
+use Rattle.zmod.specs.Residues.{Reduced, poly, poly_past}
 use Rattle.divisibility.specs.Congruence.{Congruent, congruent_refl, congruent_sym, congruent_trans, congruent_scaled}
 use Rattle.divisibility.specs.Gcd.{Gcd, gcd_modulo}
 use Rattle.euclid.specs.Words.{Trimmed, take_poly, trimmed_past, front_poly, front_reduced}

@@ -1,6 +1,6 @@
 -- R3 gives the codomain from g: Ã = A − 5 h₁ and B̃ = B − 7 h₂, with nothing divided by.
 -- Assumes nothing.
-use Rattle.std.specs.Prelude.{◌↔◌, ◌≡◌, refl, ℕ, suc, ◌-◌, ◌≤◌}
+use Rattle.std.specs.Prelude.{◌↔◌, ◌≡◌, refl, ℕ, suc, ◌≤◌}
 use Rattle.std.proofs.Common.{sym, ◌∙◌, ap, subst, arith}
 use Rattle.ring.specs.Ring.{CRing, cast}
 use Rattle.ring.specs.Identity.{solve2}

@@ -1,7 +1,7 @@
 -- Degrees: where g has degree at most d and n at most ℓ, N' g − 2 N g' (with n for N) has degree at most 3 d, and R3 is an equation of 3 ℓ + 1
 -- coefficients.
 -- Assumes nothing.
-use Rattle.std.specs.Prelude.{◌≡◌, refl, ℕ, suc, ◌+◌, ◌*◌, ◌≤◌}
+use Rattle.std.specs.Prelude.{◌≡◌, refl, ℕ, suc, ◌*◌, ◌≤◌}
 use Rattle.std.proofs.Common.{sym, ◌∙◌, arith}
 use Rattle.std.proofs.Math.Path.{ap₂}
 use Rattle.std.proofs.Math.Decide.{dec_le}

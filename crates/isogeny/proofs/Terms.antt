@@ -1,6 +1,6 @@
 -- Which terms of h and s the recurrence, the expansion and the short conditions read.
 -- Assumes nothing.
-use Rattle.std.specs.Prelude.{◌≡◌, refl, ℕ, zero, suc, ◌+◌, ◌*◌, ◌-◌, ◌≤◌}
+use Rattle.std.specs.Prelude.{◌≡◌, refl, ℕ, zero, suc, ◌+◌, ◌-◌, ◌≤◌}
 use Rattle.std.proofs.Common.{ap₂, arith}
 use Rattle.ring.specs.Ring.{CRing}
 use Rattle.series.specs.Series.{Seq, sum_same}

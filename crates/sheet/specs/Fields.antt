@@ -1,6 +1,6 @@
 -- Two values of a header are equal if each of their seven fields is.
 -- Assumes nothing.
-use Rattle.std.specs.Prelude.{◌≡◌, refl, ℕ}
+use Rattle.std.specs.Prelude.{◌≡◌, ℕ}
 use Rattle.std.proofs.Common.{◌∙◌, ap, ap₂}
 use Rattle.sheet.specs.declared.Values.{Values}
 

@@ -1,7 +1,7 @@
 -- Lists of kinds in sections whose lengths are linear in d: a section of kind k has a + b·d words. Where a kind stands first is then linear in d too.
 -- Assumes nothing.
 use Rattle.std.specs.Prelude.{◌≡◌, refl, Bool, true, false, cond, List, [], ◌∷◌, ◌++◌, ℕ, zero, suc, ◌+◌, ◌*◌, ◌≤◌, eqb, replicate}
-use Rattle.std.proofs.Common.{sym, ◌∙◌, ap, ap₂, arith}
+use Rattle.std.proofs.Common.{sym, ◌∙◌, ap, arith}
 use Rattle.std.proofs.Math.Nat as N
 use Rattle.sheet.specs.Form.{position, holds}
 

@@ -1,4 +1,4 @@
-use Rattle.std.proofs.Common.{length, ◌-◌, ◌≡◌, ◌≤◌}
+use Rattle.std.proofs.Common.{length, ◌≡◌, ◌≤◌}
 use Rattle.zmod.specs.Residues.{poly}
 use Rattle.euclid.specs.Pseudo.{PseudoRemainder}
 use Rattle.euclid.proofs.next.Given as goal

@@ -1,6 +1,6 @@
 -- `euclid::scale` meets its contract. The invariant: the coefficients before k are stored, the words from k on are as they were.
 -- Assumes nothing.
-use Rattle.std.proofs.Common.{ap, arith, rules, sym, ◌-◌, ◌∙◌}
+use Rattle.std.proofs.Common.{ap, arith, rules, sym, ◌∙◌}
 use Rattle.zmod.specs.Zmod.{mk, times}
 use Rattle.zmod.specs.Residues.{poly_at, residue_same}
 use Rattle.barrett.specs.Modulus.{prepared_positive}

@@ -1,4 +1,4 @@
-use Rattle.std.proofs.Common.{get_or, length, ℕ, ◌-◌, ◌≡◌, ◌≤◌}
+use Rattle.std.proofs.Common.{get_or, length, ℕ, ◌≡◌, ◌≤◌}
 use Rattle.euclid.proofs.trimmed.Given as goal
 
 abbrev pub invariant-loop-k : goal.invariant-loop-k

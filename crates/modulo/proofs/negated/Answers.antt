@@ -1,5 +1,5 @@
 -- `modulo::negated` meets its contract. The invariant: the words before k are stored. Assumes nothing.
-use Rattle.std.proofs.Common.{ap, arith, length-set, refl, rules, sym, ◌-◌}
+use Rattle.std.proofs.Common.{ap, arith, length-set, refl, rules, sym}
 use Rattle.slices.specs.Filling.{filled_none, filled_more}
 use Rattle.series.specs.Series.{negs}
 use Rattle.zmod.specs.Zmod.{Zmod, minus}

@@ -1,6 +1,6 @@
 -- `reading::headed` meets its contract. The invariant: the kinds before k stand where they belong.
 -- Assumes nothing.
-use Rattle.std.proofs.Common.{ap, arith, not, rules, ◌-◌}
+use Rattle.std.proofs.Common.{ap, arith, not, rules}
 use Rattle.reading.specs.Leaf.{Stands}
 use Rattle.questions.specs.Tests.{says_no, says_yes, refuted, shown, more_from}
 use Rattle.reading.specs.Header.{asked2_stands, stands_asked2}

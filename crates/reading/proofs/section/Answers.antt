@@ -1,6 +1,6 @@
 -- `reading::section` meets its contract. The invariant: `all` tells whether the words before i are as asked, and i goes up to `to`.
 -- Assumes nothing.
-use Rattle.std.proofs.Common.{arith, get_or, true, ◌-◌}
+use Rattle.std.proofs.Common.{arith, get_or}
 use Rattle.reading.specs.Leaf.{Fits, Section}
 use Rattle.questions.specs.Tests.{says_yes, together, more_from}
 use Rattle.reading.proofs.section.Goals as goal

@@ -1,6 +1,6 @@
 -- `sheet::coefficients` meets its contract. The invariant: the words before i are the coefficients.
 -- Assumes nothing.
-use Rattle.std.proofs.Common.{ap, arith, get_or, length, length-set, rules, ℕ, ◌+◌, ◌-◌, ◌∙◌, ◌≡◌}
+use Rattle.std.proofs.Common.{ap, arith, get_or, length, length-set, rules, ℕ, ◌+◌, ◌∙◌, ◌≡◌}
 use Rattle.slices.specs.Filling.{filled_none, filled_more}
 use Rattle.sheet.specs.Form.{value_in}
 use Rattle.sheet.specs.Values.{coefficient_in}

@@ -1,6 +1,6 @@
 -- `sheet::load` meets its contract. The invariant: the words before i are written.
 -- Assumes nothing.
-use Rattle.std.proofs.Common.{arith, length, length-set, rules, ◌-◌, ◌≡◌}
+use Rattle.std.proofs.Common.{arith, length, length-set, rules, ◌≡◌}
 use Rattle.slices.specs.Filling.{filled_none, filled_more}
 use Rattle.sheet.specs.Word.{word_at}
 use Rattle.sheet.proofs.Copies.{words_filled}
