@@ -7,7 +7,7 @@ use Rattle.questions.specs.Questions.{AllYes}
 use Rattle.questions.specs.SomeNo.{SomeNo, not-all}
 use Rattle.questions.specs.Answers.{Outcome, result, refused, apart}
 use Rattle.promises.specs.Asked.{check_asks}
-use Rattle.guarantees.specs.Again.{same_certificate}
+use Rattle.guarantees.proofs.Again.{same_certificate}
 use Rattle.chains.specs.Chain.{chain_asks, Chain}
 use Rattle.chains.specs.Brackets.{Brackets, sheet, both, sheets, Way, given}
 use Rattle.chains.specs.Proof.Pairs.{pairs_chain, same_values}

@@ -1,10 +1,10 @@
 -- What a customer can cite of kernel: one answer is right and no other, with every word of the lent buffer, since the sheet determines codomain, σ and N;
 -- and what it writes passes check.
 -- Assumes nothing.
-use Rattle.std.specs.Prelude.{◌≡◌, List, ◌++◌, ℕ, length, take}
-use Rattle.std.proofs.Common.{sym, ◌∙◌, ap, subst}
+use Rattle.std.specs.Prelude.{◌≡◌, List, ℕ, length, take}
+use Rattle.std.proofs.Common.{sym, ◌∙◌, subst}
 use Rattle.series.specs.Series.{Seq}
-use Rattle.zmod.specs.Zmod.{Elt, Zmod, mk, mk_apart}
+use Rattle.zmod.specs.Zmod.{Zmod, mk, mk_apart}
 use Rattle.zmod.specs.Prime.{prime_pos}
 use Rattle.zmod.specs.Residues.{poly}
 use Rattle.isogeny.specs.Rules.{Meets}
@@ -15,7 +15,7 @@ use Rattle.questions.specs.Questions.{AllYes}
 use Rattle.questions.specs.Joined.{all_front}
 use Rattle.questions.specs.Numbered.{yes_to}
 use Rattle.questions.specs.Answers.{writes_unique}
-use Rattle.sheet.specs.declared.Form.TheVariants.{Certificate, Kernel}
+use Rattle.sheet.specs.declared.Form.TheVariants.{Kernel}
 use Rattle.sheet.specs.declared.Values.{Values}
 use Rattle.sheet.specs.Values.{gOf, values_of, question, half}
 use Rattle.sheet.specs.Asked.{Curves, asked}

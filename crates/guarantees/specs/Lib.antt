@@ -6,10 +6,7 @@ pub mod Push
 pub mod Compose
 pub mod Name
 pub mod Words
-pub mod Demands
-pub mod Source
 pub mod ComposePush
-pub mod Abscissas
 pub mod Again
 pub mod Names
 pub mod Reduced

@@ -18,7 +18,6 @@ use Rattle.questions.specs.Numbered.{yes_to}
 use Rattle.questions.specs.Answers.{answers_unique}
 use Rattle.sheet.specs.declared.Form.TheVariants.{Certificate}
 use Rattle.sheet.specs.Values.{gOf, n_of, values_of, half}
-use Rattle.sheet.specs.Asked.{asked}
 use Rattle.reading.specs.Accepted.{certificate_g, certificate_n}
 use Rattle.promises.specs.declared.Point.{Point}
 use Rattle.promises.specs.declared.Point.TheVariants as point

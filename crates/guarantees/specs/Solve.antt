@@ -10,7 +10,7 @@ use Rattle.questions.specs.Questions.{AllYes}
 use Rattle.questions.specs.Joined.{no_after, all_front}
 use Rattle.questions.specs.Answers.{writes_unique}
 use Rattle.questions.specs.Numbered.{yes_to, no_by}
-use Rattle.sheet.specs.declared.Form.TheVariants.{Question, Certificate}
+use Rattle.sheet.specs.declared.Form.TheVariants.{Question}
 use Rattle.sheet.specs.declared.Values.{Values}
 use Rattle.sheet.specs.Values.{values_of, question}
 use Rattle.sheet.specs.Asked.{Curves, asked}

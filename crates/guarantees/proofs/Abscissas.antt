@@ -30,7 +30,7 @@ use Rattle.promises.specs.Certificates.{check_asked}
 use Rattle.guarantees.specs.Solve.{solve_certified}
 use Rattle.guarantees.specs.Kernel.{kernel_certified}
 use Rattle.guarantees.specs.Compose.{compose_certified}
-use Rattle.guarantees.specs.Demands.{passes_exactly}
+use Rattle.guarantees.proofs.Demands.{passes_exactly}
 
 -- The sheet's count is right.
 abbrev pub Counted : List ℕ → Type 0

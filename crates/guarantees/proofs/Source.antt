@@ -8,14 +8,13 @@ use Rattle.series.specs.Series.{Seq, conv}
 use Rattle.series.specs.Degree.{Below}
 use Rattle.zmod.specs.Zmod.{Zmod}
 use Rattle.zmod.specs.Residues.{poly_below}
-use Rattle.isogeny.specs.Rules.{R1, R3, N, Meets}
+use Rattle.isogeny.specs.Rules.{Meets}
 use Rattle.isogeny.specs.Kernel.{kernel_question}
 use Rattle.isogeny.specs.Velu.{velu_A, velu_B}
 use Rattle.isogeny.specs.Source.{Formula13}
 use Rattle.isogeny.proofs.Source.{velu, formula_13}
 use Rattle.isogeny.proofs.Theorems.{kernel_R1}
 use Rattle.questions.specs.Questions.{AllYes}
-use Rattle.questions.specs.Numbered.{yes_to}
 use Rattle.sheet.specs.declared.Form.TheVariants.{Certificate, Kernel}
 use Rattle.sheet.specs.Values.{values_of, half, gOf}
 use Rattle.sheet.specs.Asked.{asked}
@@ -27,7 +26,7 @@ use Rattle.promises.specs.Answer.{SolveRight, KernelRight}
 use Rattle.promises.specs.Certificates.{certificate_ready, certificate_N, certificate_meets}
 use Rattle.guarantees.specs.Solve.{solve_certified}
 use Rattle.guarantees.specs.Kernel.{kernel_certified}
-use Rattle.guarantees.specs.Demands.{KernelPasses}
+use Rattle.guarantees.proofs.Demands.{KernelPasses}
 
 -- ── certificates
 

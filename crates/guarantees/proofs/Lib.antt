@@ -1,0 +1,6 @@
+pub mod Demands
+pub mod Source
+pub mod ComposePush
+pub mod Abscissas
+pub mod Again
+pub mod LowestTerms
