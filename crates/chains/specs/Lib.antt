@@ -2,4 +2,3 @@ pub mod Chain
 pub mod Brackets
 pub mod Theorems
 pub mod Three
-pub mod Proof

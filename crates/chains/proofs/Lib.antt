@@ -4,3 +4,5 @@ pub mod Lists
 pub mod Pairs
 pub mod Calls
 pub mod Numbers
+pub mod Theorems
+pub mod Three

@@ -14,9 +14,9 @@ use Rattle.promises.specs.Asked.{Room, check_asks, join_asks, compose_asks, Comp
 use Rattle.promises.specs.Answer.{ComposeRight}
 use Rattle.chains.specs.Chain.{values, each_asks, meet_asks, product, Each, Permitted, chain_asks}
 use Rattle.chains.specs.Brackets.{wrote, Brackets, sheet, both, sheets, Way, given, called, left_refused, right_refused}
-use Rattle.chains.specs.Proof.Lists.{each_front, each_back, last, product_append}
-use Rattle.chains.specs.Proof.Pairs.{values_in, Pairs, first, rest, sheets_are, degree_is, domain, to_parts, pairs_meet}
-use Rattle.chains.specs.Proof.Calls.{way_pairs, way_passes}
+use Rattle.chains.proofs.Lists.{each_front, each_back, last, product_append}
+use Rattle.chains.proofs.Pairs.{values_in, Pairs, first, rest, sheets_are, degree_is, domain, to_parts, pairs_meet}
+use Rattle.chains.proofs.Calls.{way_pairs, way_passes}
 
 -- ── of a list, with other sheets before and behind
 

@@ -14,9 +14,9 @@ use Rattle.promises.specs.Certificates.{certificate_ready}
 use Rattle.promises.specs.Composed.{composed_ready}
 use Rattle.chains.specs.Chain.{values, Each, product, Chain}
 use Rattle.chains.specs.Brackets.{Brackets, sheet, both, sheets}
-use Rattle.chains.specs.Proof.Lists.{Passes, each_each, each_map}
-use Rattle.chains.specs.Proof.Lists.{MeetInTurn, last, last-append, meet_meet}
-use Rattle.chains.specs.Proof.Lists.{product_append, chain, in_turn, turn_append}
+use Rattle.chains.proofs.Lists.{Passes, each_each, each_map}
+use Rattle.chains.proofs.Lists.{MeetInTurn, last, last-append, meet_meet}
+use Rattle.chains.proofs.Lists.{product_append, chain, in_turn, turn_append}
 
 -- the values of a part
 abbrev pub values_in : Brackets → Values

@@ -11,7 +11,7 @@ use Rattle.promises.specs.Answer.{composed, ComposeRight}
 use Rattle.guarantees.specs.Compose.{first_passes, second_passes, they_meet, product_allowed, compose_certified, compose_values}
 use Rattle.chains.specs.Chain.{values}
 use Rattle.chains.specs.Brackets.{wrote, Call, Brackets, sheet, both, Way, given, called}
-use Rattle.chains.specs.Proof.Pairs.{values_in, Pairs}
+use Rattle.chains.proofs.Pairs.{values_in, Pairs}
 
 -- ── one call
 
