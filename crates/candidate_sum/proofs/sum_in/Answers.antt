@@ -12,7 +12,7 @@ use Rattle.recurrence.specs.Equations.{HAt}
 use Rattle.recurrence.specs.Expands.{zeroth}
 use Rattle.poles.specs.Steps.{Sized}
 use Rattle.poles.specs.Poles.{PolesOf}
-use Rattle.candidate_sum.specs.CandidateSum.{candidate_sum_lem}
+use Rattle.candidate_sum.proofs.CandidateSum.{candidate_sum_lem}
 use Rattle.candidate_sum.proofs.sum_in.Goals as goal
 
 pub inverses-requires : goal.inverses-requires
