@@ -16,7 +16,7 @@ kernel_accepted-requires c =
     let ws = c.args.ws.now in
     record {
       all_yes = subst (Right Kernel ws) c.in-Accepted.is c.read-read.ensures;
-      room = omega (arith, c.if-answer-lt-MOST_WORDS.false);
+      room = omega arith;
     }
 
 pub returns-in-Refused : goal.returns-in-Refused
