@@ -15,6 +15,7 @@ use Rattle.isogeny.specs.Rules as Rules
 use Rattle.isogeny.specs.Rules.{Question, Meets}
 use Rattle.divisibility.specs.Divides.{Divides, NoCommonFactor, SquareFree}
 use Rattle.divisibility.specs.Coprime.{Coprime}
+use Rattle.lowest_terms.proofs.Coprime as InLowestTerms
 use Rattle.lowest_terms.proofs.Theorems as Theorems
 use Rattle.questions.specs.Numbered.{yes_to}
 use Rattle.sheet.specs.declared.Form.TheVariants.{Certificate}
@@ -145,7 +146,7 @@ module _ (ws : List ℕ) (passes : CheckRight ws verdict.Passes) where
 
     -- Then g² divides D,
     pub denominator : Divides R g² D
-    denominator = Theorems.denominator is_prime q d≥1 nonsingular small g meets M D poly_M poly_D same_N
+    denominator = InLowestTerms.denominator is_prime q d≥1 nonsingular small g meets M D poly_M poly_D same_N
 
     -- and M = N k where D = g² k.
     pub numerator : conv R N denominator.cofactor ≡ M
