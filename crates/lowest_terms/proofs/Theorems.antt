@@ -115,8 +115,7 @@ module _ {p : ℕ} (P : Prime p) where
       denominator = InLowestTerms.denominator P q d≥1 nonsingular small g meets M D poly_M poly_D same
 
       -- and M = N k where D = g² k.
-      pub numerator : conv R (N R q g) denominator.cofactor ≡ M
-      unfolding denominator
+      pub numerator : conv R (N R q g) (InLowestTerms.denominator P q d≥1 nonsingular small g meets M D poly_M poly_D same).cofactor ≡ M
       numerator = InLowestTerms.numerator P q d≥1 nonsingular small g meets M D poly_M poly_D same
 
       -- So, if D is not 0, its degree is ℓ − 1 or more,
