@@ -1,4 +1,4 @@
 pub mod Text
 pub mod Fills
-pub mod Decimal
+pub mod Digits
 pub mod Lines

@@ -3,7 +3,7 @@
 use Rattle.std.specs.Prelude.{◌≡◌, refl, List, [], ◌∷◌, ◌++◌, ℕ, ◌+◌, ◌*◌, ◌<◌, length, get_or, take}
 use Rattle.std.proofs.Common.{sym, ◌∙◌, ap, append_assoc, append-nil, add-one, arith, length-append, take-suc}
 use Rattle.text.specs.Text.{digits, decimal, decimal_in, hex_line, hex_lines, refused_line}
-use Rattle.text.specs.Decimal.{length_digits}
+use Rattle.text.specs.Digits.{length_digits}
 
 pub length_hex_line : (k n : ℕ) → length (hex_line k n) ≡ k + 1
 unfolding hex_line

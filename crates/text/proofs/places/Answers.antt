@@ -1,6 +1,6 @@
 -- `text::places` meets its contract. The invariant: k digits are counted, one of them the first of those that are left. Assumes nothing.
 use Rattle.std.proofs.Common.{ap, arith, length}
-use Rattle.text.specs.Decimal.{decimal_one, length_more}
+use Rattle.text.proofs.Decimal.{decimal_one, length_more}
 use Rattle.text.proofs.places.Goals as goal
 
 pub loop-rest-preserved : goal.loop-rest-preserved

@@ -2,7 +2,7 @@
 use Rattle.std.proofs.Common.{List, ap, subst, sym, ℕ, ◌∙◌, ◌≡◌}
 use Rattle.text.specs.Text.{digits, decimal}
 use Rattle.text.specs.Fills.{Fills}
-use Rattle.text.specs.Decimal.{decimal_digits}
+use Rattle.text.proofs.Decimal.{decimal_digits}
 use Rattle.text.proofs.put_decimal.Goals as goal
 
 pub returns : goal.returns

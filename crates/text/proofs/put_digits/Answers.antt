@@ -2,7 +2,8 @@
 -- behind them. Assumes nothing.
 use Rattle.std.proofs.Common.{ap, arith, drop, length-set, mod-lt, refl, rules, set, sym, ◌++◌, ◌+◌, ◌-◌, ◌/◌, ◌∙◌, ◌≡◌}
 use Rattle.text.specs.Text.{digits}
-use Rattle.text.specs.Decimal.{length_digits, digits_set}
+use Rattle.text.specs.Digits.{length_digits}
+use Rattle.text.proofs.Decimal.{digits_set}
 use Rattle.text.proofs.put_digits.Goals as goal
 
 pub loop-i-init : goal.loop-i-init

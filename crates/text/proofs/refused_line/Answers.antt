@@ -2,7 +2,7 @@
 use Rattle.std.proofs.Common.{List, [], ap, arith, drop, length, length-drop, length-set, length-take, refl, take, ℕ, ◌++◌, ◌+◌, ◌-◌, ◌<◌, ◌^◌, ◌∷◌, ◌≤◌}
 use Rattle.text.specs.Text.{decimal, refused_word, refused_line}
 use Rattle.text.specs.Fills.{Fills, fills_length, fills_as, fills_one, fills_part}
-use Rattle.text.specs.Decimal.{decimal_short}
+use Rattle.text.proofs.Decimal.{decimal_short}
 use Rattle.text.proofs.refused_line.Goals.{After-slice_known-3-1}
 use Rattle.text.proofs.refused_line.Goals as goal
 

@@ -61,12 +61,6 @@ length_more n h = ap length (decimal_more n h) ∙ length-append (decimal (n / 1
 
 -- ── `decimal` is `digits` with as many digits as are needed
 
-pub length_digits : (b k n : ℕ) → length (digits b k n) ≡ k
-unfolding digits
-length_digits b zero n = refl
-length_digits b (suc k) n =
-    length-append (digits b k (n / b)) (code (n % b) ∷ []) ∙ add-one (length (digits b k (n / b))) ∙ ap suc (length_digits b k (n / b))
-
 pub decimal_digits : (n : ℕ) → decimal n ≡ digits 10 (length (decimal n)) n
 unfolding digits
 decimal_digits = by_digits (λ n. decimal n ≡ digits 10 (length (decimal n)) n) one more
