@@ -13,6 +13,11 @@ pub record Prepared (m : Modulus) : Type 0 where
   pub folded : m.fold ≡ 2 ^ 36 % m.big
   pub inverted : m.inverse ≡ (2 ^ 59 - 1) / m.big
 
+-- every modulus does: its ghost fields say so
+pub prepared : (m : Modulus) → Prepared m
+prepared m =
+    record { shifted = m.shifted; at_least = m.at_least; below = m.below; folded = m.folded; inverted = m.inverted }
+
 -- what the bounds of a number of 28 bits say of its factors
 module _ (p s : ℕ) (lo : 2 ^ 27 ≤ p * 2 ^ s) (hi : p * 2 ^ s < 2 ^ 28) where
   factor_positive : 0 < p

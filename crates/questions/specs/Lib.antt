@@ -1,5 +1,6 @@
 pub mod Questions
 pub mod Answers
+pub mod Number
 pub mod Numbered
 pub mod Joined
 pub mod SomeNo

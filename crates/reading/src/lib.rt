@@ -12,14 +12,8 @@ ghost use Rattle.sheet.specs.Asked.{PrimeAllowed, DegreeAllowed, ValuesBelow, Cu
 ghost use Rattle.reading.specs.Reading.{Right};
 ghost use Rattle.reading.specs.Leaf.{Stands, Fits, Section, Sections, Bounds};
 
+use questions::Refusal;
 use sheet::{Form, Values};
-
-// What reading a sheet gives: its values, or the number of the first question that it does not pass.
-#[derive(Clone, Copy)]
-pub enum Reading {
-    Accepted(Values),
-    Refused(u32),
-}
 
 // Whether the word of a kind is there, if the form has one.
 fn has_kind(form: Form, k: usize, ws: &[u32]) -> bool
@@ -194,30 +188,30 @@ fn curves(form: Form, v: Values) -> bool
     nonsingular(v.atilde, v.btilde, v.p)
 }
 
-// Questions 2 to 7, in document 01's order.
-pub fn read(form: Form, ws: &[u32]) -> Reading
+// Questions 2 to 7, in document 01's order: the sheet's values, or the first question that it does not pass.
+pub fn read(form: Form, ws: &[u32]) -> Result<Values, Refusal>
     ensures { Right form ws.now result }
 {
     if !headed(form, ws) {
-        return Reading::Refused(2);
+        return Err(Refusal::Header);
     }
     let p = sheet::entry_of(form, 1, ws);
     if !prime_allowed(p) {
-        return Reading::Refused(3);
+        return Err(Refusal::Prime);
     }
     let degree = sheet::entry_of(form, 6, ws);
     if !degree_allowed(degree, p) {
-        return Reading::Refused(4);
+        return Err(Refusal::Degree);
     }
     let v = sheet::values_of(form, p, degree, ws);
     if !values_below(v) {
-        return Reading::Refused(5);
+        return Err(Refusal::Values);
     }
     if !exact(form, v, ws) {
-        return Reading::Refused(6);
+        return Err(Refusal::Words);
     }
     if !curves(form, v) {
-        return Reading::Refused(7);
+        return Err(Refusal::Singular);
     }
-    Reading::Accepted(v)
+    Ok(v)
 }
