@@ -7,7 +7,6 @@ ghost use Rattle.std.specs.Prelude.{◌≡◌, ◌↔◌, true, ℕ, ◌+◌, �
 ghost use Rattle.series.specs.Series.{conv, sums, negs, scaled, ∂};
 ghost use Rattle.zmod.specs.Zmod.{Zmod, mk, plus, times};
 ghost use Rattle.zmod.specs.Residues.{Residue, Reduced, poly, Residues};
-ghost use Rattle.barrett.specs.Modulus.{Prepared};
 ghost use Rattle.rows.specs.Room.{turns};
 ghost use Rattle.poly.specs.Partial.{partial, Alone};
 
@@ -152,7 +151,7 @@ pub fn square_by_coefficients(a: &[u32], out: &mut [u32], p: u32)
 
 // out = a², where acc is room for the sums and e for a. Few coefficients are sooner there without the rows.
 pub fn square(a: &[u32], e: &mut [u64], acc: &mut [u64], out: &mut [u32], m: Modulus)
-    requires prepared { (Prepared m) × (Reduced m.p a.now) × (8 * turns (length a.now) (length out.old) * m.p ≤ 2 ^ 36) }
+    requires reduced { (Reduced m.p a.now) × (8 * turns (length a.now) (length out.old) * m.p ≤ 2 ^ 36) }
     requires acc_len { (length acc.old ≡ length out.old) × (length a.now + 6 ≤ length e.old) × (length a.now < 2 ^ 60) }
     ensures { Residues m.p (conv (Zmod m.p) (poly m.p a.now) (poly m.p a.now)) out.new }
 {
@@ -160,7 +159,7 @@ pub fn square(a: &[u32], e: &mut [u64], acc: &mut [u64], out: &mut [u32], m: Mod
         return square_by_coefficients(a, out, m.p);
     }
     rows::square(a, e, acc, m.p);
-    barrett::remainders(acc, out, m);
+    m.remainders(acc, out);
 }
 
 // x + c y
