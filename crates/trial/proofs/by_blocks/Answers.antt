@@ -12,7 +12,7 @@ use Rattle.trial.proofs.by_blocks.Goals as goal
 
 pub loop-i-init : goal.loop-i-init
 loop-i-init c =
-    (omega arith, omega arith, omega arith, undivided_missed c.requires.whole.primes 171 (omega arith) c.requires.whole.first c.requires.odd.3)
+    (omega arith, omega arith, undivided_missed c.requires.whole.primes 171 (omega arith) c.requires.whole.first c.requires.odd.3)
 
 pub offset_bounds-primes-i : goal.offset_bounds-primes-i
 offset_bounds-primes-i c = omega arith
@@ -36,7 +36,7 @@ overflow_mul-q c =
 
 pub returns-then-n-q : goal.returns-then-n-q
 returns-then-n-q c =
-    says_yes (missed_prime c.requires.whole.primes c.requires.odd.0 (omega arith) c.loop-i.i (omega arith) c.if-n-q.true c.loop-i.invariant.3)
+    says_yes (missed_prime c.requires.whole.primes c.requires.odd.0 (omega arith) c.loop-i.i (omega arith) c.if-n-q.true c.loop-i.invariant.2)
 
 pub overflow_add-e : goal.overflow_add-e
 overflow_add-e c = omega arith
@@ -58,9 +58,9 @@ loop-i-smaller c = omega arith
 pub loop-i-preserved : goal.loop-i-preserved
 loop-i-preserved c =
     let table = c.requires.whole.primes in
-    (omega arith, omega arith, omega arith, missed_more table c.loop-i.invariant.3 c.by_half_products.ensures c.if-by_half_products-ne0.false)
+    (omega arith, omega arith, missed_more table c.loop-i.invariant.2 c.by_half_products.ensures c.if-by_half_products-ne0.false)
 
 pub returns : goal.returns
 returns c =
     let n = c.args.n in
-    says_yes (undivided_prime 16384 n c.requires.odd.0 (omega arith) (omega arith) (missed_undivided c.requires.whole.primes (λ j l. c.loop-i.invariant.3 j (omega arith))))
+    says_yes (undivided_prime 16384 n c.requires.odd.0 (omega arith) (omega arith) (missed_undivided c.requires.whole.primes (λ j l. c.loop-i.invariant.2 j (omega arith))))
