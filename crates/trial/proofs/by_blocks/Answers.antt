@@ -14,32 +14,16 @@ pub loop-i-init : goal.loop-i-init
 loop-i-init c =
     (omega arith, omega arith, undivided_missed c.requires.whole.primes 171 (omega arith) c.requires.whole.first c.requires.odd.3)
 
-pub offset_bounds-primes-i : goal.offset_bounds-primes-i
-offset_bounds-primes-i c = omega arith
-
-pub bounds-primes-i : goal.bounds-primes-i
-bounds-primes-i c = omega arith
-
-pub overflow_cast-q : goal.overflow_cast-q
-overflow_cast-q c =
-    let below : get_or c.args.primes.now c.loop-i.i 0 < 16384 =
-    c.requires.whole.primes.below c.loop-i.i (omega arith)
-    in
-    omega (arith, below)
-
 pub overflow_mul-q : goal.overflow_mul-q
 overflow_mul-q c =
     let below : get_or c.args.primes.now c.loop-i.i 0 < 16384 =
     c.requires.whole.primes.below c.loop-i.i (omega arith)
     in
-    record { fits = N.lt_of_lt_of_le (product_below 14 (below) (below)) (omega arith) }
+    rw c.from-q.ensures (record { fits = N.lt_of_lt_of_le (product_below 14 below below) (omega arith) })
 
 pub returns-then-n-q : goal.returns-then-n-q
 returns-then-n-q c =
-    says_yes (missed_prime c.requires.whole.primes c.requires.odd.0 (omega arith) c.loop-i.i (omega arith) c.if-n-q.true c.loop-i.invariant.2)
-
-pub overflow_add-e : goal.overflow_add-e
-overflow_add-e c = omega arith
+    says_yes (missed_prime c.requires.whole.primes c.requires.odd.0 (omega arith) c.loop-i.i (omega arith) (rw c.from-q.ensures at c.if-n-q.true) c.loop-i.invariant.2)
 
 pub by_half_products-requires : goal.by_half_products-requires
 by_half_products-requires c =
@@ -51,9 +35,6 @@ by_half_products-requires c =
 pub returns-then-by_half_products-ne0 : goal.returns-then-by_half_products-ne0
 returns-then-by_half_products-ne0 c =
     says_no (found_composite c.requires.whole.primes (omega arith) c.by_half_products.ensures c.if-by_half_products-ne0.true)
-
-pub loop-i-smaller : goal.loop-i-smaller
-loop-i-smaller c = omega arith
 
 pub loop-i-preserved : goal.loop-i-preserved
 loop-i-preserved c =

@@ -1,4 +1,3 @@
-use Rattle.std.proofs.Common.{length, ◌-◌, ◌≤◌}
 use Rattle.trial.specs.Divisors.{Found}
 use Rattle.trial.proofs.by_remainders.Given as goal
 
