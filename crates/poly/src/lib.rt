@@ -12,6 +12,8 @@ ghost use Rattle.poly.specs.Partial.{partial, Alone};
 
 use barrett::Modulus;
 
+pub use rows::word;
+
 pub fn most(x: usize, y: usize) -> usize
     ensures { result ≡ max x y }
 {
@@ -100,13 +102,6 @@ pub fn add_product(a: &[u32], b: &[u32], out: &mut [u32], p: u32)
     for k in 0..out.len() {
         out[k] = coefficient(out[k], a, b, k, p);
     }
-}
-
-// The word at i, 0 past the end.
-pub fn word(a: &[u32], i: usize) -> u32
-    ensures { result ≡ get_or a.now i 0 }
-{
-    if i < a.len() { a[i] } else { 0 }
 }
 
 // The term of the coefficient k of a square that stands alone, where k is even: the square of the word at k / 2.
@@ -218,7 +213,7 @@ pub fn derivative(a: &[u32], out: &mut [u32], p: u32)
 pub fn equal(a: &[u32], b: &[u32]) -> bool
     ensures { (p : ℕ) → Reduced p a.now → Reduced p b.now → (result ≡ true) ↔ (poly p a.now ≡ poly p b.now) }
 {
-    (0..a.len().max(b.len())).all(|i| word(a, i) == word(b, i))
+    (0..a.len().max(b.len())).all(|i| word::<u32>(a, i) == word::<u32>(b, i))
 }
 
 // out = 0

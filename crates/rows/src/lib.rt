@@ -69,10 +69,10 @@ pub fn clear(out: &mut [u64])
 }
 
 // The word at i, 0 past the end.
-pub fn word(a: &[u32], i: usize) -> u64
-    ensures { result ≡ get_or a.now i 0 }
+pub fn word<T: From<u32>>(a: &[u32], i: usize) -> T
+    ensures { T.from_gives (get_or a.now i 0) result }
 {
-    if i < a.len() { u64::from(a[i]) } else { 0 }
+    T::from(if i < a.len() { a[i] } else { 0 })
 }
 
 // out = a, in wider words, with zeros past a's end.
