@@ -11,7 +11,6 @@ ghost use Rattle.rows.specs.Room.{turns};
 ghost use Rattle.poly.specs.Partial.{partial, Alone};
 
 use barrett::Modulus;
-
 pub use rows::word;
 
 pub fn most(x: usize, y: usize) -> usize
