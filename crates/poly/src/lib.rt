@@ -61,7 +61,7 @@ fn span(
 {
     let mut s = start;
     let mut i = from;
-    // no `for`: the products that are left at the end take no remainder here
+    // no `for` over the parts: it would take a remainder before the first one too, a division more for each coefficient
     while size < to - i {
         s = field::reduce(u64::from(s) + dot(a, b, i, i + size, k), p);
         i += size;
