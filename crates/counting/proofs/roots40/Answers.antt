@@ -34,10 +34,10 @@ pub by_table-requires : goal.by_table-requires
 by_table-requires c =
     let d = length c.args.g.now - 1 in
     let fits = table_fits d (omega arith) in
-    let t = c.table-t.result in
-    let r = c.blank40-r.result in
+    let t = c.t.result in
+    let r = c.r.result in
     let size : length (take d r) ≡ d = length-take-le d r (omega arith) in record {
-      prime = (c.requires.0, c.requires.1, c.requires.2, c.requires.3, c.requires.4);
+      prime = (c.requires.0, c.requires.1, c.requires.2, c.requires.3);
       r_len = (
         simp length-take (omega (arith, c.requires)),
         simp length-take (omega (arith, c.requires)),
