@@ -45,7 +45,15 @@ fn multiply(h: &mut [u32], a: &[u32], e: &mut [u64], acc: &mut [u64], m: Modulus
 }
 
 // h = c b + a h
-fn multiply_add(h: &mut [u32], a: &[u32], b: &[u32], c: u32, e: &mut [u64], acc: &mut [u64], m: Modulus)
+fn multiply_add(
+    h: &mut [u32],
+    a: &[u32],
+    b: &[u32],
+    c: u32,
+    e: &mut [u64],
+    acc: &mut [u64],
+    m: Modulus,
+)
     requires reduced { (1 < m.p) × (Reduced m.p h.old) × (Reduced m.p a.now) × (Reduced m.p b.now) × (c < m.p) }
     requires lengths { (length a.now ≤ length h.old) × (length a.now ≤ 252) × (length acc.old ≡ length h.old) × (length h.old + 3 ≤ length e.old) }
     ensures { Residues m.p (sums (Zmod m.p) (scaled (Zmod m.p) (mk m.p c) (poly m.p b.now))
@@ -56,7 +64,15 @@ fn multiply_add(h: &mut [u32], a: &[u32], b: &[u32], c: u32, e: &mut [u64], acc:
 }
 
 // Where Horner's rule begins: h is b + c x at n / g₁², times g₁², for the two topmost coefficients c and b of g₂; e and acc are room.
-fn begin(h: &mut [u32], n: &[u32], square: &[u32], g2: &[u32], e: &mut [u64], acc: &mut [u64], m: Modulus)
+fn begin(
+    h: &mut [u32],
+    n: &[u32],
+    square: &[u32],
+    g2: &[u32],
+    e: &mut [u64],
+    acc: &mut [u64],
+    m: Modulus,
+)
     requires reduced { (1 < m.p) × (Reduced m.p n.now) × (Reduced m.p square.now) × (Reduced m.p g2.now) }
     requires lengths { (2 ≤ length g2.now) × (0 < length n.now) × (length n.now ≤ length h.old) × (length acc.old ≡ length h.old) × (length h.old + 3 ≤ length e.old) }
     ensures { Residues m.p (homogenize (Zmod m.p) (poly m.p n.now) (poly m.p square.now) 1
@@ -64,19 +80,20 @@ fn begin(h: &mut [u32], n: &[u32], square: &[u32], g2: &[u32], e: &mut [u64], ac
 {
     let d = g2.len() - 1;
     poly::copy(n, h);
-    multiply_add(
-        h,
-        &g2[d..],
-        square,
-        g2[d - 1],
-        e,
-        acc,
-        m,
-    );
+    multiply_add(h, &g2[d..], square, g2[d - 1], e, acc, m);
 }
 
 // A step of Horner's rule: the denominator takes a factor g₁², and the numerator h becomes n times itself plus c times the new denominator. e and acc are room.
-fn step(h: &mut [u32], den: &mut [u32], n: &[u32], square: &[u32], c: u32, e: &mut [u64], acc: &mut [u64], m: Modulus)
+fn step(
+    h: &mut [u32],
+    den: &mut [u32],
+    n: &[u32],
+    square: &[u32],
+    c: u32,
+    e: &mut [u64],
+    acc: &mut [u64],
+    m: Modulus,
+)
     requires reduced { (1 < m.p) × (Reduced m.p h.old) × (Reduced m.p den.old) × (Reduced m.p n.now) × (Reduced m.p square.now) × (c < m.p) }
     requires lengths { (length square.now ≤ length den.old) × (length n.now ≤ length h.old) × (length den.old ≤ length h.old) × (length h.old ≤ 252)
         × (length acc.old ≡ length h.old) × (length h.old + 3 ≤ length e.old) }
@@ -91,7 +108,16 @@ fn step(h: &mut [u32], den: &mut [u32], n: &[u32], square: &[u32], c: u32, e: &m
 }
 
 // h = g₂ at n / g₁², cleared by g₁^(2 d₂), where g₂ has d₂ + 1 words, from the topmost down; den, e and acc are room.
-fn horner(n: &[u32], square: &[u32], g2: &[u32], h: &mut [u32], den: &mut [u32], e: &mut [u64], acc: &mut [u64], m: Modulus)
+fn horner(
+    n: &[u32],
+    square: &[u32],
+    g2: &[u32],
+    h: &mut [u32],
+    den: &mut [u32],
+    e: &mut [u64],
+    acc: &mut [u64],
+    m: Modulus,
+)
     requires reduced { (1 < m.p) × (Reduced m.p n.now) × (Reduced m.p square.now) × (Reduced m.p g2.now) }
     requires lengths { (0 < length square.now) × (length n.now ≡ length square.now + 1) × (2 ≤ length g2.now)
         × ((length g2.now - 1) * length square.now + 1 ≤ length h.old) × (length h.old ≤ 128) × (length den.old ≡ length h.old)
@@ -108,12 +134,31 @@ fn horner(n: &[u32], square: &[u32], g2: &[u32], h: &mut [u32], den: &mut [u32],
         let k = (t + 1) * l + 1;
         let s = k + 3;
         let c = g2[last - 1 - t];
-        step(&mut h[..k], &mut den[..d], n, square, c, &mut e[..s], &mut acc[..k], m);
+        step(
+            &mut h[..k],
+            &mut den[..d],
+            n,
+            square,
+            c,
+            &mut e[..s],
+            &mut acc[..k],
+            m,
+        );
     }
 }
 
 // g₁ times that; square, den, e and acc are room.
-fn composite_in(n: &[u32], g1: &[u32], g2: &[u32], out: &mut [u32], square: &mut [u32], den: &mut [u32], e: &mut [u64], acc: &mut [u64], m: Modulus)
+fn composite_in(
+    n: &[u32],
+    g1: &[u32],
+    g2: &[u32],
+    out: &mut [u32],
+    square: &mut [u32],
+    den: &mut [u32],
+    e: &mut [u64],
+    acc: &mut [u64],
+    m: Modulus,
+)
     requires reduced { (1 < m.p) × (Reduced m.p n.now) × (Reduced m.p g1.now) × (Reduced m.p g2.now) }
     requires in_bounds { (2 ≤ length g1.now) × (2 ≤ length g2.now) × (length n.now ≡ 2 * length g1.now)
         × (length out.old ≡ length g1.now + (length g2.now - 1) * (2 * length g1.now - 1)) × (length out.old ≤ 128) }

@@ -20,7 +20,7 @@ pub square-requires : goal.square-requires
 square-requires c =
     let a = c.args in
     let size = length-set a.out.now 0 0 in record {
-      prepared = (c.requires.reduced.0, turns_fit _ _ a.m.p (omega (arith, prepared_below (prepared c.args.m))) (omega (arith, c.requires.reduced.2)));
+      reduced = (c.requires.reduced.0, turns_fit _ _ a.m.p (omega (arith, prepared_below (prepared c.args.m))) (omega (arith, c.requires.reduced.2)));
       acc_len = (simp (length-take, length-drop) (omega (arith, size, c.requires.out_nonzero.1)), c.requires.out_nonzero.2, omega (arith, c.requires.reduced.2));
     }
 
