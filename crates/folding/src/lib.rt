@@ -146,7 +146,7 @@ fn square_sums(r: &[u32], bit: usize, e: &mut [u64], acc: &mut [u64], p: u32)
     rows::square(r, e, &mut acc[bit..], p);
 }
 
-// r = x^bit r² modulo g, where t is the table of g; all behind t is room.
+// r = x^bit r² modulo g, where t is the table of g; all behind t is room. (The room is no struct: behind a reference only one field can be lent at a time.)
 fn square_modulo(
     r: &mut [u32],
     bit: usize,
@@ -179,7 +179,7 @@ fn prepare(g: &[u32], r: &mut [u32], n: &mut [u32], t: &mut [u64], m: Modulus)
 }
 
 // r = x^p modulo g, by the digits of p from where `modulo::begin` leaves off. All slices but g and r are room.
-pub fn power_of_x(
+fn power_in(
     g: &[u32],
     r: &mut [u32],
     n: &mut [u32],
@@ -200,4 +200,31 @@ pub fn power_of_x(
     for i in (0..top).rev() {
         square_modulo(r, ((m.p >> i) % 2) as usize, t, e, acc, q, m);
     }
+}
+
+// r = x^p modulo g, with room of its own.
+pub fn power_of_x(g: &[u32], r: &mut [u32], m: Modulus)
+    requires p_bound { (1 < m.p) × (Divisor m.p g.now) × (2 ≤ length g.now) × (length g.now ≤ 16) }
+    requires r_len { length r.old ≡ length g.now - 1 }
+    ensures { RemainderOf m.p (length g.now - 1) (poly m.p g.now) (x_to m.p m.p) r.new }
+{
+    let d = r.len();
+    let rows = d * (d + 3);
+    let some = d + 6;
+    let sums = d + d;
+    let mut n = [0u32; 15];
+    let mut q = [0u32; 15];
+    let mut t = [0u64; 270];
+    let mut e = [0u64; 21];
+    let mut acc = [0u64; 30];
+    power_in(
+        g,
+        r,
+        &mut n[..d],
+        &mut q[..d],
+        &mut t[..rows],
+        &mut e[..some],
+        &mut acc[..sums],
+        m,
+    );
 }
