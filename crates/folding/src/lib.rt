@@ -63,6 +63,7 @@ fn times_x(r: &mut [u32], n: &[u32], m: Modulus)
 }
 
 // Row i of the table, where those before it are there and r is x^(d + i); r goes on to the next power.
+#[tactic(auto, using(crate::specs::Table::row_inside))]
 fn fill_row(r: &mut [u32], n: &[u32], t: &mut [u64], i: usize, m: Modulus)
     requires i_bound { (i < length n.now) × (length r.old ≡ length n.now)
         × (length t.old ≡ length n.now * (length n.now + 3)) × (Reduced m.p n.now) }
@@ -79,6 +80,7 @@ fn fill_row(r: &mut [u32], n: &[u32], t: &mut [u64], i: usize, m: Modulus)
 }
 
 // The table of x^d − n: x^d, .., x^(2d − 1), and three rows of zeros, so that rows of four have no end of their own. r is room.
+#[tactic(auto, using(crate::specs::Table::row_inside))]
 fn fill(r: &mut [u32], n: &[u32], t: &mut [u64], m: Modulus)
     requires { (length r.old ≡ length n.now)
         × (length t.old ≡ length n.now * (length n.now + 3)) × (Reduced m.p n.now) }
@@ -109,6 +111,7 @@ fn fold_four(acc: &mut [u64], q: &[u32], i: usize, t: &[u64], p: u32)
 }
 
 // acc = acc + q_0 T_0 + q_1 T_1 + .., where T_i are the rows of t: at most 16 products a word, next to the 32 that a square has.
+#[tactic(auto, using(crate::specs::Table::row_inside))]
 fn fold(acc: &mut [u64], q: &[u32], t: &[u64], p: u32)
     requires q_len { (length q.now ≡ length acc.old) × (length acc.old ≤ 15) × (length t.now ≡ length acc.old * (length acc.old + 3)) }
     requires p_bound { (p ≤ 2 ^ 28) × (Reduced p q.now) × (Reduced p t.now) × ((k : ℕ) → get_or acc.old k 0 ≤ 32 * ((p - 1) * (p - 1))) }
