@@ -2,11 +2,10 @@
 // Slices hold residues, the constant term first, as in `poly`; a slice for g has d + 1 words, of which the last is 1.
 #![tactic(auto)]
 
-ghost use Rattle.std.specs.Prelude.{◌≡◌, ◌+◌, ◌-◌, ◌*◌, ◌<◌, ◌≤◌, length};
+ghost use Rattle.std.specs.Prelude.{◌≡◌, ◌+◌, ◌-◌, ◌*◌, ◌≤◌, length};
 ghost use Rattle.zmod.specs.Prime.{Prime};
 ghost use Rattle.zmod.specs.Residues.{poly};
 ghost use Rattle.roots.specs.Rational.{rational_roots};
-ghost use Rattle.barrett.specs.Modulus.{Prepared};
 ghost use Rattle.modulo.specs.Modulo.{Divisor, RemainderOf};
 ghost use Rattle.modulo.specs.Power.{x_to};
 
@@ -14,7 +13,7 @@ use barrett::Modulus;
 
 // The number of roots of g, where r is x^p modulo g: the degree of the greatest common divisor of g and r − x. a and b are room, and so is r.
 fn from_power(g: &[u32], r: &mut [u32], a: &mut [u64], b: &mut [u64], m: Modulus) -> usize
-    requires prime { Prime m.p × Prepared m × (Divisor m.p g.now) × (3 ≤ length g.now) }
+    requires prime { Prime m.p × (Divisor m.p g.now) × (3 ≤ length g.now) }
     requires r_len { (length r.old + 1 ≡ length g.now) × (length a.old ≡ length g.now) × (length b.old ≡ length r.old)
         × RemainderOf m.p (length g.now - 1) (poly m.p g.now) (x_to m.p m.p) r.old }
     ensures { result ≡ rational_roots m.p (length g.now) (poly m.p g.now) }
@@ -25,174 +24,54 @@ fn from_power(g: &[u32], r: &mut [u32], a: &mut [u64], b: &mut [u64], m: Modulus
     euclid::gcd_degree(a, b, m)
 }
 
-// The same, with the power by quotients. All slices but g are room.
-fn by_quotients(
-    g: &[u32],
-    a: &mut [u32],
-    r: &mut [u32],
-    q: &mut [u32],
-    t: &mut [u64],
-    n: &mut [u64],
-    e: &mut [u64],
-    acc: &mut [u64],
-    room: &mut [u32],
-    m: Modulus,
-) -> usize
-    requires prime { Prime m.p × Prepared m × (Divisor m.p g.now) × (3 ≤ length g.now) × (length g.now ≤ 128) }
-    requires a_len { (length a.old ≡ length g.now) × (length r.old + 1 ≡ length g.now) × (length q.old ≡ length g.now)
-        × (length g.now + 3 ≤ length t.old) × (length g.now + 3 ≤ length n.old) × (length g.now + 6 ≤ length e.old)
-        × (length acc.old ≡ length room.old) × (length room.old + 1 ≡ 2 * length g.now) }
-    ensures { result ≡ rational_roots m.p (length g.now) (poly m.p g.now) }
-{
-    quotients::power_of_x(g, r, t, n, e, acc, room, a, q, m);
-    let k = g.len();
-    let d = k - 1;
-    from_power(g, r, &mut t[..k], &mut n[..d], m)
-}
-
-// The same, with room of its own, in two sizes.
-fn roots88(g: &[u32], m: Modulus) -> usize
-    requires { Prime m.p × Prepared m × (Divisor m.p g.now) × (3 ≤ length g.now) × (length g.now ≤ 40) }
+// The same for any g, with the power by quotients, in room of N words a slice.
+fn by_quotients<const N: usize>(g: &[u32], m: Modulus) -> usize
+    requires { Prime m.p × (Divisor m.p g.now) × (3 ≤ length g.now) × (2 * length g.now + 4 ≤ N) × (N ≤ 264) }
     ensures { result ≡ rational_roots m.p (length g.now) (poly m.p g.now) }
 {
     let k = g.len();
     let d = k - 1;
-    let c = k + 6;
-    let i = 2 * k - 1;
-    let mut a = rows::blank88();
-    let mut r = rows::blank88();
-    let mut q = rows::blank88();
-    let mut t = rows::sums88();
-    let mut n = rows::sums88();
-    let mut e = rows::sums88();
-    let mut acc = rows::sums88();
-    let mut room = rows::blank88();
-    by_quotients(
-        g,
-        &mut a[..k],
-        &mut r[..d],
-        &mut q[..k],
-        &mut t[..c],
-        &mut n[..c],
-        &mut e[..c],
-        &mut acc[..i],
-        &mut room[..i],
-        m,
-    )
+    let mut r = [0u32; N];
+    let mut a = [0u64; N];
+    let mut b = [0u64; N];
+    quotients::power_of_x::<N>(g, &mut r[..d], m);
+    from_power(g, &mut r[..d], &mut a[..k], &mut b[..d], m)
 }
 
-fn roots264(g: &[u32], m: Modulus) -> usize
-    requires { Prime m.p × Prepared m × (Divisor m.p g.now) × (3 ≤ length g.now) × (length g.now ≤ 128) }
+// The same for small degrees, with the power by a table.
+fn by_table(g: &[u32], m: Modulus) -> usize
+    requires { Prime m.p × (Divisor m.p g.now) × (3 ≤ length g.now) × (length g.now ≤ 16) }
     ensures { result ≡ rational_roots m.p (length g.now) (poly m.p g.now) }
 {
     let k = g.len();
     let d = k - 1;
-    let c = k + 6;
-    let i = 2 * k - 1;
-    let mut a = rows::blank264();
-    let mut r = rows::blank264();
-    let mut q = rows::blank264();
-    let mut t = rows::sums264();
-    let mut n = rows::sums264();
-    let mut e = rows::sums264();
-    let mut acc = rows::sums264();
-    let mut room = rows::blank264();
-    by_quotients(
-        g,
-        &mut a[..k],
-        &mut r[..d],
-        &mut q[..k],
-        &mut t[..c],
-        &mut n[..c],
-        &mut e[..c],
-        &mut acc[..i],
-        &mut room[..i],
-        m,
-    )
-}
-
-// The same for small degrees, with the power by a table. All slices but g are room.
-fn by_table(
-    g: &[u32],
-    r: &mut [u32],
-    n: &mut [u32],
-    q: &mut [u32],
-    t: &mut [u64],
-    e: &mut [u64],
-    acc: &mut [u64],
-    m: Modulus,
-) -> usize
-    requires prime { Prime m.p × Prepared m × (Divisor m.p g.now) × (3 ≤ length g.now) × (length g.now ≤ 16) }
-    requires r_len { (length r.old + 1 ≡ length g.now) × (length n.old ≡ length r.old) × (length q.old ≡ length r.old)
-        × (length t.old ≡ length r.old * (length r.old + 3)) × (length r.old + 6 ≤ length e.old)
-        × (length acc.old ≡ 2 * length r.old) }
-    ensures { result ≡ rational_roots m.p (length g.now) (poly m.p g.now) }
-{
-    folding::power_of_x(g, r, n, q, t, e, acc, m);
-    let k = g.len();
-    let d = k - 1;
-    from_power(g, r, &mut acc[..k], &mut e[..d], m)
-}
-
-fn blank40() -> [u32; 40] {
-    [0; 40]
-}
-
-fn sums40() -> [u64; 40] {
-    [0; 40]
-}
-
-fn table() -> [u64; 270] {
-    [0; 270]
-}
-
-// The same, with room of its own.
-fn roots40(g: &[u32], m: Modulus) -> usize
-    requires { Prime m.p × Prepared m × (Divisor m.p g.now) × (3 ≤ length g.now) × (length g.now ≤ 16) }
-    ensures { result ≡ rational_roots m.p (length g.now) (poly m.p g.now) }
-{
-    let d = g.len() - 1;
-    let c = d + 6;
-    let i = 2 * d;
-    let s = d * (d + 3);
-    let mut r = blank40();
-    let mut n = blank40();
-    let mut q = blank40();
-    let mut t = table();
-    let mut e = sums40();
-    let mut acc = sums40();
-    by_table(
-        g,
-        &mut r[..d],
-        &mut n[..d],
-        &mut q[..d],
-        &mut t[..s],
-        &mut e[..c],
-        &mut acc[..i],
-        m,
-    )
+    let mut r = [0u32; 15];
+    let mut a = [0u64; 16];
+    let mut b = [0u64; 15];
+    folding::power_of_x(g, &mut r[..d], m);
+    from_power(g, &mut r[..d], &mut a[..k], &mut b[..d], m)
 }
 
 // The same for every degree. One of degree 1 has one root.
 fn roots_by_size(g: &[u32], m: Modulus) -> usize
-    requires { Prime m.p × Prepared m × (Divisor m.p g.now) × (2 ≤ length g.now) × (length g.now ≤ 128) }
+    requires { Prime m.p × (Divisor m.p g.now) × (2 ≤ length g.now) × (length g.now ≤ 128) }
     ensures { result ≡ rational_roots m.p (length g.now) (poly m.p g.now) }
 {
     if g.len() == 2 {
         return 1;
     }
     if g.len() <= 16 {
-        return roots40(g, m);
+        return by_table(g, m);
     }
     if g.len() <= 40 {
-        return roots88(g, m);
+        return by_quotients::<88>(g, m);
     }
-    roots264(g, m)
+    by_quotients::<264>(g, m)
 }
 
 // The number of roots of g in ℤ/p.
 pub fn roots(g: &[u32], m: Modulus) -> u32
-    requires { Prime m.p × Prepared m × (Divisor m.p g.now) × (2 ≤ length g.now) × (length g.now ≤ 128) }
+    requires { Prime m.p × (Divisor m.p g.now) × (2 ≤ length g.now) × (length g.now ≤ 128) }
     ensures { result ≡ rational_roots m.p (length g.now) (poly m.p g.now) }
 {
     roots_by_size(g, m) as u32
