@@ -18,10 +18,6 @@ candidate-requires c =
       v_in_bounds = omega (arith, d, c.requires.degree_in_bounds, c.requires.degree_in_bounds_2, c.requires.n_len);
     }
 
-pub new-m-requires : goal.new-m-requires
-new-m-requires c =
-    omega (arith, c.requires.ready.prime)
-
 pub numerator-requires : goal.numerator-requires
 numerator-requires c =
     let g_words : HoldsG c.args.v c.candidate.new.g =
@@ -31,21 +27,6 @@ numerator-requires c =
       ready = (c.requires.ready, g_words, record { prepared = prepared _; same = m });
       out_len = omega (arith, degree_half c.args.v c.requires.ready, c.candidate.auto, c.requires.n_len);
     }
-
-pub overflow_sub-d : goal.overflow_sub-d
-overflow_sub-d c =
-    omega (arith, c.candidate.auto, c.requires.n_len)
-
-pub overflow_sub-k : goal.overflow_sub-k
-overflow_sub-k c =
-    omega (arith, c.candidate.auto, c.requires.degree_in_bounds_2, c.requires.ready.degree)
-
-pub slice_bounds-rule_three_from-end : goal.slice_bounds-rule_three_from-end
-slice_bounds-rule_three_from-end c =
-    omega (arith, c.candidate.auto, c.requires.degree_in_bounds_2)
-
-pub slice_bounds-rule_three_from-end-2 : goal.slice_bounds-rule_three_from-end-2
-slice_bounds-rule_three_from-end-2 c = simp length-take (omega arith)
 
 pub rule_three_from-holds-requires : goal.rule_three_from-holds-requires
 rule_three_from-holds-requires c =
@@ -95,22 +76,6 @@ finish-requires c =
       variant = c.rule_three_from-holds.ensures;
       room = c.requires.n_len.2;
     }
-
-pub shape_of-s : goal.shape_of-s
-shape_of-s c =
-    c.rule_three_from-holds.auto.s ∙ c.candidate.auto.s
-
-pub shape_of-h : goal.shape_of-h
-shape_of-h c =
-    c.rule_three_from-holds.auto.h ∙ c.candidate.auto.h
-
-pub shape_of-table : goal.shape_of-table
-shape_of-table c =
-    search (rules, c.rule_three_from-holds.auto.squares, c.candidate.auto.table)
-
-pub shape_of-n : goal.shape_of-n
-shape_of-n c =
-    c.numerator.auto.out ∙ c.candidate.auto.c
 
 pub returns : goal.returns
 returns c =
