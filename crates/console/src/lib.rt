@@ -16,13 +16,10 @@ fn fill<R: Read>(input: &mut R, kept: &mut [u8]) -> usize
 {
     let mut done: usize = 0;
     while done < kept.len() {
-        let Ok(n) = input.read(&mut kept[done..]) else {
-            return done;
-        };
-        if n == 0 {
-            return done;
+        match input.read(&mut kept[done..]) {
+            Ok(0) | Err(_) => return done,
+            Ok(n) => done += n,
         }
-        done += n;
     }
     done
 }
@@ -77,13 +74,10 @@ pub fn write<W: Write>(output: &mut W, bytes: &[u8]) -> usize
 {
     let mut done: usize = 0;
     while done < bytes.len() {
-        let Ok(n) = output.write(&bytes[done..]) else {
-            return done;
-        };
-        if n == 0 {
-            return done;
+        match output.write(&bytes[done..]) {
+            Ok(0) | Err(_) => return done,
+            Ok(n) => done += n,
         }
-        done += n;
     }
     done
 }
