@@ -3,40 +3,11 @@
 
 ghost use Rattle.std.specs.Prelude.{◌≡◌, replicate};
 
-// What check answers.
-#[derive(Clone, Copy)]
-pub enum Verdict {
-    Passes,
-    Refused(u32),
-}
-
-// What solve, kernel and compose answer: how many words they wrote, or a refusal.
-#[derive(Clone, Copy)]
-pub enum Written {
-    Count(u32),
-    Refused(u32),
-}
-
 // A point of a curve.
-#[derive(Clone, Copy)]
+#[derive(Clone, Copy, Debug, PartialEq, Eq)]
 pub enum Point {
     Affine(u32, u32),
     Infinity,
-}
-
-// What push answers: a point of the codomain, or a refusal.
-#[derive(Clone, Copy)]
-pub enum Image {
-    Affine(u32, u32),
-    Infinity,
-    Refused(u32),
-}
-
-// What name answers: a j-value, or a refusal.
-#[derive(Clone, Copy)]
-pub enum Named {
-    Value(u32),
-    Refused(u32),
 }
 
 // Room for the coefficients of g, of which there are 128 at most.
