@@ -9,7 +9,8 @@ ghost use Rattle.console.specs.Bytes.{Gives, GivesModulo4, KeepsFront};
 
 use std::io::{Read, Write};
 
-// Reads until `kept` is full, the input ends or it cannot be read, and answers how many bytes came.
+// Reads until `kept` is full, the input ends or it cannot be read, and answers how many bytes came. Its loop stays a `while`, as that of `write`: a call
+// takes as many bytes as it likes.
 fn fill<R: Read>(input: &mut R, kept: &mut [u8]) -> usize
     ensures count { IsPrefixLen result kept.new }
     ensures front { Consumes (R.remaining input.old) (R.remaining input.new) (take result kept.new) }

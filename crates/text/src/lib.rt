@@ -1,5 +1,5 @@
 // What the programs print, as bytes in a lent buffer. Each function puts a text at the front of `out` and leaves what stands behind it; the public
-// ones answer the count of the text's bytes.
+// ones answer the count of the text's bytes. The digits are put by hand: `write!` answers an error where a buffer is full, and these have none.
 #![tactic(auto)]
 
 ghost use Rattle.std.specs.Prelude.{◌≡◌, ◌*◌, ◌<◌, ◌≤◌, length};
@@ -29,7 +29,7 @@ fn put_digits(n: u64, base: u64, k: usize, out: &mut [u8])
     }
 }
 
-// How many digits n has in decimal.
+// How many digits n has in decimal. Its loop stays a `while`: the count of its turns is what is asked.
 fn places(n: u64) -> usize
     ensures { result ≡ length (decimal n) }
 {
