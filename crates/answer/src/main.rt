@@ -3,7 +3,8 @@
 
 ghost use Rattle.printing.specs.Printing.{SolveText};
 
-// The one place that prints. What it asks has `main` proved to hand over nothing but the right text for its input.
+// The one place that prints. What it asks has `main` proved to hand over nothing but the right text for its input; one that the four programs shared
+// could not ask for the text of each.
 fn print(rt: &HostRuntime, question: &[u8], text: &[u8])
     requires { SolveText question.now text.now }
 {

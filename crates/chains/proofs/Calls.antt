@@ -1,11 +1,11 @@
 -- What the calls of a way write: it passes check, has the values of the whole, and 13 and 14 hold of every pair of parts.
 -- Assumes nothing.
-use Rattle.std.specs.Prelude.{◌≡◌, refl, List, ℕ, length, take}
+use Rattle.std.specs.Prelude.{◌≡◌, refl, List, ℕ, length, take, Result, Ok, Err}
 use Rattle.std.proofs.Common.{sym, ◌∙◌, ap, ap₂, subst, subst₂}
 use Rattle.questions.specs.Questions.{AllYes}
 use Rattle.questions.specs.Answers.{result, apart}
-use Rattle.promises.specs.declared.Written.{Written}
-use Rattle.promises.specs.declared.Written.TheVariants as written
+use Rattle.questions.specs.Number.{number}
+use Rattle.questions.specs.declared.refusal.Refusal.{Refusal}
 use Rattle.promises.specs.Asked.{Room, check_asks, ComposableValues, ProductAllowed}
 use Rattle.promises.specs.Answer.{composed, ComposeRight}
 use Rattle.guarantees.specs.Compose.{first_passes, second_passes, they_meet, product_allowed, compose_certified, compose_values}
@@ -16,7 +16,7 @@ use Rattle.chains.proofs.Pairs.{values_in, Pairs}
 -- ── one call
 
 -- what a caller sees of it
-pub seen : (first second before after : List ℕ) (r : Written) → Room (length before) → ComposeRight first second before after r
+pub seen : (first second before after : List ℕ) (r : Result ℕ Refusal) → Room (length before) → ComposeRight first second before after r
     → Call first second (wrote r after)
 seen first second before after r room right = record { before = before; after = after; answer = r; room = room; right = right; outcome = refl }
 
@@ -32,9 +32,9 @@ module _ (first second : List ℕ) where
   pub call_wrote : {ws : List ℕ} → Call first second (result ws) → Wrote first second ws
   call_wrote {ws} call = go call.answer call.right call.outcome
     where
-      go : (r : Written) → ComposeRight first second call.before call.after r → wrote r call.after ≡ result ws → Wrote first second ws
-      go (written.Refused k) right e = absurd (apart ws k (sym e))
-      go (written.Count c) right e =
+      go : (r : Result ℕ Refusal) → ComposeRight first second call.before call.after r → wrote r call.after ≡ result ws → Wrote first second ws
+      go (Err q) right e = absurd (apart ws (number q) (sym e))
+      go (Ok c) right e =
           let same : take c call.after ≡ ws = cc in
           record {
             passes₁ = first_passes first second (length call.before) right.0;

@@ -1,6 +1,6 @@
 -- The number with which a way is refused is that of a question of the chain that is answered with no; so a chain is refused in no way.
 -- Assumes nothing.
-use Rattle.std.specs.Prelude.{◌≡◌, refl, ◌⊎◌, List, [], ◌∷◌, ◌++◌, ℕ, zero, suc, ◌*◌, ◌≤◌, length, take}
+use Rattle.std.specs.Prelude.{◌≡◌, refl, ◌⊎◌, List, [], ◌∷◌, ◌++◌, ℕ, zero, suc, ◌*◌, ◌≤◌, length, take, Result, Ok, Err}
 use Rattle.std.proofs.Common.{sym, ◌∙◌, ap, ap₂, subst, subst₂, inl, inr, append-nil, append_assoc, arith}
 use Rattle.std.proofs.Math.Nat as Nat
 use Rattle.questions.specs.Questions.{Questions, AllYes, FirstNo, not_both}
@@ -8,8 +8,8 @@ use Rattle.questions.specs.Joined.{no_split}
 use Rattle.questions.specs.SomeNo.{SomeNo, first_some, some_front, some_back}
 use Rattle.questions.specs.Answers.{result, refused, apart}
 use Rattle.sheet.specs.Asked.{DegreeAllowed}
-use Rattle.promises.specs.declared.Written.{Written}
-use Rattle.promises.specs.declared.Written.TheVariants as written
+use Rattle.questions.specs.Number.{number}
+use Rattle.questions.specs.declared.refusal.Refusal.{Refusal}
 use Rattle.promises.specs.Asked.{Room, check_asks, join_asks, compose_asks, ComposableValues, ProductAllowed}
 use Rattle.promises.specs.Answer.{ComposeRight}
 use Rattle.chains.specs.Chain.{values, each_asks, meet_asks, product, Each, Permitted, chain_asks}
@@ -157,11 +157,11 @@ refused_between : (t : Brackets) (k : ℕ) (xs ys : List (List ℕ)) → Way t (
 refused_between (sheet _) k xs ys way = elim way [ ]
 refused_between (both s t) k xs ys (called {first = first} {second = second} a b call) = go call.answer call.right call.outcome
   where
-    go : (r : Written) → ComposeRight first second call.before call.after r → wrote r call.after ≡ refused k
+    go : (r : Result ℕ Refusal) → ComposeRight first second call.before call.after r → wrote r call.after ≡ refused k
         → SomeNo (chain_asks (xs ++ (sheets s ++ sheets t ++ ys))) k
-    go (written.Count c) right e = absurd (apart (take c call.after) k e)
-    go (written.Refused j) right e =
-        let same : j ≡ k = cc in
+    go (Ok c) right e = absurd (apart (take c call.after) k e)
+    go (Err q) right e =
+        let same : number q ≡ k = cc in
         call_no s t first second k xs ys a b (length call.before) call.room
         (subst (FirstNo (compose_asks first second (length call.before))) same right.0)
 refused_between (both s t) k xs ys (left_refused a) =

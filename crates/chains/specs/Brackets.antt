@@ -1,25 +1,25 @@
 -- The ways to compose a chain of sheets by calls of compose, two at a time: a way is told by its brackets, and ends with the words that its last call wrote,
 -- or with the number of a call that was refused. Of compose nothing is used but its promise.
 -- Assumes nothing.
-use Rattle.std.specs.Prelude.{◌≡◌, List, [], ◌∷◌, ◌++◌, ℕ, length, take}
+use Rattle.std.specs.Prelude.{◌≡◌, List, [], ◌∷◌, ◌++◌, ℕ, length, take, Result, Ok, Err}
 use Rattle.questions.specs.Answers.{Outcome, result, refused}
-use Rattle.promises.specs.declared.Written.{Written}
-use Rattle.promises.specs.declared.Written.TheVariants as written
+use Rattle.questions.specs.Number.{number}
+use Rattle.questions.specs.declared.refusal.Refusal.{Refusal}
 use Rattle.promises.specs.Asked.{Room}
 use Rattle.promises.specs.Answer.{ComposeRight}
 
 -- ── one call
 
 -- what it wrote, the first `count` words of its buffer; or its refusal
-abbrev pub wrote : Written → List ℕ → Outcome (List ℕ)
-wrote (written.Count count) after = result (take count after)
-wrote (written.Refused k) after = refused k
+abbrev pub wrote : Result ℕ Refusal → List ℕ → Outcome (List ℕ)
+wrote (Ok count) after = result (take count after)
+wrote (Err q) after = refused (number q)
 
 -- a call with these two sheets, and some buffer of 393 words or more, can have this outcome
 pub record Call (first second : List ℕ) (o : Outcome (List ℕ)) : Type 0 where
   pub before : List ℕ
   pub after : List ℕ
-  pub answer : Written
+  pub answer : Result ℕ Refusal
   pub room : Room (length before)
   pub right : ComposeRight first second before after answer
   pub outcome : wrote answer after ≡ o

@@ -9,20 +9,18 @@ ghost use Rattle.console.specs.Bytes.{Gives, GivesModulo4, KeepsFront};
 
 use std::io::{Read, Write};
 
-// Reads until `kept` is full, the input ends or it cannot be read, and answers how many bytes came.
+// Reads until `kept` is full, the input ends or it cannot be read, and answers how many bytes came. Its loop stays a `while`, as that of `write`: a call
+// takes as many bytes as it likes.
 fn fill<R: Read>(input: &mut R, kept: &mut [u8]) -> usize
     ensures count { IsPrefixLen result kept.new }
     ensures front { Consumes (R.remaining input.old) (R.remaining input.new) (take result kept.new) }
 {
     let mut done: usize = 0;
     while done < kept.len() {
-        let Ok(n) = input.read(&mut kept[done..]) else {
-            return done;
-        };
-        if n == 0 {
-            return done;
+        match input.read(&mut kept[done..]) {
+            Ok(0) | Err(_) => return done,
+            Ok(n) => done += n,
         }
-        done += n;
     }
     done
 }
@@ -77,13 +75,10 @@ pub fn write<W: Write>(output: &mut W, bytes: &[u8]) -> usize
 {
     let mut done: usize = 0;
     while done < bytes.len() {
-        let Ok(n) = output.write(&bytes[done..]) else {
-            return done;
-        };
-        if n == 0 {
-            return done;
+        match output.write(&bytes[done..]) {
+            Ok(0) | Err(_) => return done,
+            Ok(n) => done += n,
         }
-        done += n;
     }
     done
 }

@@ -1,7 +1,7 @@
 -- The count of rational abscissas on a certificate (document 02, E6), about sheets: on every one that check lets pass, and on those that solve, kernel and
 -- compose write, it is the number of u from 0 to p − 1 with g(u) = 0, which is d at most; and what check says of a wrong or missing one.
 -- Assumes nothing.
-use Rattle.std.specs.Prelude.{◌≡◌, refl, ◌↔◌, List, ℕ, ◌<◌, ◌≤◌, length, get_or, take}
+use Rattle.std.specs.Prelude.{◌≡◌, refl, ◌↔◌, List, ℕ, ◌<◌, ◌≤◌, length, get_or, take, Result, Ok, Err}
 use Rattle.std.proofs.Common.{◌∙◌, inl, inr, arith}
 use Rattle.questions.specs.Questions.{AllYes}
 use Rattle.questions.specs.Numbered.{yes_to, first_no, YesBefore}
@@ -19,9 +19,8 @@ use Rattle.sheet.specs.Places.{coefficients_end, count_last, end_place}
 use Rattle.sheet.specs.Ready.{ready}
 use Rattle.reading.specs.Body.{kinds_at, kinds_length}
 use Rattle.reading.specs.Accepted.{certificate_g}
-use Rattle.promises.specs.declared.Verdict.{Verdict}
-use Rattle.promises.specs.declared.Verdict.TheVariants as verdict
-use Rattle.promises.specs.declared.Written.TheVariants as written
+use Rattle.questions.specs.declared.refusal.Refusal.{Refusal}
+use Rattle.questions.specs.declared.refusal.Refusal.TheVariants as refusal
 use Rattle.promises.specs.Abscissas.{rational_abscissas_of, abscissas_most}
 use Rattle.promises.specs.Asked.{prime, put, g, n, certificate_rules, check_asks}
 use Rattle.promises.specs.Answer.{CheckRight, SolveRight, KernelRight, ComposeRight}
@@ -49,25 +48,25 @@ certificate_abscissas_most ws passes =
     omega (arith, certificate_abscissas ws passes, most)
 
 -- and so it is on what solve writes,
-pub solve_abscissas : (ws before after : List ℕ) (c : ℕ) → SolveRight ws before after (written.Count c) → Counted (take c after)
+pub solve_abscissas : (ws before after : List ℕ) (c : ℕ) → SolveRight ws before after (Ok c) → Counted (take c after)
 solve_abscissas ws before after c h = certificate_abscissas (take c after) (solve_certified ws before after c h)
 
 -- on what kernel writes,
-pub kernel_abscissas : (ws before after : List ℕ) (c : ℕ) → KernelRight ws before after (written.Count c) → Counted (take c after)
+pub kernel_abscissas : (ws before after : List ℕ) (c : ℕ) → KernelRight ws before after (Ok c) → Counted (take c after)
 kernel_abscissas ws before after c h = certificate_abscissas (take c after) (kernel_certified ws before after c h)
 
 -- and on what compose writes: a composed map carries its own count.
-pub compose_abscissas : (first second before after : List ℕ) (c : ℕ) → ComposeRight first second before after (written.Count c) → Counted (take c after)
+pub compose_abscissas : (first second before after : List ℕ) (c : ℕ) → ComposeRight first second before after (Ok c) → Counted (take c after)
 compose_abscissas first second before after c h = certificate_abscissas (take c after) (compose_certified first second before after c h)
 
 -- ── what check says of the count
 
-module _ (ws : List ℕ) (r : Verdict) (h : CheckRight ws r) where
+module _ (ws : List ℕ) (r : Result (Unit {0}) Refusal) (h : CheckRight ws r) where
   abbrev p : ℕ
   p = prime Certificate ws
 
   -- Check says passes if 2 to 7 are answered with yes, R1 to R3 hold and the count is that of g's roots, and only then.
-  pub passes_when : (r ≡ verdict.Passes)
+  pub passes_when : (r ≡ Ok tt)
       ↔ (AllYes (asked Certificate ws) × R1 (Zmod p) (put Certificate ws) (g Certificate ws)
       × (n Certificate ws ≡ N (Zmod p) (put Certificate ws) (g Certificate ws))
       × R3 (Zmod p) (put Certificate ws) (g Certificate ws) (n Certificate ws) × Counted ws)
@@ -79,14 +78,14 @@ module _ (ws : List ℕ) (r : Verdict) (h : CheckRight ws r) where
   )
 
   -- On a sheet that passes 2 to 8 a count that is not right gets 9, whatever its size and whatever N is.
-  pub wrong_count : AllYes (asked Certificate ws) → R1 (Zmod p) (put Certificate ws) (g Certificate ws) → (Counted ws → ⊥) → r ≡ verdict.Refused 9
+  pub wrong_count : AllYes (asked Certificate ws) → R1 (Zmod p) (put Certificate ws) (g Certificate ws) → (Counted ws → ⊥) → r ≡ Err refusal.Numerator
   wrong_count all one wrong =
-      check_unique ws r (verdict.Refused 9) h
+      check_unique ws r (Err refusal.Numerator) h
       (no_after (asked Certificate ws) (certificate_rules ws) 9 all (inr (one, inl (refl, λ both. wrong both.1))))
 
   -- A sheet that passes 2 to 5 and has no word of kind 10 gets 6.
-  pub without_count : YesBefore (check_asks ws) 6 → ((i : ℕ) → i < length ws → kind_of (get_or ws i 0) ≡ 10 → ⊥) → r ≡ verdict.Refused 6
-  without_count before none = check_unique ws r (verdict.Refused 6) h (first_no (check_asks ws) 6 tt before there)
+  pub without_count : YesBefore (check_asks ws) 6 → ((i : ℕ) → i < length ws → kind_of (get_or ws i 0) ≡ 10 → ⊥) → r ≡ Err refusal.Words
+  without_count before none = check_unique ws r (Err refusal.Words) h (first_no (check_asks ws) 6 tt before there)
     where
       there : Asked6 Certificate ws → ⊥
       there six =

@@ -1,7 +1,7 @@
 -- The three ways to a certificate agree: from a certificate that passes, solve on its question sheet and kernel on its kernel sheet write that same
 -- certificate, word for word; and no other certificate with its values passes.
 -- Assumes nothing.
-use Rattle.std.specs.Prelude.{◌≡◌, length}
+use Rattle.std.specs.Prelude.{◌≡◌, length, Result, Ok}
 use Rattle.std.proofs.Math.Path.{refl, sym, ap, subst}
 use Rattle.std.proofs.Common.{◌∙◌, ap₂, arith, length-append, length-take, length-drop, drop_of_length-le, get_or-take, get_or-drop, take_at}
 use Rattle.std.proofs.lemmas.Bool.{false≢true}
@@ -32,8 +32,7 @@ use Rattle.reading.specs.Leaf.{Sections}
 use Rattle.reading.specs.Body.{Words6, asked6_words, words_asked6}
 use Rattle.reading.specs.Accepted.{certificate_length, certificate_g, certificate_n}
 use Rattle.certificate.specs.Certificate.{certificate, header_words}
-use Rattle.promises.specs.declared.Written.{Written}
-use Rattle.promises.specs.declared.Written.TheVariants as written
+use Rattle.questions.specs.declared.refusal.Refusal.{Refusal}
 use Rattle.promises.specs.Asked.{Room, Solvable, Passing, last_ask, check_asks}
 use Rattle.promises.specs.Answer.{CertificateIn, with, SolveRight, KernelRight}
 use Rattle.guarantees.specs.Solve.{solve_unique}
@@ -125,7 +124,7 @@ module _ (ws : List ℕ) (passes : AllYes (check_asks ws)) where
       )
 
   -- That certificate, with the count of its words and what stood behind it in the buffer, is a right answer of solve to its question,
-  pub solve_right : (before : List ℕ) → Room (length before) → SolveRight (question_of ws) before (ws ++ drop (length ws) before) (written.Count (length ws))
+  pub solve_right : (before : List ℕ) → Room (length before) → SolveRight (question_of ws) before (ws ++ drop (length ws) before) (Ok (length ws))
   solve_right before room =
       let solvable : Solvable v = record { g = poly v.p (gOf Certificate ws); meets = certificate_meets ws passes } in (
         (
@@ -137,9 +136,9 @@ module _ (ws : List ℕ) (passes : AllYes (check_asks ws)) where
       )
 
   -- so solve, asked the question of a certificate that passes, answers with it: the count of its words, its words, and then what stood there before.
-  pub solve_again : (before after : List ℕ) (r : Written) → Room (length before) → SolveRight (question_of ws) before after r
-      → (r ≡ written.Count (length ws)) × (after ≡ ws ++ drop (length ws) before)
-  solve_again before after r room h = solve_unique (question_of ws) before after _ r (written.Count (length ws)) h (solve_right before room)
+  pub solve_again : (before after : List ℕ) (r : Result ℕ Refusal) → Room (length before) → SolveRight (question_of ws) before after r
+      → (r ≡ Ok (length ws)) × (after ≡ ws ++ drop (length ws) before)
+  solve_again before after r room h = solve_unique (question_of ws) before after _ r (Ok (length ws)) h (solve_right before room)
 
   -- ── kernel
 
@@ -275,7 +274,7 @@ module _ (ws : List ℕ) (passes : AllYes (check_asks ws)) where
   }
 
   -- The certificate is a right answer of kernel to its kernel sheet,
-  pub kernel_right : (before : List ℕ) → Room (length before) → KernelRight us before (ws ++ drop (length ws) before) (written.Count (length ws))
+  pub kernel_right : (before : List ℕ) → Room (length before) → KernelRight us before (ws ++ drop (length ws) before) (Ok (length ws))
   unfolding held
   kernel_right before room =
       let after : List ℕ = ws ++ drop (length ws) before in
@@ -299,9 +298,9 @@ module _ (ws : List ℕ) (passes : AllYes (check_asks ws)) where
       )
 
   -- so kernel, given the domain, the degree and the g of a certificate that passes, answers with it, codomain included.
-  pub kernel_again : (before after : List ℕ) (r : Written) → Room (length before) → KernelRight (kernel_of ws) before after r
-      → (r ≡ written.Count (length ws)) × (after ≡ ws ++ drop (length ws) before)
-  kernel_again before after r room h = kernel_unique (kernel_of ws) before after _ r (written.Count (length ws)) h (kernel_right before room)
+  pub kernel_again : (before after : List ℕ) (r : Result ℕ Refusal) → Room (length before) → KernelRight (kernel_of ws) before after r
+      → (r ≡ Ok (length ws)) × (after ≡ ws ++ drop (length ws) before)
+  kernel_again before after r room h = kernel_unique (kernel_of ws) before after _ r (Ok (length ws)) h (kernel_right before room)
 
 -- ── one certificate
 

@@ -1,7 +1,7 @@
 -- Points under what compose writes: pushing a point through it is pushing it through the first certificate and then through the second, infinity and the
 -- points of both kernels included, and a point that the first refuses is refused.
 -- Assumes nothing.
-use Rattle.std.specs.Prelude.{◌≡◌, refl, ◌↔◌, ◌⊎◌, List, [], ◌∷◌, ℕ, ◌<◌, length, take}
+use Rattle.std.specs.Prelude.{◌≡◌, refl, ◌↔◌, ◌⊎◌, List, [], ◌∷◌, ℕ, ◌<◌, length, take, Result, Ok, Err}
 use Rattle.std.proofs.Common.{sym, subst, inl, inr}
 use Rattle.ring.specs.Ring.{CRing, pow}
 use Rattle.series.specs.Series.{Seq}
@@ -20,11 +20,10 @@ use Rattle.sheet.specs.declared.Values.{Values}
 use Rattle.sheet.specs.Values.{gOf, n_of, values_of, question, half}
 use Rattle.sheet.specs.Asked.{Curves}
 use Rattle.sheet.specs.Ready.{Ready, half_least}
-use Rattle.promises.specs.declared.Written.TheVariants as written
+use Rattle.questions.specs.Number.{number}
+use Rattle.questions.specs.declared.refusal.Refusal.{Refusal}
 use Rattle.promises.specs.declared.Point.{Point}
 use Rattle.promises.specs.declared.Point.TheVariants as point
-use Rattle.promises.specs.declared.Image.{Image}
-use Rattle.promises.specs.declared.Image.TheVariants as image
 use Rattle.promises.specs.Asked.{OnDomain, Given, ComposableValues, ProductAllowed, check_asks, push_asks}
 use Rattle.promises.specs.Answer.{CertificateIn, composed, ComposeRight, ToPoint, Goes, PushRight}
 use Rattle.promises.specs.Composed.{over, over_same, composable, composed_question, meets_over}
@@ -34,7 +33,7 @@ use Rattle.guarantees.specs.Push.{push_answers, push_unique, push_on_codomain}
 use Rattle.guarantees.specs.Compose as C
 use Rattle.guarantees.specs.ComposePush.{InTurn}
 
-module _ (first second before after : List ℕ) (c : ℕ) (right : ComposeRight first second before after (written.Count c)) where
+module _ (first second before after : List ℕ) (c : ℕ) (right : ComposeRight first second before after (Ok c)) where
   abbrev v : Values
   v = values_of Certificate first
 
@@ -182,7 +181,7 @@ module _ (first second before after : List ℕ) (c : ℕ) (right : ComposeRight 
   below (point.Affine x y) u t h = (h.u_below, h.w_below)
   below point.Infinity u t h = absurd h
 
-  given_between : (at : Point) (u t : ℕ) → PushRight first at (image.Affine u t) → Given w (point.Affine u t)
+  given_between : (at : Point) (u t : ℕ) → PushRight first at (Ok (point.Affine u t)) → Given w (point.Affine u t)
   given_between at u t h =
       let low = below at u t h.1 in
       subst (λ w. OnDomain w u t) (over_same w meet.p) (record { x_below = low.0; y_below = low.1; on = on })
@@ -193,8 +192,8 @@ module _ (first second before after : List ℕ) (c : ℕ) (right : ComposeRight 
           (subst (λ a. OnCurve R (mk p a) (mk p v.btilde) (mk p u) (mk p t)) meet.a (push_on_codomain first at u t h))
 
   -- no point from there is refused
-  none_refused : (at : Point) (k : ℕ) → Given w at → PushRight second at (image.Refused k) → ⊥
-  none_refused at k given h = not_both (push_asks second at) k (all_all (check_asks second) ((12, Given w at) ∷ []) passes₂ (given, tt)) h
+  none_refused : (at : Point) (q : Refusal) → Given w at → PushRight second at (Err q) → ⊥
+  none_refused at q given h = not_both (push_asks second at) (number q) (all_all (check_asks second) ((12, Given w at) ∷ []) passes₂ (given, tt)) h
 
   -- ── the sheet that compose has written
 
@@ -222,39 +221,39 @@ module _ (first second before after : List ℕ) (c : ℕ) (right : ComposeRight 
     goes_on_sheet at to (goes_on at between to h k),
   )
 
-  refused_there : (at : Point) (k : ℕ) → PushRight first at (image.Refused k) → PushRight ws at (image.Refused k)
-  refused_there at k h = go (no_split (check_asks first) ((12, Given v at) ∷ []) k h)
+  refused_there : (at : Point) (q : Refusal) → PushRight first at (Err q) → PushRight ws at (Err q)
+  refused_there at q h = go (no_split (check_asks first) ((12, Given v at) ∷ []) (number q) h)
     where
-      go : FirstNo (check_asks first) k ⊎ (AllYes (check_asks first) × FirstNo ((12, Given v at) ∷ []) k) → FirstNo (push_asks ws at) k
-      go (inl sooner) = absurd (not_both (check_asks first) k passes₁ sooner)
-      go (inr (_, inl (number, not))) =
-          no_after (check_asks ws) ((12, Given (values_of Certificate ws) at) ∷ []) k passes
-          (inl (number, λ given. not (given_back at (subst (λ v. Given v at) sheet_values given))))
+      go : FirstNo (check_asks first) (number q) ⊎ (AllYes (check_asks first) × FirstNo ((12, Given v at) ∷ []) (number q))
+          → FirstNo (push_asks ws at) (number q)
+      go (inl sooner) = absurd (not_both (check_asks first) (number q) passes₁ sooner)
+      go (inr (_, inl (twelve, not))) =
+          no_after (check_asks ws) ((12, Given (values_of Certificate ws) at) ∷ []) (number q) passes
+          (inl (twelve, λ given. not (given_back at (subst (λ v. Given v at) sheet_values given))))
       go (inr (_, inr (_, none))) = absurd none
 
   -- ── the theorem
 
-  in_turn_goes : (at : Point) (r : Image) → InTurn first second at r → PushRight ws at r
-  in_turn_goes at (image.Affine u t) (image.Affine u' t', h, k) = goes_there at (point.Affine u' t') (point.Affine u t) h.0 h.1 k.1
-  in_turn_goes at image.Infinity (image.Affine u' t', h, k) = goes_there at (point.Affine u' t') point.Infinity h.0 h.1 k.1
-  in_turn_goes at (image.Refused n) (image.Affine u' t', h, k) = absurd (none_refused (point.Affine u' t') n (given_between at u' t' h) k)
-  in_turn_goes at (image.Affine u t) (image.Infinity, h, k) = absurd k.1
-  in_turn_goes at image.Infinity (image.Infinity, h, k) = goes_there at point.Infinity point.Infinity h.0 h.1 k.1
-  in_turn_goes at (image.Refused n) (image.Infinity, h, k) = absurd (none_refused point.Infinity n tt k)
-  in_turn_goes at r (image.Refused n, h, k) = subst (PushRight ws at) (sym k) (refused_there at n h)
+  in_turn_goes : (at : Point) (r : Result Point Refusal) → InTurn first second at r → PushRight ws at r
+  in_turn_goes at (Ok (point.Affine u t)) (Ok (point.Affine u' t'), h, k) = goes_there at (point.Affine u' t') (point.Affine u t) h.0 h.1 k.1
+  in_turn_goes at (Ok point.Infinity) (Ok (point.Affine u' t'), h, k) = goes_there at (point.Affine u' t') point.Infinity h.0 h.1 k.1
+  in_turn_goes at (Err q) (Ok (point.Affine u' t'), h, k) = absurd (none_refused (point.Affine u' t') q (given_between at u' t' h) k)
+  in_turn_goes at (Ok (point.Affine u t)) (Ok point.Infinity, h, k) = absurd k.1
+  in_turn_goes at (Ok point.Infinity) (Ok point.Infinity, h, k) = goes_there at point.Infinity point.Infinity h.0 h.1 k.1
+  in_turn_goes at (Err q) (Ok point.Infinity, h, k) = absurd (none_refused point.Infinity q tt k)
+  in_turn_goes at r (Err q, h, k) = subst (PushRight ws at) (sym k) (refused_there at q h)
 
   -- every point has an answer in turn
-  in_turn : (at : Point) → (r : Image) × InTurn first second at r
+  in_turn : (at : Point) → (r : Result Point Refusal) × InTurn first second at r
   in_turn at = let (between, h) = push_answers first passes₁ at in onward between h
     where
-      onward : (between : Image) → PushRight first at between → (r : Image) × InTurn first second at r
-      onward (image.Affine u t) h = let (r, k) = push_answers second passes₂ (point.Affine u t) in (r, (image.Affine u t, h, k))
-      onward image.Infinity h = let (r, k) = push_answers second passes₂ point.Infinity in (r, (image.Infinity, h, k))
-      onward (image.Refused n) h = (image.Refused n, (image.Refused n, h, refl))
+      onward : (between : Result Point Refusal) → PushRight first at between → (r : Result Point Refusal) × InTurn first second at r
+      onward (Ok between) h = let (r, k) = push_answers second passes₂ between in (r, (Ok between, h, k))
+      onward (Err q) h = (Err q, (Err q, h, refl))
 
   -- Pushing a point through what compose has written is pushing it through the first and then through the second: the one gives an answer exactly when the
   -- other does.
-  pub compose_push : (at : Point) (r : Image) → PushRight (take c after) at r ↔ InTurn first second at r
+  pub compose_push : (at : Point) (r : Result Point Refusal) → PushRight (take c after) at r ↔ InTurn first second at r
   compose_push at r = (back, in_turn_goes at r)
     where
       back : PushRight ws at r → InTurn first second at r

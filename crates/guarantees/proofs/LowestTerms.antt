@@ -1,7 +1,7 @@
 -- Kernels free of repetition (document 02, E12), about the words of every sheet that check lets pass, whoever wrote them; what solve, kernel and compose
 -- write is such a sheet. Polynomials and their factors are over ℤ/p, the field of the sheet's p; ℓ, g and N are those on the sheet.
 -- Assumes nothing.
-use Rattle.std.specs.Prelude.{◌≢◌, ◌≡◌, List, ℕ, suc, ◌-◌, ◌≤◌, take}
+use Rattle.std.specs.Prelude.{◌≢◌, ◌≡◌, List, ℕ, suc, ◌-◌, ◌≤◌, take, Ok}
 use Rattle.std.proofs.Common.{sym, ◌∙◌, subst, arith}
 use Rattle.std.proofs.Math.Path.{ap}
 use Rattle.ring.specs.Ring.{CRing}
@@ -22,8 +22,6 @@ use Rattle.sheet.specs.declared.Form.TheVariants.{Certificate}
 use Rattle.sheet.specs.Values.{values_of}
 use Rattle.sheet.specs.Asked.{Curves}
 use Rattle.sheet.specs.Ready.{Ready, half_least, degree_half, degree_below}
-use Rattle.promises.specs.declared.Verdict.TheVariants as verdict
-use Rattle.promises.specs.declared.Written.TheVariants as written
 use Rattle.promises.specs.Asked.{OnDomain, check_asks}
 use Rattle.promises.specs.Answer.{CheckRight, SolveRight, KernelRight, ComposeRight}
 use Rattle.guarantees.specs.Solve.{solve_certified}
@@ -33,7 +31,7 @@ use Rattle.promises.specs.Certificates.{certificate_ready, certificate_N, certif
 use Rattle.guarantees.specs.LowestTerms as Sheet
 
 -- Check's verdict on the words is that they pass.
-module _ (ws : List ℕ) (passes : CheckRight ws verdict.Passes) where
+module _ (ws : List ℕ) (passes : CheckRight ws (Ok tt)) where
   abbrev p : ℕ
   p = Sheet.p ws
 
@@ -165,14 +163,14 @@ module _ (ws : List ℕ) (passes : CheckRight ws verdict.Passes) where
         subst (λ l. l ≤ n) ℓ-is (Theorems.numerator_degree is_prime q d≥1 nonsingular small g meets M D poly_M poly_D same_N nonzero n below)
 
 -- What solve writes is such a sheet,
-pub solve_passes : (ws before after : List ℕ) (c : ℕ) → SolveRight ws before after (written.Count c) → CheckRight (take c after) verdict.Passes
+pub solve_passes : (ws before after : List ℕ) (c : ℕ) → SolveRight ws before after (Ok c) → CheckRight (take c after) (Ok tt)
 solve_passes ws before after c h = (solve_certified ws before after c h, tt)
 
 -- so is what kernel writes,
-pub kernel_passes : (ws before after : List ℕ) (c : ℕ) → KernelRight ws before after (written.Count c) → CheckRight (take c after) verdict.Passes
+pub kernel_passes : (ws before after : List ℕ) (c : ℕ) → KernelRight ws before after (Ok c) → CheckRight (take c after) (Ok tt)
 kernel_passes ws before after c h = (kernel_certified ws before after c h, tt)
 
 -- and so is what compose writes.
-pub compose_passes : (first second before after : List ℕ) (c : ℕ) → ComposeRight first second before after (written.Count c)
-    → CheckRight (take c after) verdict.Passes
+pub compose_passes : (first second before after : List ℕ) (c : ℕ) → ComposeRight first second before after (Ok c)
+    → CheckRight (take c after) (Ok tt)
 compose_passes first second before after c h = (compose_certified first second before after c h, tt)

@@ -1,7 +1,7 @@
 -- Demand 2 in the formulas of source document 001, about sheets: the codomain on a certificate is Vélu's as that document computes it from the first
 -- coefficients of D = g², and the certificate's N is that of its formula (13). (The formulas are in `isogeny/specs/Velu` and `isogeny/specs/Source`.)
 -- Assumes nothing.
-use Rattle.std.specs.Prelude.{◌≡◌, List, ℕ, suc, take}
+use Rattle.std.specs.Prelude.{◌≡◌, List, ℕ, suc, take, Ok}
 use Rattle.std.proofs.Common.{sym, subst, arith}
 use Rattle.ring.specs.Ring.{CRing}
 use Rattle.series.specs.Series.{Seq, conv}
@@ -20,7 +20,6 @@ use Rattle.sheet.specs.Values.{values_of, half, gOf}
 use Rattle.sheet.specs.Asked.{asked}
 use Rattle.sheet.specs.Ready.{Ready, ready, half_least}
 use Rattle.reading.specs.Accepted.{kernel_g}
-use Rattle.promises.specs.declared.Written.TheVariants as written
 use Rattle.promises.specs.Asked.{Leading, prime, put, g, n, check_asks}
 use Rattle.promises.specs.Answer.{SolveRight, KernelRight}
 use Rattle.promises.specs.Certificates.{certificate_ready, certificate_N, certificate_meets}
@@ -64,14 +63,14 @@ module _ (ws : List ℕ) (passes : AllYes (check_asks ws)) where
 -- ── what solve and kernel write
 
 -- So does what solve writes,
-pub solve_source : (ws before after : List ℕ) (c : ℕ) → SolveRight ws before after (written.Count c)
+pub solve_source : (ws before after : List ℕ) (c : ℕ) → SolveRight ws before after (Ok c)
     → VeluCodomain (take c after) × SourceFormula (take c after)
 solve_source ws before after c h =
     let passes : AllYes (check_asks (take c after)) = solve_certified ws before after c h in
     (certificate_velu (take c after) passes, certificate_13 (take c after) passes)
 
 -- and what kernel writes.
-pub kernel_source : (ws before after : List ℕ) (c : ℕ) → KernelRight ws before after (written.Count c)
+pub kernel_source : (ws before after : List ℕ) (c : ℕ) → KernelRight ws before after (Ok c)
     → VeluCodomain (take c after) × SourceFormula (take c after)
 kernel_source ws before after c h =
     let passes : AllYes (check_asks (take c after)) = kernel_certified ws before after c h in

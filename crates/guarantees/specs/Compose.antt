@@ -1,7 +1,7 @@
 -- What a customer can cite of compose: one answer is right and no other, with every word of the lent buffer; what it writes passes check, so that no question
 -- about the rules is left to ask; and it says what document 02 has it say.
 -- Assumes nothing.
-use Rattle.std.specs.Prelude.{◌≡◌, List, ◌++◌, ℕ, length, take}
+use Rattle.std.specs.Prelude.{◌≡◌, List, ◌++◌, ℕ, length, take, Result, Ok, Err}
 use Rattle.std.proofs.Common.{sym, ◌∙◌, ap, subst}
 use Rattle.zmod.specs.Zmod.{Zmod}
 use Rattle.zmod.specs.Residues.{poly}
@@ -16,9 +16,8 @@ use Rattle.sheet.specs.Form.{certificate_words}
 use Rattle.sheet.specs.Values.{gOf, values_of, question, half}
 use Rattle.sheet.specs.Asked.{Curves}
 use Rattle.sheet.specs.Ready.{Ready}
-use Rattle.promises.specs.declared.Written.{Written}
-use Rattle.promises.specs.declared.Written.TheVariants as written
-use Rattle.promises.specs.Outcome.{written_outcome, same_written}
+use Rattle.questions.specs.Number.{number, outcome, same_outcome}
+use Rattle.questions.specs.declared.refusal.Refusal.{Refusal}
 use Rattle.promises.specs.Asked.{ComposableValues, ProductAllowed, check_asks, join_asks, compose_asks}
 use Rattle.promises.specs.Answer.{composed, ComposeIn, ComposeRight}
 use Rattle.promises.specs.Composed.{over, over_same, composed_ready}
@@ -77,7 +76,8 @@ module _ (first second : List ℕ) where
 
   module _ (before : List ℕ) where
     -- One answer is right at most, with one content of the lent buffer.
-    pub compose_unique : (after after' : List ℕ) (r r' : Written) → ComposeRight first second before after r → ComposeRight first second before after' r'
+    pub compose_unique : (after after' : List ℕ) (r r' : Result ℕ Refusal) → ComposeRight first second before after r
+        → ComposeRight first second before after' r'
         → (r ≡ r') × (after ≡ after')
     compose_unique after after' r r' h k =
         let same =
@@ -85,16 +85,17 @@ module _ (first second : List ℕ) where
         (λ count after. ComposeIn v w (gOf Certificate first) (gOf Certificate second) before after count) before
         (λ all c c' xs ys a b.
         one_certificate (composed v w) (composite_ready (length before) all) before xs ys c c' a.certificate b.certificate)
-        (written_outcome r) (written_outcome r') after after' h k in
-        (same_written r r' same.0, same.1)
+        (outcome r) (outcome r') after after' h k in
+        (same_outcome r r' same.0, same.1)
 
     -- Where all questions are answered with yes, compose writes a certificate, of as many words as its degree has.
-    pub compose_written : (after : List ℕ) (r : Written) → AllYes (compose_asks first second (length before)) → ComposeRight first second before after r
-        → r ≡ written.Count (certificate_words (half (composed v w)))
-    compose_written after (written.Count c) all h = ap written.Count h.1.certificate.count_is
-    compose_written after (written.Refused k) all h = absurd (not_both (compose_asks first second (length before)) k all h.0)
+    pub compose_written : (after : List ℕ) (r : Result ℕ Refusal) → AllYes (compose_asks first second (length before))
+        → ComposeRight first second before after r
+        → r ≡ Ok (certificate_words (half (composed v w)))
+    compose_written after (Ok c) all h = ap Ok h.1.certificate.count_is
+    compose_written after (Err q) all h = absurd (not_both (compose_asks first second (length before)) (number q) all h.0)
 
-    module _ (after : List ℕ) (c : ℕ) (right : ComposeRight first second before after (written.Count c)) where
+    module _ (after : List ℕ) (c : ℕ) (right : ComposeRight first second before after (Ok c)) where
       abbrev all : AllYes (compose_asks first second (length before))
       all = right.0
 

@@ -1,7 +1,7 @@
 -- What a customer can cite of kernel: one answer is right and no other, with every word of the lent buffer, since the sheet determines codomain, σ and N;
 -- and what it writes passes check.
 -- Assumes nothing.
-use Rattle.std.specs.Prelude.{◌≡◌, List, ℕ, length, take}
+use Rattle.std.specs.Prelude.{◌≡◌, List, ℕ, length, take, Result, Ok}
 use Rattle.std.proofs.Common.{sym, ◌∙◌, subst}
 use Rattle.series.specs.Series.{Seq}
 use Rattle.zmod.specs.Zmod.{Zmod, mk, mk_apart}
@@ -20,9 +20,8 @@ use Rattle.sheet.specs.declared.Values.{Values}
 use Rattle.sheet.specs.Values.{gOf, values_of, question, half}
 use Rattle.sheet.specs.Asked.{Curves, asked}
 use Rattle.sheet.specs.Ready.{Ready, ready, half_least}
-use Rattle.promises.specs.declared.Written.{Written}
-use Rattle.promises.specs.declared.Written.TheVariants as written
-use Rattle.promises.specs.Outcome.{written_outcome, same_written}
+use Rattle.questions.specs.Number.{outcome, same_outcome}
+use Rattle.questions.specs.declared.refusal.Refusal.{Refusal}
 use Rattle.promises.specs.Asked.{check_asks, last_ask, kernel_asks}
 use Rattle.promises.specs.Answer.{CertificateIn, with, KernelIn, KernelRight}
 use Rattle.guarantees.specs.Certified.{certified, one_certificate}
@@ -67,17 +66,17 @@ module _ (v : Values) (known : Ready v) (g before : List ℕ) where
       (subst (λ x. CertificateIn (with v k'.ã k'.b̃ x) before after' count') s k'.certificate)))
 
 -- One answer is right at most, with one content of the lent buffer.
-pub kernel_unique : (ws before after after' : List ℕ) (r r' : Written) → KernelRight ws before after r → KernelRight ws before after' r'
+pub kernel_unique : (ws before after after' : List ℕ) (r r' : Result ℕ Refusal) → KernelRight ws before after r → KernelRight ws before after' r'
     → (r ≡ r') × (after ≡ after')
 kernel_unique ws before after after' r r' h k =
     let same =
     writes_unique (kernel_asks ws (length before)) (λ count after. KernelIn (values_of Kernel ws) (gOf Kernel ws) before after count) before
     (λ all c c' xs ys a b. one_kernel (values_of Kernel ws) (ready Kernel ws (kernel_asked ws (length before) all)) (gOf Kernel ws) before a b)
-    (written_outcome r) (written_outcome r') after after' h k in
-    (same_written r r' same.0, same.1)
+    (outcome r) (outcome r') after after' h k in
+    (same_outcome r r' same.0, same.1)
 
 -- What kernel writes passes check.
-pub kernel_certified : (ws before after : List ℕ) (c : ℕ) → KernelRight ws before after (written.Count c) → AllYes (check_asks (take c after))
+pub kernel_certified : (ws before after : List ℕ) (c : ℕ) → KernelRight ws before after (Ok c) → AllYes (check_asks (take c after))
 kernel_certified ws before after c (all, it) =
     let first : AllYes (asked Kernel ws) = kernel_asked ws (length before) all in
     let curves : Curves Kernel (values_of Kernel ws) = yes_to (asked Kernel ws) 7 first in

@@ -1,7 +1,7 @@
 -- What a customer can cite of push: for every point of every certificate that passes one answer is right and no other, and an affine image is a point of
 -- the codomain.
 -- Assumes nothing.
-use Rattle.std.specs.Prelude.{◌≡◌, refl, List, [], ◌∷◌, ℕ, suc, ◌<◌}
+use Rattle.std.specs.Prelude.{◌≡◌, refl, List, [], ◌∷◌, ℕ, suc, ◌<◌, Result, Ok, Err}
 use Rattle.std.proofs.Common.{sym, ap₂, subst, inl, arith}
 use Rattle.std.proofs.Math.Decide.{dec_lt}
 use Rattle.series.specs.Degree.{Below}
@@ -21,9 +21,9 @@ use Rattle.sheet.specs.Values.{gOf, n_of, values_of, half}
 use Rattle.reading.specs.Accepted.{certificate_g, certificate_n}
 use Rattle.promises.specs.declared.Point.{Point}
 use Rattle.promises.specs.declared.Point.TheVariants as point
-use Rattle.promises.specs.declared.Image.{Image}
-use Rattle.promises.specs.declared.Image.TheVariants as image
-use Rattle.promises.specs.Outcome.{image_outcome, same_image}
+use Rattle.questions.specs.Number.{outcome, same_outcome}
+use Rattle.questions.specs.declared.refusal.Refusal.{Refusal}
+use Rattle.questions.specs.declared.refusal.Refusal.TheVariants as refusal
 use Rattle.promises.specs.Asked.{prime, put, g, n, OnDomain, check_asks, push_asks, Given}
 use Rattle.promises.specs.Answer.{ToPoint, Goes, PushRight}
 use Rattle.promises.specs.Certificates.{check_asked}
@@ -78,18 +78,18 @@ module _ (ws : List ℕ) (all : AllYes (check_asks ws)) where
       go (yes a) (no b) on = no (λ h. b h.y_below)
       go (no a) b on = no (λ h. a h.x_below)
 
-  affine_answer : (x y : ℕ) → OnDomain (values_of Certificate ws) x y → (r : Image) × PushRight ws (point.Affine x y) r
+  affine_answer : (x y : ℕ) → OnDomain (values_of Certificate ws) x y → (r : Result Point Refusal) × PushRight ws (point.Affine x y) r
   affine_answer x y on = go (same? p (g_at (Zmod p) (put Certificate ws) (g Certificate ws) (mk p x)) (mk p 0))
     where
       asked_all : AllYes (push_asks ws (point.Affine x y))
       asked_all = all_all (check_asks ws) ((12, Given (values_of Certificate ws) (point.Affine x y)) ∷ []) all (on, tt)
 
-      go : Dec (g_at (Zmod p) (put Certificate ws) (g Certificate ws) (mk p x) ≡ mk p 0) → (r : Image) × PushRight ws (point.Affine x y) r
-      go (yes zero) = (image.Infinity, (asked_all, zero))
+      go : Dec (g_at (Zmod p) (put Certificate ws) (g Certificate ws) (mk p x) ≡ mk p 0) → (r : Result Point Refusal) × PushRight ws (point.Affine x y) r
+      go (yes zero) = (Ok point.Infinity, (asked_all, zero))
       go (no nonzero) =
           let (u, w, h) =
           T.image_exists is_prime (put Certificate ws) (g Certificate ws) (n Certificate ws) g_below n_below (mk p x) (mk p y) nonzero in (
-            image.Affine (val p u) (val p w),
+            Ok (point.Affine (val p u) (val p w)),
             (
               asked_all,
               record {
@@ -104,26 +104,26 @@ module _ (ws : List ℕ) (all : AllYes (check_asks ws)) where
           )
 
   -- Whatever the point, some answer is right.
-  pub push_answers : (at : Point) → (r : Image) × PushRight ws at r
+  pub push_answers : (at : Point) → (r : Result Point Refusal) × PushRight ws at r
   push_answers point.Infinity =
-      (image.Infinity, (all_all (check_asks ws) ((12, Given (values_of Certificate ws) point.Infinity) ∷ []) all (tt, tt), tt))
+      (Ok point.Infinity, (all_all (check_asks ws) ((12, Given (values_of Certificate ws) point.Infinity) ∷ []) all (tt, tt), tt))
   push_answers (point.Affine x y) = go (on_domain? x y)
     where
-      go : Dec (OnDomain (values_of Certificate ws) x y) → (r : Image) × PushRight ws (point.Affine x y) r
+      go : Dec (OnDomain (values_of Certificate ws) x y) → (r : Result Point Refusal) × PushRight ws (point.Affine x y) r
       go (yes on) = affine_answer x y on
       go (no off) =
-          (image.Refused 12, no_after (check_asks ws) ((12, Given (values_of Certificate ws) (point.Affine x y)) ∷ []) 12 all (inl (refl, off)))
+          (Err refusal.Point, no_after (check_asks ws) ((12, Given (values_of Certificate ws) (point.Affine x y)) ∷ []) 12 all (inl (refl, off)))
 
 module _ (ws : List ℕ) (at : Point) where
   -- One answer is right at most.
-  pub push_unique : (r r' : Image) → PushRight ws at r → PushRight ws at r' → r ≡ r'
+  pub push_unique : (r r' : Result Point Refusal) → PushRight ws at r → PushRight ws at r' → r ≡ r'
   push_unique r r' h k =
-      same_image r r'
+      same_outcome r r'
       (answers_unique (push_asks ws at) (Goes (values_of Certificate ws) (gOf Certificate ws) (n_of Certificate ws) at)
-      (λ all a b. goes_once ws (push_checked ws at all) at a b) (image_outcome r) (image_outcome r') h k)
+      (λ all a b. goes_once ws (push_checked ws at all) at a b) (outcome r) (outcome r') h k)
 
   -- An affine image is a point of the codomain.
-  pub push_on_codomain : (u w : ℕ) → PushRight ws at (image.Affine u w)
+  pub push_on_codomain : (u w : ℕ) → PushRight ws at (Ok (point.Affine u w))
       → OnCurve (Zmod (prime Certificate ws)) (put Certificate ws).Ã (put Certificate ws).B̃ (mk (prime Certificate ws) u) (mk (prime Certificate ws) w)
   push_on_codomain u w (all, goes) = go at (yes_to (push_asks ws at) 12 all) goes
     where

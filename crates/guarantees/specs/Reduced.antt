@@ -1,7 +1,7 @@
 -- Values at or above p (document 02, E2): a question or a kernel sheet and the same sheet with its values reduced get the same answer, number and every
 -- word; and whatever the values are, neither service refuses a sheet with 5.
 -- Assumes nothing.
-use Rattle.std.specs.Prelude.{◌≡◌, refl, ◌↔◌, List, [], ◌∷◌, ◌++◌, ℕ, length}
+use Rattle.std.specs.Prelude.{◌≡◌, refl, ◌↔◌, List, [], ◌∷◌, ◌++◌, ℕ, length, Result, Err}
 use Rattle.std.proofs.Common.{sym, ap₂, subst}
 use Rattle.zmod.specs.Prime.{prime_pos}
 use Rattle.questions.specs.Questions.{Questions, AllYes}
@@ -16,9 +16,9 @@ use Rattle.sheet.specs.Values.{values_of, gOf}
 use Rattle.sheet.specs.Asked.{asked}
 use Rattle.sheet.specs.Reduction.{Modulo, question_modulo, kernel_modulo, five_always}
 use Rattle.reading.specs.ReducedSheet.{reduced, values_same, g_same, reduced_alike}
-use Rattle.promises.specs.declared.Written.{Written}
-use Rattle.promises.specs.declared.Written.TheVariants as written
-use Rattle.promises.specs.Outcome.{written_outcome}
+use Rattle.questions.specs.Number.{outcome}
+use Rattle.questions.specs.declared.refusal.Refusal.{Refusal}
+use Rattle.questions.specs.declared.refusal.Refusal.TheVariants as refusal
 use Rattle.promises.specs.Asked.{Room, Solvable, solve_asks, last_ask, kernel_asks}
 use Rattle.promises.specs.Answer.{CertificateIn, SolveRight, KernelIn, KernelRight}
 
@@ -83,23 +83,23 @@ module _ (form : Form) (modulo : Modulo form) (ws : List ℕ) (later : Values �
 
 module _ (ws before after : List ℕ) where
   -- A question and the same question with its values reduced have one right answer of solve: the number, or the count with every word of the buffer.
-  pub solve_reduced : (r : Written) → SolveRight ws before after r ↔ SolveRight (reduced ws) before after r
+  pub solve_reduced : (r : Result ℕ Refusal) → SolveRight ws before after r ↔ SolveRight (reduced ws) before after r
   solve_reduced r =
       writes_reduced Question question_modulo ws (λ v _. (11, Solvable v) ∷ []) (λ v _ count after. CertificateIn v before after count) before after
-      (written_outcome r)
+      (outcome r)
 
   -- The same for a kernel sheet, the coefficients of g included.
-  pub kernel_reduced : (r : Written) → KernelRight ws before after r ↔ KernelRight (reduced ws) before after r
+  pub kernel_reduced : (r : Result ℕ Refusal) → KernelRight ws before after r ↔ KernelRight (reduced ws) before after r
   kernel_reduced r =
-      writes_reduced Kernel kernel_modulo ws last_ask (λ v g count after. KernelIn v g before after count) before after (written_outcome r)
+      writes_reduced Kernel kernel_modulo ws last_ask (λ v g count after. KernelIn v g before after count) before after (outcome r)
 
   -- Solve refuses no question with 5, and kernel no kernel sheet.
-  pub solve_never_5 : SolveRight ws before after (written.Refused 5) → ⊥
+  pub solve_never_5 : SolveRight ws before after (Err refusal.Values) → ⊥
   solve_never_5 h =
       let no = no_by (solve_asks ws (length before)) 5 tt h.0 in
       no.1 (five_always Question question_modulo ws (prime_pos no.0.1.1.0.prime))
 
-  pub kernel_never_5 : KernelRight ws before after (written.Refused 5) → ⊥
+  pub kernel_never_5 : KernelRight ws before after (Err refusal.Values) → ⊥
   kernel_never_5 h =
       let no = no_by (kernel_asks ws (length before)) 5 tt h.0 in
       no.1 (five_always Kernel kernel_modulo ws (prime_pos no.0.1.1.0.prime))

@@ -1,6 +1,6 @@
 -- Whether a row of the table holds, by computing: `test` is a boolean that the checker computes, and a row that passes it holds.
 -- Assumes nothing.
-use Rattle.std.specs.Prelude.{◌≡◌, refl, Bool, true, false, not, List, [], ◌∷◌, ◌++◌, ℕ, suc, ◌+◌, ◌-◌, ◌*◌, ◌%◌, ◌^◌, ◌<◌, ◌≤◌, T, eqb, leb, ltb, length, get_or, drop}
+use Rattle.std.specs.Prelude.{◌≡◌, refl, Bool, true, false, not, List, [], ◌∷◌, ◌++◌, ℕ, suc, ◌+◌, ◌-◌, ◌*◌, ◌%◌, ◌^◌, ◌<◌, ◌≤◌, T, eqb, leb, ltb, length, get_or, drop, Result, Ok, Err}
 use Rattle.std.proofs.Common.{sym, ◌∙◌, ap, ap₂, subst, inl, inr, arith, eq-eqb, lt-ltb, le-leb, eqb→eq, leb→le, ltb→lt}
 use Rattle.std.proofs.lemmas.Bool.{eqb-false}
 use Rattle.ring.specs.Test.{both, both_left, both_right}
@@ -24,11 +24,10 @@ use Rattle.sheet.specs.Asked.{asked}
 use Rattle.certificate.specs.Certificate.{certificate}
 use Rattle.questions.specs.Questions.{Questions, AllYes, FirstNo}
 use Rattle.questions.specs.Joined.{all_all, no_before, no_after}
-use Rattle.promises.specs.declared.Written.TheVariants as written
+use Rattle.questions.specs.Number.{number}
+use Rattle.questions.specs.declared.refusal.Refusal.{Refusal}
 use Rattle.promises.specs.declared.Point.{Point}
 use Rattle.promises.specs.declared.Point.TheVariants as point
-use Rattle.promises.specs.declared.Image.{Image}
-use Rattle.promises.specs.declared.Image.TheVariants as image
 use Rattle.promises.specs.Abscissas.{rational_abscissas_of}
 use Rattle.promises.specs.Asked.{prime, put, g, n, Room, check_asks, push_asks, name_asks, Solvable, last_ask, Passing, Leading, Given}
 use Rattle.promises.specs.Asked.{ComposableValues, ProductAllowed, join_asks}
@@ -118,7 +117,7 @@ module _ (asked_values : Values) where
   solve_test v g n c = both (asked_test Question ws) (every (fill_tests read g n v g c))
 
   solve_by_computing : (v : Values) (g n : List ℕ) (c : ℕ) → T (solve_test v g n c) → (before : List ℕ) → Room (length before)
-      → SolveRight ws before (filled v g n c before) (written.Count (count v))
+      → SolveRight ws before (filled v g n c before) (Ok (count v))
   solve_by_computing v g n c t before room =
       let a : Bool = asked_test Question ws in
       let ta : T (asked_test Question ws) = both_left a _ t in
@@ -136,19 +135,19 @@ module _ (asked_values : Values) where
   abbrev none_meets_test : ℕ → Bool
   none_meets_test k = both (asked_test Question ws) (both (none_test read) (eqb k 11))
 
-  none_meets : (k : ℕ) → T (none_meets_test k) → (before : List ℕ) → Room (length before)
-      → SolveRight ws before before (written.Refused k)
-  none_meets k t before room =
+  none_meets : (q : Refusal) → T (none_meets_test (number q)) → (before : List ℕ) → Room (length before)
+      → SolveRight ws before before (Err q)
+  none_meets q t before room =
       let a : Bool = asked_test Question ws in
       let ta : T (asked_test Question ws) = both_left a _ t in
-      let rest : T (both (none_test read) (eqb k 11)) = both_right a _ t in
+      let rest : T (both (none_test read) (eqb (number q) 11)) = both_right a _ t in
       let small : 11 ≤ read.p = least_by_computing Question ws ta in (
         inr (
           room,
-          no_after (asked Question ws) ((11, Solvable read) ∷ []) k (asked_by_computing Question ws ta)
+          no_after (asked Question ws) ((11, Solvable read) ∷ []) (number q) (asked_by_computing Question ws ta)
               (inl (
-                eqb→eq k 11 (both_right (none_test read) (eqb k 11) rest),
-                λ s. none_by_computing read (prime_by_computing Question ws ta) (omega arith) (both_left (none_test read) (eqb k 11) rest) s.g s.meets,
+                eqb→eq (number q) 11 (both_right (none_test read) (eqb (number q) 11) rest),
+                λ s. none_by_computing read (prime_by_computing Question ws ta) (omega arith) (both_left (none_test read) (eqb (number q) 11) rest) s.g s.meets,
               )),
         ),
         refl,
@@ -157,11 +156,11 @@ module _ (asked_values : Values) where
   abbrev unsolved_test : ℕ → Bool
   unsolved_test k = one (no_test Question ws k) (none_meets_test k)
 
-  unsolved_by_computing : (k : ℕ) → T (unsolved_test k) → (before : List ℕ) → Room (length before) → SolveRight ws before before (written.Refused k)
-  unsolved_by_computing k t before room =
-      one_of (no_test Question ws k) (none_meets_test k)
-      (λ t. (inr (room, no_before (asked Question ws) ((11, Solvable read) ∷ []) k (no_by_computing Question ws k t)), refl))
-      (λ t. none_meets k t before room) t
+  unsolved_by_computing : (q : Refusal) → T (unsolved_test (number q)) → (before : List ℕ) → Room (length before) → SolveRight ws before before (Err q)
+  unsolved_by_computing q t before room =
+      one_of (no_test Question ws (number q)) (none_meets_test (number q))
+      (λ t. (inr (room, no_before (asked Question ws) ((11, Solvable read) ∷ []) (number q) (no_by_computing Question ws (number q) t)), refl))
+      (λ t. none_meets q t before room) t
 
 -- ── check and push
 
@@ -250,14 +249,14 @@ module _ (ws : List ℕ) where
   abbrev given_tests : ℕ → ℕ → List Bool
   given_tests u w = ltb u v.p ∷ ltb w v.p ∷ on_curve_test v.p v.a v.b u w ∷ []
 
-  abbrev push_tests : Point → Image → List Bool
-  push_tests (point.Affine u w) (image.Affine u' w') =
+  abbrev push_tests : Point → Result Point Refusal → List Bool
+  push_tests (point.Affine u w) (Ok (point.Affine u' w')) =
       every pass_tests ∷ every (given_tests u w) ∷ ltb u' v.p ∷ ltb w' v.p ∷ image_test v γ ν u w u' w' ∷ []
-  push_tests (point.Affine u w) image.Infinity = every pass_tests ∷ every (given_tests u w) ∷ vanishes_test v γ u ∷ []
-  push_tests (point.Affine u w) (image.Refused k) = false ∷ []
-  push_tests point.Infinity (image.Affine u' w') = false ∷ []
-  push_tests point.Infinity image.Infinity = every pass_tests ∷ []
-  push_tests point.Infinity (image.Refused k) = false ∷ []
+  push_tests (point.Affine u w) (Ok point.Infinity) = every pass_tests ∷ every (given_tests u w) ∷ vanishes_test v γ u ∷ []
+  push_tests (point.Affine u w) (Err q) = false ∷ []
+  push_tests point.Infinity (Ok (point.Affine u' w')) = false ∷ []
+  push_tests point.Infinity (Ok point.Infinity) = every pass_tests ∷ []
+  push_tests point.Infinity (Err q) = false ∷ []
 
   given_by_computing : T (every pass_tests) → (u w : ℕ) → T (every (given_tests u w)) → AllYes (push_asks ws (point.Affine u w))
   given_by_computing t u w s =
@@ -272,8 +271,8 @@ module _ (ws : List ℕ) where
         tt,
       )
 
-  push_by_computing : (from : Point) (to : Image) → Every (push_tests from to) → PushRight ws from to
-  push_by_computing (point.Affine u w) (image.Affine u' w') t = (
+  push_by_computing : (from : Point) (to : Result Point Refusal) → Every (push_tests from to) → PushRight ws from to
+  push_by_computing (point.Affine u w) (Ok (point.Affine u' w')) t = (
     given_by_computing (t 0) u w (t 1),
     record {
       u_below = ltb→lt u' v.p (t 2);
@@ -281,13 +280,13 @@ module _ (ws : List ℕ) where
       image = image_by_computing v γ ν (positive (every_yes pass_tests (t 0) 0)) u w u' w' (t 4);
     },
   )
-  push_by_computing (point.Affine u w) image.Infinity t =
+  push_by_computing (point.Affine u w) (Ok point.Infinity) t =
       (given_by_computing (t 0) u w (t 1), vanishes_by_computing v γ ν (positive (every_yes pass_tests (t 0) 0)) u (t 2))
-  push_by_computing (point.Affine u w) (image.Refused k) t = absurd (t 0)
-  push_by_computing point.Infinity (image.Affine u' w') t = absurd (t 0)
-  push_by_computing point.Infinity image.Infinity t =
+  push_by_computing (point.Affine u w) (Err q) t = absurd (t 0)
+  push_by_computing point.Infinity (Ok (point.Affine u' w')) t = absurd (t 0)
+  push_by_computing point.Infinity (Ok point.Infinity) t =
       (all_all (check_asks ws) ((12, Given v point.Infinity) ∷ []) (pass_by_computing (every_yes pass_tests (t 0))) (tt, tt), tt)
-  push_by_computing point.Infinity (image.Refused k) t = absurd (t 0)
+  push_by_computing point.Infinity (Err q) t = absurd (t 0)
 
 -- ── kernel
 
@@ -318,7 +317,7 @@ module _ (asked_values : Values) (asked_g : List ℕ) (v : Values) (g₀ n : Lis
   }
 
   kernel_by_computing : Every codomain_tests → (before : List ℕ) → Room (length before)
-      → KernelRight sheet before (filled v g₀ n c before) (written.Count (count v))
+      → KernelRight sheet before (filled v g₀ n c before) (Ok (count v))
   kernel_by_computing t before room =
       let p : ℕ = completed.p in
       let pos : 0 < p = prime_pos (prime_by_computing Kernel sheet (t 0)) in
@@ -370,17 +369,17 @@ module _ (v : Values) (g₀ : List ℕ) where
       asked_test Kernel asking ∷ leb 1 (half known) ∷ leb (length kernel_g) (suc (half known)) ∷ eqb (get_or kernel_g (half known) 0 % known.p) (1 % known.p)
       ∷ not (R3_test (candidate known kernel_g) kernel_g (numerator (candidate known kernel_g) kernel_g)) ∷ eqb k 11 ∷ []
 
-  no_kernel_by_computing : (k : ℕ) → Every (no_kernel_tests k) → (before : List ℕ) → Room (length before)
-      → KernelRight asking before before (written.Refused k)
-  no_kernel_by_computing k t before room =
+  no_kernel_by_computing : (q : Refusal) → Every (no_kernel_tests (number q)) → (before : List ℕ) → Room (length before)
+      → KernelRight asking before before (Err q)
+  no_kernel_by_computing q t before room =
       let pos : 0 < known.p = prime_pos (prime_by_computing Kernel asking (t 0)) in
       let leading : Leading known kernel_g = poly_at known.p kernel_g (half known) ∙ mk_eq pos (get_or kernel_g (half known) 0) 1 (eqb→eq _ _ (t 3)) in
       let short : length kernel_g ≤ suc (half known) = leb→le (length kernel_g) (suc (half known)) (t 2) in
       let none : Passing known kernel_g → ⊥ = no_codomain known kernel_g pos (leb→le 1 (half known) (t 1)) short leading (t 4) in (
         inr (
           room,
-          no_after (asked Kernel asking) (last_ask known kernel_g) k (asked_by_computing Kernel asking (t 0))
-              (inr (leading, inl (eqb→eq k 11 (t 5), none))),
+          no_after (asked Kernel asking) (last_ask known kernel_g) (number q) (asked_by_computing Kernel asking (t 0))
+              (inr (leading, inl (eqb→eq (number q) 11 (t 5), none))),
         ),
         refl,
       )
@@ -433,7 +432,7 @@ module _ (s t : Printed) where
 
   -- the composite's g is the one g that meets the rules
   compose_by_computing : (u : Printed) → Every (compose_tests u) → (before : List ℕ) → Room (length before)
-      → ComposeRight ws₁ ws₂ before (filled u.values u.g u.n u.abscissas before) (written.Count (count u.values))
+      → ComposeRight ws₁ ws₂ before (filled u.values u.g u.n u.abscissas before) (Ok (count u.values))
   compose_by_computing u b before room = (
     (
       room,
@@ -484,13 +483,13 @@ module _ (s t : Printed) where
   product_yes : ProductAllowed v₁ v₂ → every product_tests ≡ true
   product_yes h = ap₂ both (le-leb _ _ h.most) (ap (λ b. both b true) (lt-ltb _ _ h.small))
 
-  no_join : {k : ℕ} → T both_pass → FirstNo (join_asks v₁ v₂) k → (before : List ℕ) → Room (length before)
-      → ComposeRight ws₁ ws₂ before before (written.Refused k)
-  no_join {k} b h before room = (
+  no_join : (q : Refusal) → T both_pass → FirstNo (join_asks v₁ v₂) (number q) → (before : List ℕ) → Room (length before)
+      → ComposeRight ws₁ ws₂ before before (Err q)
+  no_join q b h before room = (
     inr (
       room,
-      no_after (check_asks ws₁) (check_asks ws₂ ++ join_asks v₁ v₂) k (passes₁ b)
-          (no_after (check_asks ws₂) (join_asks v₁ v₂) k (passes₂ b) h),
+      no_after (check_asks ws₁) (check_asks ws₂ ++ join_asks v₁ v₂) (number q) (passes₁ b)
+          (no_after (check_asks ws₂) (join_asks v₁ v₂) (number q) (passes₂ b) h),
     ),
     refl,
   )
@@ -498,16 +497,16 @@ module _ (s t : Printed) where
   abbrev no_composite_test : ℕ → Bool
   no_composite_test k = one (every (unmet_tests k)) (every (large_tests k))
 
-  no_composite_by_computing : (k : ℕ) → T (no_composite_test k) → (before : List ℕ) → Room (length before)
-      → ComposeRight ws₁ ws₂ before before (written.Refused k)
-  no_composite_by_computing k t before room =
-      one_of (every (unmet_tests k)) (every (large_tests k))
+  no_composite_by_computing : (q : Refusal) → T (no_composite_test (number q)) → (before : List ℕ) → Room (length before)
+      → ComposeRight ws₁ ws₂ before before (Err q)
+  no_composite_by_computing q t before room =
+      one_of (every (unmet_tests (number q))) (every (large_tests (number q)))
       (λ t.
-      let b : Every (unmet_tests k) = every_yes (unmet_tests k) t in
-      no_join (b 0) (inl (eqb→eq k 13 (b 2), λ h. subst (λ x. T (not x)) (meet_yes h) (b 1))) before room)
+      let b : Every (unmet_tests (number q)) = every_yes (unmet_tests (number q)) t in
+      no_join q (b 0) (inl (eqb→eq (number q) 13 (b 2), λ h. subst (λ x. T (not x)) (meet_yes h) (b 1))) before room)
       (λ t.
-      let b : Every (large_tests k) = every_yes (large_tests k) t in
-      no_join (b 0) (inr (meet_by_computing (b 1), inl (eqb→eq k 14 (b 3), λ h. subst (λ x. T (not x)) (product_yes h) (b 2)))) before room)
+      let b : Every (large_tests (number q)) = every_yes (large_tests (number q)) t in
+      no_join q (b 0) (inr (meet_by_computing (b 1), inl (eqb→eq (number q) 14 (b 3), λ h. subst (λ x. T (not x)) (product_yes h) (b 2)))) before room)
       t
 
 -- ── the rows
@@ -551,31 +550,31 @@ unnamed_by_computing p a b k t =
 
 abbrev pub test : Row → Bool
 test (solves q v g n c) = solve_test q v g n c
-test (unsolved v k) = unsolved_test v k
+test (unsolved v r) = unsolved_test v (number r)
 test (pushes v g n c from to) = every (push_tests (certificate v g n c) from to)
 test (kernel q h v g n c) = every (codomain_tests q h v g n c)
-test (no_kernel v g k) = every (no_kernel_tests v g k)
+test (no_kernel v g r) = every (no_kernel_tests v g (number r))
 test (composes s t u) = every (compose_tests s t u)
-test (no_composite s t k) = no_composite_test s t k
-test (refused v g n c k) = refused_test (certificate v g n c) k
-test (refused_though v g n c k) = every (though_tests v g n c k)
-test (unnamed p a b k) = every (unnamed_tests p a b k)
+test (no_composite s t r) = no_composite_test s t (number r)
+test (refused v g n c r) = refused_test (certificate v g n c) (number r)
+test (refused_though v g n c r) = every (though_tests v g n c (number r))
+test (unnamed p a b r) = every (unnamed_tests p a b (number r))
 test (parts v g l m n) = every (part_tests v g l m n)
 
 pub row_holds : (r : Row) → T (test r) → Claim r
 unfolding Claim
 row_holds (solves q v g n c) t = solve_by_computing q v g n c t
-row_holds (unsolved v k) t = unsolved_by_computing v k t
+row_holds (unsolved v r) t = unsolved_by_computing v r t
 row_holds (pushes v g n c from to) t = push_by_computing (certificate v g n c) from to (every_yes (push_tests (certificate v g n c) from to) t)
 row_holds (kernel q h v g n c) t = kernel_by_computing q h v g n c (every_yes (codomain_tests q h v g n c) t)
-row_holds (no_kernel v g k) t = no_kernel_by_computing v g k (every_yes (no_kernel_tests v g k) t)
+row_holds (no_kernel v g r) t = no_kernel_by_computing v g r (every_yes (no_kernel_tests v g (number r)) t)
 row_holds (composes s u w) t = compose_by_computing s u w (every_yes (compose_tests s u w) t)
-row_holds (no_composite s u k) t = no_composite_by_computing s u k t
-row_holds (refused v g n c k) t = refused_holds (certificate v g n c) k t
-row_holds (refused_though v g n c k) t =
-    let s : Every (though_tests v g n c k) = every_yes (though_tests v g n c k) t in (
-      refused_by_computing (certificate v g n c) k (every_yes (refused_tests (certificate v g n c) k) (s 0)),
+row_holds (no_composite s u r) t = no_composite_by_computing s u r t
+row_holds (refused v g n c r) t = refused_holds (certificate v g n c) (number r) t
+row_holds (refused_though v g n c r) t =
+    let s : Every (though_tests v g n c (number r)) = every_yes (though_tests v g n c (number r)) t in (
+      refused_by_computing (certificate v g n c) (number r) (every_yes (refused_tests (certificate v g n c) (number r)) (s 0)),
       R3_by_computing v g n (ltb→lt 0 v.p (s 1)) (s 2),
     )
-row_holds (unnamed p a b k) t = unnamed_by_computing p a b k (every_yes (unnamed_tests p a b k) t)
+row_holds (unnamed p a b r) t = unnamed_by_computing p a b (number r) (every_yes (unnamed_tests p a b (number r)) t)
 row_holds (parts v g l m n) t = parts_hold v g l m n (every_yes (part_tests v g l m n) t)

@@ -1,11 +1,11 @@
 -- Document 01's marked sheets (◆ there) and document 02's cases of E1, E2, E5 and E6 as one table, with neighbours that neither document has, and the one
 -- theorem that covers it: every row holds, from the rules, by computing.
 -- Assumes nothing.
-use Rattle.std.specs.Prelude.{Bool, true, List, [], ◌∷◌, ℕ, T}
+use Rattle.std.specs.Prelude.{Bool, true, List, [], ◌∷◌, ℕ, T, Ok}
 use Rattle.ring.specs.Test.{both, both_left, both_right}
 use Rattle.sheet.specs.declared.Values.{Values}
 use Rattle.promises.specs.declared.Point.TheVariants as point
-use Rattle.promises.specs.declared.Image.TheVariants as image
+use Rattle.questions.specs.declared.refusal.Refusal.TheVariants as refusal
 use Rattle.marked.specs.Rules.{numerator}
 use Rattle.marked.specs.Row.{Row, Q, Printed, Claim}
 use Rattle.marked.specs.Row.Row.{solves, unsolved, pushes, kernel, no_kernel, composes, no_composite, refused, refused_though, unnamed, parts}
@@ -86,52 +86,52 @@ unfoldable pub rows : List Row
 rows =
     solves first first first_g first_n 1
     -- another σ, then another B̃: 11 each
-    ∷ unsolved (Q 1009 1 3 265 877 3 48) 11
-    ∷ unsolved (Q 1009 1 3 265 878 3 46) 11
+    ∷ unsolved (Q 1009 1 3 265 877 3 48) refusal.NoIsogeny
+    ∷ unsolved (Q 1009 1 3 265 878 3 46) refusal.NoIsogeny
     ∷ solves ninth ninth ninth_g (numerator ninth ninth_g) 1
     -- a point through the first certificate
-    ∷ pushes first first_g first_n 1 (point.Affine 1008 1) (image.Affine 617 44)
+    ∷ pushes first first_g first_n 1 (point.Affine 1008 1) (Ok (point.Affine 617 44))
     ∷ solves eleven eleven x x³+4 1
     -- two points through the last certificate, the second where g is 0
-    ∷ pushes eleven x x³+4 1 (point.Affine 2 3) (image.Affine 3 0)
-    ∷ pushes eleven x x³+4 1 (point.Affine 0 1) image.Infinity
+    ∷ pushes eleven x x³+4 1 (point.Affine 2 3) (Ok (point.Affine 3 0))
+    ∷ pushes eleven x x³+4 1 (point.Affine 0 1) (Ok point.Infinity)
     -- the kernel sheet of g = x over 11 gets the codomain (0, 6)
     ∷ kernel eleven x eleven x x³+4 1
     -- beside it, not marked there: the same with g = x − 1 gets 11; Ã, B̃ and σ are not on a kernel sheet
-    ∷ no_kernel (Q 11 0 1 0 0 3 0) (10 ∷ 1 ∷ []) 11
+    ∷ no_kernel (Q 11 0 1 0 0 3 0) (10 ∷ 1 ∷ []) refusal.NoIsogeny
     -- g = x − 1 with an N that meets R3 and not R2
-    ∷ refused_though (Q 11 0 1 0 1 3 2) (10 ∷ 1 ∷ []) (0 ∷ 1 ∷ 9 ∷ 1 ∷ []) 1 9
+    ∷ refused_though (Q 11 0 1 0 1 3 2) (10 ∷ 1 ∷ []) (0 ∷ 1 ∷ 9 ∷ 1 ∷ []) 1 refusal.Numerator
     -- g = x with R2's N, to a wrong codomain
-    ∷ refused (Q 11 0 1 0 7 3 0) x x³+4 1 10
+    ∷ refused (Q 11 0 1 0 7 3 0) x x³+4 1 refusal.Equation
     -- document 02, E2: A = p is read as A = 0; all values are taken modulo p, A = 2^28 − 1 among them; 7 is asked of what they become
     ∷ solves (Q 11 11 1 0 6 3 0) eleven x x³+4 1
     ∷ solves (Q 29 268435455 30 29 31 3 58) (Q 29 0 1 0 2 3 0) x x³+4 1
-    ∷ unsolved (Q 11 11 22 0 6 3 0) 7
+    ∷ unsolved (Q 11 11 22 0 6 3 0) refusal.Singular
     -- every value of a kernel sheet, a leading coefficient p + 1 among them
     ∷ kernel (Q 11 11 12 0 0 3 0) (268435453 ∷ 12 ∷ []) eleven x x³+4 1
     -- a certificate needs values below p, in the header and after it, and so does name
-    ∷ refused (Q 11 11 1 0 6 3 0) x x³+4 1 5
-    ∷ refused eleven (11 ∷ 1 ∷ []) x³+4 1 6
-    ∷ unnamed 11 11 1 5
+    ∷ refused (Q 11 11 1 0 6 3 0) x x³+4 1 refusal.Values
+    ∷ refused eleven (11 ∷ 1 ∷ []) x³+4 1 refusal.Words
+    ∷ unnamed 11 11 1 refusal.Values
     -- E6: a kernel with no rational abscissa
     ∷ solves none none none_g (numerator none none_g) 0
     -- a count that is wrong by one, by p, d in its place, or the largest value of a word; 9 also where R3 fails beside it
-    ∷ refused first first_g first_n 0 9
-    ∷ refused first first_g first_n 2 9
-    ∷ refused first first_g first_n 1010 9
-    ∷ refused ninth ninth_g (numerator ninth ninth_g) 4 9
-    ∷ refused eleven x x³+4 268435455 9
-    ∷ refused (Q 11 0 1 0 7 3 0) x x³+4 0 9
+    ∷ refused first first_g first_n 0 refusal.Numerator
+    ∷ refused first first_g first_n 2 refusal.Numerator
+    ∷ refused first first_g first_n 1010 refusal.Numerator
+    ∷ refused ninth ninth_g (numerator ninth ninth_g) 4 refusal.Numerator
+    ∷ refused eleven x x³+4 268435455 refusal.Numerator
+    ∷ refused (Q 11 0 1 0 7 3 0) x x³+4 0 refusal.Numerator
     -- a root is counted once, also where g has it twice: the count 2 is wrong, and with 1 it is R3 that fails
-    ∷ refused twice x² (numerator twice x²) 2 9
-    ∷ refused twice x² (numerator twice x²) 1 10
+    ∷ refused twice x² (numerator twice x²) 2 refusal.Numerator
+    ∷ refused twice x² (numerator twice x²) 1 refusal.Equation
     -- E1: the first marked sheet, and the step behind it, give the one of degree 9; in the other order they do not meet
     ∷ composes first_step second_step both_steps
-    ∷ no_composite second_step first_step 13
+    ∷ no_composite second_step first_step refusal.Joint
     -- curves that agree in Ã alone, and in both values over another prime; and a product of degrees that is too large for 11
-    ∷ no_composite on_11 on_11 13
-    ∷ no_composite on_11 on_29 13
-    ∷ no_composite on_11 behind_11 14
+    ∷ no_composite on_11 on_11 refusal.Joint
+    ∷ no_composite on_11 on_29 refusal.Joint
+    ∷ no_composite on_11 behind_11 refusal.Product
     -- E5: the parts of the first one's N
     ∷ parts first first_g part₁ part₂ part₃
     ∷ []

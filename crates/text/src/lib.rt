@@ -1,25 +1,19 @@
 // What the programs print, as bytes in a lent buffer. Each function puts a text at the front of `out` and leaves what stands behind it; the public
-// ones answer the count of the text's bytes.
+// ones answer the count of the text's bytes. The digits are put by hand: `write!` answers an error where a buffer is full, and these have none.
 #![tactic(auto)]
 
 ghost use Rattle.std.specs.Prelude.{◌≡◌, ◌*◌, ◌<◌, ◌≤◌, length};
 ghost use Rattle.text.specs.Text.{code, digits, decimal, hex_line, hex_lines, refused_line, passes_line};
 ghost use Rattle.text.specs.Fills.{Fills};
 
-fn wide(x: u32) -> u64
-    ensures { result ≡ x }
-{
-    x as u64
-}
-
 fn code_of(digit: u64) -> u8
     requires { digit < 16 }
     ensures { result ≡ code digit }
 {
     if digit < 10 {
-        48 + digit as u8
+        b'0' + digit as u8
     } else {
-        87 + digit as u8
+        b'a' - 10 + digit as u8
     }
 }
 
@@ -28,16 +22,14 @@ fn put_digits(n: u64, base: u64, k: usize, out: &mut [u8])
     requires { (0 < base) × (base ≤ 16) × (k ≤ length out.old) }
     ensures { Fills (digits base k n) out.old out.new k }
 {
-    let mut i = k;
     let mut rest = n;
-    while i > 0 {
-        i -= 1;
+    for i in (0..k).rev() {
         out[i] = code_of(rest % base);
         rest /= base;
     }
 }
 
-// How many digits n has in decimal.
+// How many digits n has in decimal. Its loop stays a `while`: the count of its turns is what is asked.
 fn places(n: u64) -> usize
     ensures { result ≡ length (decimal n) }
 {
@@ -63,9 +55,7 @@ fn put_bytes(bytes: &[u8], out: &mut [u8])
     requires { length bytes.now ≤ length out.old }
     ensures { Fills bytes.now out.old out.new (length bytes.now) }
 {
-    for i in 0..bytes.len() {
-        out[i] = bytes[i];
-    }
+    out[..bytes.len()].copy_from_slice(bytes);
 }
 
 fn hex_line(n: u64, k: usize, out: &mut [u8]) -> usize
@@ -82,9 +72,8 @@ pub fn word_lines(words: &[u32], out: &mut [u8]) -> usize
     requires { 9 * length words.now ≤ length out.old }
     ensures { Fills (hex_lines words.now) out.old out.new result }
 {
-    for i in 0..words.len() {
-        let at = 9 * i;
-        hex_line(wide(words[i]), 8, &mut out[at..]);
+    for (i, word) in words.iter().enumerate() {
+        hex_line(u64::from(*word), 8, &mut out[9 * i..]);
     }
     9 * words.len()
 }
@@ -103,7 +92,7 @@ pub fn refused_line(n: u32, out: &mut [u8]) -> usize
     ensures { Fills (refused_line n) out.old out.new result }
 {
     put_bytes(b"refused ", out);
-    let k = put_decimal(wide(n), &mut out[8..]);
+    let k = put_decimal(u64::from(n), &mut out[8..]);
     let end = 8 + k;
     out[end] = b'\n';
     end + 1

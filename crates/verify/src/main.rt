@@ -3,7 +3,8 @@
 
 ghost use Rattle.printing.specs.Printing.{CheckText};
 
-// The one place that prints. What it asks has `main` proved to hand over nothing but the right text for its input.
+// The one place that prints. What it asks has `main` proved to hand over nothing but the right text for its input; one that the four programs shared
+// could not ask for the text of each.
 fn print(rt: &HostRuntime, certificate: &[u8], text: &[u8])
     requires { CheckText certificate.now text.now }
 {

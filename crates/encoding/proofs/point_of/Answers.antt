@@ -6,4 +6,4 @@ pub returns-then-k-eq-INFINITY : goal.returns-then-k-eq-INFINITY
 returns-then-k-eq-INFINITY c = rw (le-ltb c.args.k (2 ^ 56) (omega arith))
 
 pub returns : goal.returns
-returns c = rw (c.narrow.ensures, c.narrow-2.ensures, lt-ltb c.args.k (2 ^ 56) (omega arith))
+returns c = rw (lt-ltb c.args.k (2 ^ 56) (omega arith))

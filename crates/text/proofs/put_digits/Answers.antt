@@ -7,7 +7,7 @@ use Rattle.text.proofs.Decimal.{digits_set}
 use Rattle.text.proofs.put_digits.Goals as goal
 
 pub loop-i-init : goal.loop-i-init
-loop-i-init c = (search rules, search rules, refl)
+loop-i-init c = (search rules, refl)
 
 pub code_of-requires : goal.code_of-requires
 code_of-requires c = omega (arith, mod-lt c.loop-i.rest {m = c.args.base} (omega arith))
@@ -18,12 +18,11 @@ loop-i-preserved c =
     let loop = c.loop-i in
     let j = loop.i - 1 in
     let back : j + 1 ≡ loop.i = omega arith in (
-      omega arith,
-      simp length-set loop.invariant.1,
+      simp length-set loop.invariant.0,
       ap (λ v. digits at.base j (loop.rest / at.base) ++ drop j (set loop.out j v)) c.code_of.ensures
           ∙ digits_set at.base j loop.rest loop.out (omega arith)
           ∙ ap (λ i. digits at.base i loop.rest ++ drop i loop.out) back
-          ∙ loop.invariant.2,
+          ∙ loop.invariant.1,
     )
 
 pub returns : goal.returns
@@ -34,5 +33,5 @@ returns c =
     let none : 0 ≡ loop.i = omega arith in
     record {
       count_is = sym (length_digits at.base at.k at.n);
-      bytes = ap (λ i. digits at.base i loop.rest ++ drop i loop.out) none ∙ loop.invariant.2;
+      bytes = ap (λ i. digits at.base i loop.rest ++ drop i loop.out) none ∙ loop.invariant.1;
     }

@@ -11,10 +11,10 @@ ten : (n : ℕ) → n < 2 ^ 32 → length (decimal n) ≤ 10
 ten n h = decimal_short n 9 (omega arith)
 
 pub put_decimal-k-requires : goal.put_decimal-k-requires
-put_decimal-k-requires c = simp (length-take, length-drop) (omega (arith, ten c.wide.result (omega arith)))
+put_decimal-k-requires c = simp (length-take, length-drop) (omega (arith, ten c.from.result (omega arith)))
 
 pub overflow_add-end : goal.overflow_add-end
-overflow_add-end c = omega (arith, ten c.wide.result (omega arith), c.put_decimal-k.ensures.count_is)
+overflow_add-end c = omega (arith, ten c.from.result (omega arith), c.put_decimal-k.ensures.count_is)
 
 module _ (c : After-slice_known-3-1) where
   abbrev out : List ℕ
@@ -24,7 +24,7 @@ module _ (c : After-slice_known-3-1) where
   word = c.put_bytes.new.out
 
   abbrev number : ℕ
-  number = c.wide.result
+  number = c.from.result
 
   -- the word, the space and the digits
   begun : Fills (refused_word ++ decimal number) out
@@ -48,4 +48,4 @@ shape_of-out c = simp length-set (fills_length (begun c) (omega (arith, room c))
 pub returns : goal.returns
 unfolding refused_line
 returns c =
-    fills_as (fills_one (begun c) 10 (room c)) (ap (λ n. (refused_word ++ decimal n) ++ 10 ∷ []) c.wide.ensures) refl
+    fills_as (fills_one (begun c) 10 (room c)) (ap (λ n. (refused_word ++ decimal n) ++ 10 ∷ []) c.from.ensures) refl

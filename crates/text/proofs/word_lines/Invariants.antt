@@ -1,10 +1,7 @@
-use Rattle.std.proofs.Common.{length, take, ◌*◌, ◌-◌, ◌≡◌, ◌≤◌}
+use Rattle.std.proofs.Common.{length, take, ◌*◌, ◌≡◌}
 use Rattle.text.specs.Text.{hex_lines}
 use Rattle.text.specs.Fills.{Fills}
 use Rattle.text.proofs.word_lines.Given as goal
 
 abbrev pub invariant-loop-i : goal.invariant-loop-i
-invariant-loop-i l = (l.i ≤ length l.words) × (length l.out ≡ length l.initial.out) × Fills (hex_lines (take l.i l.words)) l.initial.out l.out (9 * l.i)
-
-abbrev pub decreases-loop-i : goal.decreases-loop-i
-decreases-loop-i l = l.i-end - l.i
+invariant-loop-i l = (length l.out ≡ length l.initial.out) × Fills (hex_lines (take l.i l.words)) l.initial.out l.out (9 * l.i)
