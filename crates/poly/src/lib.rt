@@ -3,7 +3,7 @@
 // `out` has words: a longer `out` ends in zeros, a shorter one holds the front.
 #![tactic(auto)]
 
-ghost use Rattle.std.specs.Prelude.{◌≡◌, ◌↔◌, true, ℕ, ◌+◌, ◌-◌, ◌*◌, ◌^◌, ◌<◌, ◌≤◌, max, length, get_or, replicate};
+ghost use Rattle.std.specs.Prelude.{◌≡◌, ◌↔◌, true, ℕ, ◌+◌, ◌-◌, ◌*◌, ◌^◌, ◌<◌, ◌≤◌, max, length, get_or};
 ghost use Rattle.series.specs.Series.{conv, sums, negs, scaled, ∂};
 ghost use Rattle.zmod.specs.Zmod.{Zmod, mk, plus, times};
 ghost use Rattle.zmod.specs.Residues.{Residue, Reduced, poly, Residues};
@@ -12,19 +12,6 @@ ghost use Rattle.poly.specs.Partial.{partial, Alone};
 
 use barrett::Modulus;
 pub use rows::word;
-
-pub fn most(x: usize, y: usize) -> usize
-    ensures { result ≡ max x y }
-{
-    x.max(y)
-}
-
-// x - y, or 0 where y is larger.
-pub fn over(x: usize, y: usize) -> usize
-    ensures { result ≡ x - y }
-{
-    x.saturating_sub(y)
-}
 
 // The sum of a[i] * b[k - i] over i from `from` up to `to`: at most 256 products, which a u64 holds.
 fn dot(a: &[u32], b: &[u32], from: usize, to: usize, k: usize) -> u64
@@ -213,13 +200,6 @@ pub fn equal(a: &[u32], b: &[u32]) -> bool
     ensures { (p : ℕ) → Reduced p a.now → Reduced p b.now → (result ≡ true) ↔ (poly p a.now ≡ poly p b.now) }
 {
     (0..a.len().max(b.len())).all(|i| word::<u32>(a, i) == word::<u32>(b, i))
-}
-
-// out = 0
-pub fn clear(out: &mut [u32])
-    ensures { out.new ≡ replicate (length out.old) 0 }
-{
-    out.fill(0);
 }
 
 // out = a
