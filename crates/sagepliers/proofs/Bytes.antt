@@ -1,12 +1,9 @@
 -- From the words of a run of bytes to the bytes: question 2 also asks for whole words, and question 12 for a point number of at most 2^56.
 -- Assumes nothing.
 use Rattle.std.specs.Prelude.{Result, Ok, Err}
-use mathlib.Core.Path.{◌≡◌, refl}
 use mathlib.Core.Logic.{◌⊎◌, inl, inr}
 use mathlib.Core.List.{List, [], ◌∷◌, ◌++◌}
-use Prim.Native.Nat.{ℕ, ◌^◌, ◌≤◌, ◌<◌}
-use native.Mathlib.Omega.{arith}
-use lib.ListN.{length, take}
+use Prim.Native.Nat.{ℕ, ◌^◌, ◌≤◌}
 use Rattle.sheet.specs.declared.Form.TheVariants.{Certificate}
 use Rattle.sheet.specs.Word.{words_of}
 use Rattle.sheet.specs.Values.{values_of}
@@ -14,12 +11,11 @@ use Rattle.questions.specs.Questions.{Questions, AllYes, FirstNo}
 use Rattle.questions.specs.Joined.{no_before, no_after, all_all, no_split, all_front, all_back}
 use Rattle.questions.specs.Number.{number}
 use Rattle.questions.specs.declared.refusal.Refusal.{Refusal}
-use Rattle.promises.specs.declared.Point.TheVariants as point
 use Rattle.promises.specs.declared.Point.{Point}
-use Rattle.promises.specs.Asked.{Room, check_asks, Given}
+use Rattle.promises.specs.Asked.{check_asks, Given}
 use Rattle.promises.specs.Answer.{CheckRight, SolveRight, KernelRight, PushRight}
-use Rattle.encoding.specs.Encoding.{point_of, unpointed_of}
-use Rattle.sagepliers.specs.Entry.{WholeWords, bytes_ask, push_number_asks, CheckAnswer, PushAnswer, SolveAnswer, KernelAnswer}
+use Rattle.encoding.specs.Encoding.{point_of}
+use Rattle.sagepliers.specs.Entry.{WholeWords, push_number_asks, CheckAnswer, PushAnswer, SolveAnswer, KernelAnswer}
 
 module _ (bytes : List ℕ) where
   abbrev ws : List ℕ
@@ -53,11 +49,6 @@ module _ (bytes : List ℕ) where
     pub push_bytes : (r : Result Point Refusal) → WholeWords bytes → k ≤ 2 ^ 56 → PushRight ws (point_of k) r → PushAnswer bytes k r
     push_bytes (Ok image) even small h = (push_all even small h.0, h.1)
     push_bytes (Err q) even small h = push_no (number q) even small h
-
-    -- a number above 2^56, after a certificate that passes, and after one that does not
-    pub push_unpointed : 2 ^ 56 < k → (v : Result (Unit {0}) Refusal) → CheckAnswer bytes v → PushAnswer bytes k (unpointed_of v)
-    push_unpointed large (Ok tt) h = no_after (bytes_ask bytes) twelve 12 h.0 (inl (refl, λ both. omega (arith, both.0)))
-    push_unpointed large (Err q) h = no_before (bytes_ask bytes) twelve (number q) h
 
   module _ (before after : List ℕ) where
     pub solve_bytes : (r : Result ℕ Refusal) → WholeWords bytes → SolveRight ws before after r → SolveAnswer bytes before after r

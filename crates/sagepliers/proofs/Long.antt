@@ -19,7 +19,6 @@ use Rattle.questions.specs.Questions.{Questions, AllYes, FirstNo}
 use Rattle.questions.specs.Joined.{no_before, no_split, all_front}
 use Rattle.questions.specs.Number.{number}
 use Rattle.questions.specs.declared.refusal.Refusal.{Refusal}
-use Rattle.promises.specs.declared.Point.TheVariants as point
 use Rattle.promises.specs.declared.Point.{Point}
 use Rattle.promises.specs.Asked.{Solvable, last_ask, Given, certificate_rules, check_asks}
 use Rattle.promises.specs.Answer.{CheckRight, SolveRight, KernelRight, PushRight}

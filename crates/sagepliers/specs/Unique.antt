@@ -1,9 +1,8 @@
 -- For each call of a C entry, and of the entries on bytes, one answer is right at most, with one content of the lent buffer.
 -- Assumes nothing.
-use Rattle.std.specs.Prelude.{◌≡◌, refl, List, [], ◌∷◌, ◌++◌, ℕ, ◌+◌, ◌*◌, ◌^◌, ◌<◌, ◌≤◌, length, drop, Result}
+use Rattle.std.specs.Prelude.{◌≡◌, refl, List, [], ◌∷◌, ℕ, ◌+◌, ◌*◌, ◌^◌, ◌<◌, ◌≤◌, length, drop, Result}
 use Rattle.std.proofs.Common.{sym, ◌∙◌, ap, arith}
 use Rattle.std.proofs.Math.Decide.{dec_lt}
-use Rattle.questions.specs.Questions.{AllYes}
 use Rattle.questions.specs.Joined.{all_front}
 use Rattle.questions.specs.Answers.{answers_unique, writes_unique}
 use Rattle.sheet.specs.declared.Form.TheVariants.{Question, Certificate, Kernel}
