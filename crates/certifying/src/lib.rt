@@ -12,7 +12,7 @@ ghost use Rattle.promises.specs.Asked.{Room};
 ghost use Rattle.certifying.specs.Certified.{Certified};
 
 use barrett::Modulus;
-use promises::Written;
+use questions::Refusal;
 use sheet::Values;
 
 // The certificate of a g with R1, where n is its N and `holds` says whether it has R3; else 11.
@@ -23,7 +23,7 @@ pub fn finish(
     n: &[u32],
     holds: bool,
     answer: &mut [u32],
-) -> Written
+) -> Result<u32, Refusal>
     requires ready { (Ready v) × Over v m }
     requires holds_g { HoldsG v g.now × R1 (Zmod v.p) (question v) (poly v.p g.now) }
     requires holds_n { HoldsN v n.now × (poly v.p n.now ≡ N (Zmod v.p) (question v) (poly v.p g.now)) }
@@ -32,16 +32,22 @@ pub fn finish(
     ensures { Certified v g.now answer.old answer.new result }
 {
     if !holds {
-        return Written::Refused(11);
+        return Err(Refusal::NoIsogeny);
     }
     let abscissas = counting::roots(g, m);
     let words = certificate::write(v, g, n, abscissas, answer);
     let count = words as u32;
-    Written::Count(count)
+    Ok(count)
 }
 
 // The certificate of a g with R1, or 11; with room for N.
-fn certify_in(v: Values, m: Modulus, g: &[u32], n: &mut [u32], answer: &mut [u32]) -> Written
+fn certify_in(
+    v: Values,
+    m: Modulus,
+    g: &[u32],
+    n: &mut [u32],
+    answer: &mut [u32],
+) -> Result<u32, Refusal>
     requires ready { (Ready v) × Over v m }
     requires holds_g { HoldsG v g.now × R1 (Zmod v.p) (question v) (poly v.p g.now) }
     requires n_len { (length n.old ≡ 2 * half v + 2) × Room (length answer.old) }
@@ -53,14 +59,14 @@ fn certify_in(v: Values, m: Modulus, g: &[u32], n: &mut [u32], answer: &mut [u32
 }
 
 // The same, with room of its own.
-pub fn certify(v: Values, g: &[u32], answer: &mut [u32]) -> Written
+pub fn certify(v: Values, g: &[u32], answer: &mut [u32]) -> Result<u32, Refusal>
     requires ready { Ready v }
     requires holds_g { HoldsG v g.now × R1 (Zmod v.p) (question v) (poly v.p g.now) }
     requires room { Room (length answer.old) }
     ensures { Certified v g.now answer.old answer.new result }
 {
-    let m = barrett::modulus(v.p);
+    let m = Modulus::new(v.p);
     let count = 2 * g.len();
-    let mut n = promises::blank256();
+    let mut n = [0u32; 256];
     certify_in(v, m, g, &mut n[..count], answer)
 }

@@ -17,6 +17,7 @@ use Rattle.sheet.specs.Asked.{asked}
 use Rattle.sheet.specs.Ready.{Ready, HoldsG, HoldsN}
 use Rattle.sheet.specs.Ready as R
 use Rattle.reading.specs.Accepted.{certificate_length, certificate_g, certificate_n}
+use Rattle.promises.specs.Asked.{rules_ask, certificate_rules}
 
 module _ (ws : List ℕ) (all : AllYes (asked Certificate ws)) (v : Values) (d : ℕ) (e : v ≡ values_of Certificate ws) (d_is : d ≡ half v) where
   d_half : d ≡ half (values_of Certificate ws)
@@ -51,6 +52,11 @@ module _ (ws : List ℕ) (all : AllYes (asked Certificate ws)) (v : Values) (d :
   -- and so is the count
   pub abscissas_read : (c : ℕ) → c ≡ value_of (get_or ws (place_of Certificate 10 d 0) 0) → c ≡ abscissas_of ws
   abscissas_read c c_is = c_is ∙ ap (λ k. value_of (get_or ws (place_of Certificate 10 k 0) 0)) d_half
+
+-- what is asked of them is asked of the sheet
+module _ (ws : List ℕ) (v : Values) (e : v ≡ values_of Certificate ws) (g n : List ℕ) (c : ℕ) where
+  pub rules_read : g ≡ gOf Certificate ws → n ≡ n_of Certificate ws → c ≡ abscissas_of ws → rules_ask v g n c ≡ certificate_rules ws
+  rules_read g_is n_is c_is = λ i. rules_ask (e i) (g_is i) (n_is i) (c_is i)
 
 -- at the front of a longer slice
 module _ (ws : List ℕ) (all : AllYes (asked Certificate ws)) (v : Values) (e : v ≡ values_of Certificate ws) (part rest : List ℕ) where

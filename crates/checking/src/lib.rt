@@ -6,7 +6,8 @@ ghost use Rattle.zmod.specs.Zmod.{Zmod};
 ghost use Rattle.zmod.specs.Residues.{poly};
 ghost use Rattle.isogeny.specs.Rules.{N, R1};
 ghost use Rattle.questions.specs.Questions.{AllYes};
-ghost use Rattle.questions.specs.Judged.{Judged};
+ghost use Rattle.questions.specs.Answers.{Answers};
+ghost use Rattle.questions.specs.Number.{outcome};
 ghost use Rattle.sheet.specs.declared.Form.TheVariants.{Certificate};
 ghost use Rattle.sheet.specs.Values.{values_of, half, question};
 ghost use Rattle.sheet.specs.Asked.{asked};
@@ -18,8 +19,7 @@ ghost use Rattle.promises.specs.Answer.{CheckRight};
 ghost use Rattle.checking.specs.Passed.{Coefficients, Passed};
 
 use barrett::Modulus;
-use promises::Verdict;
-use reading::Reading;
+use questions::Refusal;
 use sheet::{Form, Values};
 
 // Whether N is that of R2, with room for R2's.
@@ -39,7 +39,7 @@ fn same_numerator(v: Values, m: Modulus, g: &[u32], n: &[u32]) -> bool
     ensures { (result ≡ true) ↔ (poly v.p n.now ≡ N (Zmod v.p) (question v) (poly v.p g.now)) }
 {
     let count = n.len();
-    let mut room = promises::blank256();
+    let mut room = [0u32; 256];
     same_numerator_in(v, m, g, n, &mut room[..count])
 }
 
@@ -56,36 +56,42 @@ fn numerator_and_count(v: Values, m: Modulus, g: &[u32], n: &[u32], abscissas: u
     counting::roots(g, m) == abscissas
 }
 
-// The number of the first of questions 8 to 10 that g, N and the count of rational abscissas do not pass, or 0, with a modulus that was prepared.
-fn rules_number_over(v: Values, m: Modulus, g: &[u32], n: &[u32], abscissas: u32) -> u32
+// Questions 8 to 10 of g, N and the count of rational abscissas, with the prepared modulus.
+fn ask_rules_over(
+    v: Values,
+    m: Modulus,
+    g: &[u32],
+    n: &[u32],
+    abscissas: u32,
+) -> Result<(), Refusal>
     requires ready { (Ready v) × HoldsG v g.now × Over v m }
     requires holds_n { HoldsN v n.now }
-    ensures { Judged (rules_ask v g.now n.now abscissas) result }
+    ensures { Answers (rules_ask v g.now n.now abscissas) (λ _. Unit {0}) (outcome result) }
 {
     if !rules::rule_one(v, g) {
-        return 8;
+        return Err(Refusal::KernelPolynomial);
     }
     if !numerator_and_count(v, m, g, n, abscissas) {
-        return 9;
+        return Err(Refusal::Numerator);
     }
     if !equation::rule_three(v, m, g, n) {
-        return 10;
+        return Err(Refusal::Equation);
     }
-    0
+    Ok(())
 }
 
 // The same for the values of any sheet.
-fn rules_number(v: Values, g: &[u32], n: &[u32], abscissas: u32) -> u32
+fn ask_rules(v: Values, g: &[u32], n: &[u32], abscissas: u32) -> Result<(), Refusal>
     requires ready { (Ready v) × HoldsG v g.now }
     requires holds_n { HoldsN v n.now }
-    ensures { Judged (rules_ask v g.now n.now abscissas) result }
+    ensures { Answers (rules_ask v g.now n.now abscissas) (λ _. Unit {0}) (outcome result) }
 {
-    let m = barrett::modulus(v.p);
-    rules_number_over(v, m, g, n, abscissas)
+    let m = Modulus::new(v.p);
+    ask_rules_over(v, m, g, n, abscissas)
 }
 
-// The coefficients on a certificate that passes 2 to 7, to g and n, and the number of the first of questions 8 to 10 that it does not pass, or 0.
-fn judge(v: Values, ws: &[u32], d: usize, g: &mut [u32], n: &mut [u32]) -> u32
+// The coefficients on a certificate that passes 2 to 7, to g and n; and questions 8 to 10.
+fn judge(v: Values, ws: &[u32], d: usize, g: &mut [u32], n: &mut [u32]) -> Result<(), Refusal>
     requires all_yes { AllYes (asked Certificate ws.now) }
     requires v_value { (v ≡ values_of Certificate ws.now) × (d ≡ half v) }
     requires g_len { (length g.old ≡ d + 1) × (length n.old ≡ 2 * d + 2) }
@@ -94,38 +100,26 @@ fn judge(v: Values, ws: &[u32], d: usize, g: &mut [u32], n: &mut [u32]) -> u32
     sheet::g_coefficients(Form::Certificate, v.p, ws, d, g);
     sheet::n_coefficients(v.p, ws, d, n);
     let abscissas = sheet::rational_abscissas(ws, d);
-    rules_number(v, g, n, abscissas)
+    ask_rules(v, g, n, abscissas)
 }
 
 // Questions 2 to 10. The values of a certificate that passes are the answer, and g and n begin with its coefficients.
-pub fn passed(ws: &[u32], g: &mut [u32], n: &mut [u32]) -> Reading
+pub fn passed(ws: &[u32], g: &mut [u32], n: &mut [u32]) -> Result<Values, Refusal>
     requires { (length g.old ≡ 128) × (length n.old ≡ 256) }
     ensures { Passed ws.now g.new n.new result }
 {
-    let read = reading::read(Form::Certificate, ws);
-    match read {
-        Reading::Refused(k) => Reading::Refused(k),
-        Reading::Accepted(v) => {
-            let d = sheet::half_degree(v);
-            let k = judge(v, ws, d, &mut g[..d + 1], &mut n[..2 * d + 2]);
-            if k == 0 {
-                Reading::Accepted(v)
-            } else {
-                Reading::Refused(k)
-            }
-        }
-    }
+    let v = reading::read(Form::Certificate, ws)?;
+    let d = sheet::half_degree(v);
+    judge(v, ws, d, &mut g[..d + 1], &mut n[..2 * d + 2])?;
+    Ok(v)
 }
 
-// Whether the words are a certificate: the number is that of the first of questions 2 to 10 that they do not pass.
-pub fn check(ws: &[u32]) -> Verdict
+// Whether the words are a certificate; or the first of questions 2 to 10 that they do not pass.
+pub fn check(ws: &[u32]) -> Result<(), Refusal>
     ensures { CheckRight ws.now result }
 {
-    let mut g = promises::blank128();
-    let mut n = promises::blank256();
-    let read = passed(ws, &mut g, &mut n);
-    match read {
-        Reading::Refused(k) => Verdict::Refused(k),
-        Reading::Accepted(_) => Verdict::Passes,
-    }
+    let mut g = [0u32; 128];
+    let mut n = [0u32; 256];
+    passed(ws, &mut g, &mut n)?;
+    Ok(())
 }

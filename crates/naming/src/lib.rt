@@ -7,27 +7,28 @@ ghost use Rattle.zmod.specs.Prime.{Prime};
 ghost use Rattle.isogeny.specs.Curve.{Nonsingular, JValue};
 ghost use Rattle.promises.specs.Asked.{name_asks};
 ghost use Rattle.promises.specs.Answer.{NameRight};
-ghost use Rattle.questions.specs.Judged.{Judged};
+ghost use Rattle.questions.specs.Answers.{Answers};
+ghost use Rattle.questions.specs.Number.{outcome};
 
-use promises::Named;
+use questions::Refusal;
 
-// The number of the first question that the curve does not pass, or 0.
-fn name_number(p: u32, a: u32, b: u32) -> u32
-    ensures { Judged (name_asks p a b) result }
+// Questions 3, 5 and 7.
+fn curve_allowed(p: u32, a: u32, b: u32) -> Result<(), Refusal>
+    ensures { Answers (name_asks p a b) (λ _. Unit {0}) (outcome result) }
 {
     if !reading::prime_allowed(p) {
-        return 3;
+        return Err(Refusal::Prime);
     }
     if p <= a {
-        return 5;
+        return Err(Refusal::Values);
     }
     if p <= b {
-        return 5;
+        return Err(Refusal::Values);
     }
     if !reading::nonsingular(a, b, p) {
-        return 7;
+        return Err(Refusal::Singular);
     }
-    0
+    Ok(())
 }
 
 // 1728 · 4a³ / (4a³ + 27b²)
@@ -45,13 +46,9 @@ fn j_value(p: u32, a: u32, b: u32) -> u32
     field::multiply(dividend, inverse, p)
 }
 
-pub fn name(p: u32, a: u32, b: u32) -> Named
+pub fn name(p: u32, a: u32, b: u32) -> Result<u32, Refusal>
     ensures { NameRight p a b result }
 {
-    let k = name_number(p, a, b);
-    if k == 0 {
-        Named::Value(j_value(p, a, b))
-    } else {
-        Named::Refused(k)
-    }
+    curve_allowed(p, a, b)?;
+    Ok(j_value(p, a, b))
 }

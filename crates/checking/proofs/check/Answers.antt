@@ -1,14 +1,8 @@
 -- `checking::check` meets its contract. Assumes nothing.
-use Rattle.std.proofs.Common.{subst}
-use Rattle.checking.specs.Passed.{Passed}
+use Rattle.std.proofs.lemmas.Result.{err_from_is_err_and}
 use Rattle.checking.proofs.check.Goals as goal
 
-pub returns-in-Refused : goal.returns-in-Refused
-returns-in-Refused c =
-    let ws = c.args.ws.now in
-    subst (Passed ws c.passed-read.new.g c.passed-read.new.n) c.in-Refused.is c.passed-read.ensures
-
-pub returns-in-Accepted : goal.returns-in-Accepted
-returns-in-Accepted c =
-    let ws = c.args.ws.now in
-    ((subst (Passed ws c.passed-read.new.g c.passed-read.new.n) c.in-Accepted.is c.passed-read.ensures).all, tt)
+pub returns-in_err-passed : goal.returns-in_err-passed
+returns-in_err-passed c =
+    let p = err_from_is_err_and c.from_residual.result c.from_residual.ensures.1 in
+    rw (p.1, p.2) c.in_err-passed.ensures

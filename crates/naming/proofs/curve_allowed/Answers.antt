@@ -1,8 +1,8 @@
--- `naming::name_number` meets its contract. Assumes nothing.
+-- `naming::curve_allowed` meets its contract. Assumes nothing.
 use Rattle.std.proofs.Common.{not, ap, arith, le_of_lt}
 use Rattle.questions.specs.Tests.{refuted, shown}
 use Rattle.naming.proofs.Names.{no_prime, a_large, b_large, singular, named}
-use Rattle.naming.proofs.name_number.Goals as goal
+use Rattle.naming.proofs.curve_allowed.Goals as goal
 
 pub returns-then-not-prime_allowed : goal.returns-then-not-prime_allowed
 returns-then-not-prime_allowed c =
@@ -29,6 +29,8 @@ returns-then-not-nonsingular c =
 
 pub returns : goal.returns
 returns c =
-    named c.args.p c.args.a c.args.b (shown c.prime_allowed.ensures (ap not c.if-not-prime_allowed.false))
-    (omega (arith, c.if-p-a.false)) (omega (arith, c.if-p-b.false))
-    (shown c.nonsingular.ensures (ap not c.if-not-nonsingular.false))
+    let three = shown c.prime_allowed.ensures (ap not c.if-not-prime_allowed.false) in (
+      named c.args.p c.args.a c.args.b three (omega (arith, c.if-p-a.false)) (omega (arith, c.if-p-b.false))
+          (shown c.nonsingular.ensures (ap not c.if-not-nonsingular.false)),
+      tt,
+    )
