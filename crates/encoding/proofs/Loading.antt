@@ -1,11 +1,11 @@
 -- The words of a run of bytes at the front of a buffer, as `keep` leaves them.
 -- Assumes nothing.
-use mathlib.Core.Path.{◌≡◌, refl, sym, ◌∙◌, ap, subst}
+use mathlib.Core.Path.{◌≡◌, sym, ◌∙◌, ap, subst}
 use mathlib.Core.List.{List, ◌++◌}
-use Prim.Native.Nat.{ℕ, ◌+◌, ◌/◌, ◌≤◌, min}
+use Prim.Native.Nat.{ℕ, ◌/◌, ◌≤◌, min}
 use native.Mathlib.Decide.{dec_le}
 use native.Mathlib.Omega.{arith}
-use lib.ListN.{length, take, drop, length-take, length-drop, length-append}
+use lib.ListN.{length, take, drop, length-take, length-append}
 use lib.Seq.{take_all, take-append_seam}
 use Rattle.slices.specs.Filling.{length_tab}
 use Rattle.sheet.specs.Word.{word_at, words_of}

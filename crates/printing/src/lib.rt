@@ -7,7 +7,7 @@ ghost use Rattle.text.specs.Fills.{Fills};
 ghost use Rattle.printing.specs.Printing.{written_text, verdict_text, image_text, Prints, SolveText, KernelText, CheckText, PushText};
 ghost use Rattle.printing.specs.Room.{room, Within};
 
-use services::{Image, Verdict, Written};
+use services::{Point, Refusal};
 
 // Room for every text: a line of nine characters for each word of the largest certificate.
 pub const ROOM: usize = 9 * sheet::MOST_WORDS;
@@ -18,16 +18,13 @@ pub const INPUT: usize = 4 * (sheet::MOST_WORDS + 1) + 3;
 
 pub const PUSH_INPUT: usize = INPUT + 8;
 
-fn written_text(written: Written, words: &[u32], out: &mut [u8]) -> usize
+fn written_text(written: Result<u32, Refusal>, words: &[u32], out: &mut [u8]) -> usize
     requires { Within written (length words.now) × (9 * length words.now ≤ length out.old) × (room ≤ length out.old) }
     ensures { Fills (written_text words.now written) out.old out.new result }
 {
     match written {
-        Written::Count(count) => {
-            let n = count as usize;
-            text::word_lines(&words[..n], out)
-        },
-        Written::Refused(number) => text::refused_line(number, out),
+        Ok(count) => text::word_lines(&words[..count as usize], out),
+        Err(refusal) => text::refused_line(u32::from(refusal), out),
     }
 }
 
@@ -49,13 +46,13 @@ pub fn kernel(bytes: &[u8], out: &mut [u8]) -> usize
     written_text(written, &answer, out)
 }
 
-fn verdict_text(verdict: Verdict, out: &mut [u8]) -> usize
+fn verdict_text(verdict: Result<(), Refusal>, out: &mut [u8]) -> usize
     requires { room ≤ length out.old }
     ensures { Fills (verdict_text verdict) out.old out.new result }
 {
     match verdict {
-        Verdict::Passes => text::passes_line(out),
-        Verdict::Refused(number) => text::refused_line(number, out),
+        Ok(()) => text::passes_line(out),
+        Err(refusal) => text::refused_line(u32::from(refusal), out),
     }
 }
 
@@ -66,17 +63,15 @@ pub fn check(bytes: &[u8], out: &mut [u8]) -> usize
     verdict_text(sagepliers::files::check(bytes), out)
 }
 
-fn image_text(image: Image, out: &mut [u8]) -> usize
+fn image_text(image: Result<Point, Refusal>, out: &mut [u8]) -> usize
     requires { room ≤ length out.old }
     ensures { Fills (image_text image) out.old out.new result }
 {
-    let Image::Affine(u, v) = image else {
-        let Image::Refused(number) = image else {
-            return text::number_line(sagepliers::files::INFINITY, out);
-        };
-        return text::refused_line(number, out);
-    };
-    text::number_line(sagepliers::point_number(u, v), out)
+    match image {
+        Ok(Point::Affine(u, v)) => text::number_line(sagepliers::point_number(u, v), out),
+        Ok(Point::Infinity) => text::number_line(sagepliers::files::INFINITY, out),
+        Err(refusal) => text::refused_line(u32::from(refusal), out),
+    }
 }
 
 pub fn push(bytes: &[u8], out: &mut [u8]) -> usize

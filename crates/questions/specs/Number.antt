@@ -39,13 +39,13 @@ number Joint = 13
 number Product = 14
 
 -- the refusal of a number
-abbrev numbered : ℕ → Refusal
+abbrev pub numbered : ℕ → Refusal
 numbered n =
     cond (eqb n 1) Room (cond (eqb n 2) Header (cond (eqb n 3) Prime (cond (eqb n 4) Degree (cond (eqb n 5) Values (cond (eqb n 6) Words
     (cond (eqb n 7) Singular (cond (eqb n 8) KernelPolynomial (cond (eqb n 9) Numerator (cond (eqb n 10) Equation (cond (eqb n 11) NoIsogeny
     (cond (eqb n 12) Point (cond (eqb n 13) Joint Product))))))))))))
 
-numbered_number : (q : Refusal) → numbered (number q) ≡ q
+pub numbered_number : (q : Refusal) → numbered (number q) ≡ q
 numbered_number Room = refl
 numbered_number Header = refl
 numbered_number Prime = refl

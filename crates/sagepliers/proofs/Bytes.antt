@@ -1,35 +1,29 @@
 -- From the words of a run of bytes to the bytes: question 2 also asks for whole words, and question 12 for a point number of at most 2^56.
 -- Assumes nothing.
-use mathlib.Core.Path.{◌≡◌, refl}
+use Rattle.std.specs.Prelude.{Result, Ok, Err}
 use mathlib.Core.Logic.{◌⊎◌, inl, inr}
 use mathlib.Core.List.{List, [], ◌∷◌, ◌++◌}
-use Prim.Native.Nat.{ℕ, ◌^◌, ◌≤◌, ◌<◌}
-use native.Mathlib.Omega.{arith}
-use lib.ListN.{length, take}
+use Prim.Native.Nat.{ℕ, ◌^◌, ◌≤◌}
 use Rattle.sheet.specs.declared.Form.TheVariants.{Certificate}
 use Rattle.sheet.specs.Word.{words_of}
 use Rattle.sheet.specs.Values.{values_of}
 use Rattle.questions.specs.Questions.{Questions, AllYes, FirstNo}
 use Rattle.questions.specs.Joined.{no_before, no_after, all_all, no_split, all_front, all_back}
-use Rattle.promises.specs.declared.Verdict.{Verdict}
-use Rattle.promises.specs.declared.Verdict.TheVariants as verdict
-use Rattle.promises.specs.declared.Written.{Written}
-use Rattle.promises.specs.declared.Written.TheVariants as written
+use Rattle.questions.specs.Number.{number}
+use Rattle.questions.specs.declared.refusal.Refusal.{Refusal}
 use Rattle.promises.specs.declared.Point.{Point}
-use Rattle.promises.specs.declared.Image.{Image}
-use Rattle.promises.specs.declared.Image.TheVariants as image
-use Rattle.promises.specs.Asked.{Room, check_asks, Given}
+use Rattle.promises.specs.Asked.{check_asks, Given}
 use Rattle.promises.specs.Answer.{CheckRight, SolveRight, KernelRight, PushRight}
-use Rattle.encoding.specs.Encoding.{point_of, unpointed_of}
-use Rattle.sagepliers.specs.Entry.{WholeWords, bytes_ask, push_number_asks, CheckAnswer, PushAnswer, SolveAnswer, KernelAnswer}
+use Rattle.encoding.specs.Encoding.{point_of}
+use Rattle.sagepliers.specs.Entry.{WholeWords, push_number_asks, CheckAnswer, PushAnswer, SolveAnswer, KernelAnswer}
 
 module _ (bytes : List ℕ) where
   abbrev ws : List ℕ
   ws = words_of bytes
 
-  pub check_bytes : (r : Verdict) → WholeWords bytes → CheckRight ws r → CheckAnswer bytes r
-  check_bytes verdict.Passes even h = ((even, h.0), tt)
-  check_bytes (verdict.Refused n) even h = inr (even, h)
+  pub check_bytes : (r : Result (Unit {0}) Refusal) → WholeWords bytes → CheckRight ws r → CheckAnswer bytes r
+  check_bytes (Ok tt) even h = ((even, h.0), tt)
+  check_bytes (Err q) even h = inr (even, h)
 
   module _ (k : ℕ) where
     abbrev twelve : Questions
@@ -52,23 +46,17 @@ module _ (bytes : List ℕ) where
         go (inr (all, inl h₁)) = no_after (check_asks ws) twelve n all (inl (h₁.0, λ both. h₁.1 both.1))
         go (inr (all, inr h₁)) = absurd h₁.1
 
-    pub push_bytes : (r : Image) → WholeWords bytes → k ≤ 2 ^ 56 → PushRight ws (point_of k) r → PushAnswer bytes k r
-    push_bytes (image.Affine u v) even small h = (push_all even small h.0, h.1)
-    push_bytes image.Infinity even small h = (push_all even small h.0, h.1)
-    push_bytes (image.Refused n) even small h = push_no n even small h
-
-    -- a number above 2^56, after a certificate that passes, and after one that does not
-    pub push_unpointed : 2 ^ 56 < k → (v : Verdict) → CheckAnswer bytes v → PushAnswer bytes k (unpointed_of v)
-    push_unpointed large verdict.Passes h = no_after (bytes_ask bytes) twelve 12 h.0 (inl (refl, λ both. omega (arith, both.0)))
-    push_unpointed large (verdict.Refused n) h = no_before (bytes_ask bytes) twelve n h
+    pub push_bytes : (r : Result Point Refusal) → WholeWords bytes → k ≤ 2 ^ 56 → PushRight ws (point_of k) r → PushAnswer bytes k r
+    push_bytes (Ok image) even small h = (push_all even small h.0, h.1)
+    push_bytes (Err q) even small h = push_no (number q) even small h
 
   module _ (before after : List ℕ) where
-    pub solve_bytes : (r : Written) → WholeWords bytes → SolveRight ws before after r → SolveAnswer bytes before after r
-    solve_bytes (written.Count c) even h = ((h.0.0, (even, h.0.1)), h.1)
-    solve_bytes (written.Refused n) even (inl h, same) = (inl h, same)
-    solve_bytes (written.Refused n) even (inr h, same) = (inr (h.0, inr (even, h.1)), same)
+    pub solve_bytes : (r : Result ℕ Refusal) → WholeWords bytes → SolveRight ws before after r → SolveAnswer bytes before after r
+    solve_bytes (Ok c) even h = ((h.0.0, (even, h.0.1)), h.1)
+    solve_bytes (Err q) even (inl h, same) = (inl h, same)
+    solve_bytes (Err q) even (inr h, same) = (inr (h.0, inr (even, h.1)), same)
 
-    pub kernel_bytes : (r : Written) → WholeWords bytes → KernelRight ws before after r → KernelAnswer bytes before after r
-    kernel_bytes (written.Count c) even h = ((h.0.0, (even, h.0.1)), h.1)
-    kernel_bytes (written.Refused n) even (inl h, same) = (inl h, same)
-    kernel_bytes (written.Refused n) even (inr h, same) = (inr (h.0, inr (even, h.1)), same)
+    pub kernel_bytes : (r : Result ℕ Refusal) → WholeWords bytes → KernelRight ws before after r → KernelAnswer bytes before after r
+    kernel_bytes (Ok c) even h = ((h.0.0, (even, h.0.1)), h.1)
+    kernel_bytes (Err q) even (inl h, same) = (inl h, same)
+    kernel_bytes (Err q) even (inr h, same) = (inr (h.0, inr (even, h.1)), same)

@@ -1,4 +1,3 @@
 pub mod Long
 pub mod Bytes
 pub mod Loading
-pub mod Numbers

@@ -2,6 +2,7 @@
 -- since questions 2 to 5 read the header alone and
 -- question 6 is a no.
 -- Assumes nothing.
+use Rattle.std.specs.Prelude.{Result, Ok, Err}
 use mathlib.Core.Path.{◌≡◌, subst}
 use mathlib.Core.Logic.{◌⊎◌, inl, inr}
 use mathlib.Core.List.{List, [], ◌∷◌, ◌++◌}
@@ -16,13 +17,9 @@ use Rattle.sheet.specs.Asked.{asked}
 use Rattle.reading.specs.LongSheet.{front_yes, front_no, front_all}
 use Rattle.questions.specs.Questions.{Questions, AllYes, FirstNo}
 use Rattle.questions.specs.Joined.{no_before, no_split, all_front}
-use Rattle.promises.specs.declared.Verdict.{Verdict}
-use Rattle.promises.specs.declared.Verdict.TheVariants as verdict
-use Rattle.promises.specs.declared.Written.{Written}
-use Rattle.promises.specs.declared.Written.TheVariants as written
+use Rattle.questions.specs.Number.{number}
+use Rattle.questions.specs.declared.refusal.Refusal.{Refusal}
 use Rattle.promises.specs.declared.Point.{Point}
-use Rattle.promises.specs.declared.Image.{Image}
-use Rattle.promises.specs.declared.Image.TheVariants as image
 use Rattle.promises.specs.Asked.{Solvable, last_ask, Given, certificate_rules, check_asks}
 use Rattle.promises.specs.Answer.{CheckRight, SolveRight, KernelRight, PushRight}
 
@@ -65,26 +62,24 @@ long_all : (form : Form) (more : List ℕ → Questions) (P : List ℕ → Type 
     → AllYes (asked form (take kept ws) ++ more (take kept ws)) → P (take kept ws) → P ws
 long_all form more P ws all h = subst P (whole form ws (all_front (asked form (take kept ws)) (more (take kept ws)) all)) h
 
-pub check_long : (ws : List ℕ) (r : Verdict) → CheckRight (take kept ws) r → CheckRight ws r
-check_long ws verdict.Passes h = (long_all Certificate certified (λ us. AllYes (check_asks us)) ws h.0 h.0, tt)
-check_long ws (verdict.Refused n) h = long_no Certificate certified ws n h
+pub check_long : (ws : List ℕ) (r : Result (Unit {0}) Refusal) → CheckRight (take kept ws) r → CheckRight ws r
+check_long ws (Ok tt) h = (long_all Certificate certified (λ us. AllYes (check_asks us)) ws h.0 h.0, tt)
+check_long ws (Err q) h = long_no Certificate certified ws (number q) h
 
-pub push_long : (ws : List ℕ) (at : Point) (r : Image) → PushRight (take kept ws) at r → PushRight ws at r
-push_long ws at (image.Affine u v) h =
-    long_all Certificate (pushed at) (λ us. PushRight us at (image.Affine u v)) ws h.0 h
-push_long ws at image.Infinity h = long_all Certificate (pushed at) (λ us. PushRight us at image.Infinity) ws h.0 h
-push_long ws at (image.Refused n) h = long_no Certificate (pushed at) ws n h
+pub push_long : (ws : List ℕ) (at : Point) (r : Result Point Refusal) → PushRight (take kept ws) at r → PushRight ws at r
+push_long ws at (Ok image) h = long_all Certificate (pushed at) (λ us. PushRight us at (Ok image)) ws h.0 h
+push_long ws at (Err q) h = long_no Certificate (pushed at) ws (number q) h
 
-pub solve_long : (ws before after : List ℕ) (r : Written) → SolveRight (take kept ws) before after r → SolveRight ws before after r
-solve_long ws before after (written.Count c) h =
-    long_all Question solved (λ us. SolveRight us before after (written.Count c)) ws h.0.1 h
-solve_long ws before after (written.Refused n) (inl h, same) = (inl h, same)
-solve_long ws before after (written.Refused n) (inr h, same) =
-    (inr (h.0, long_no Question solved ws n h.1), same)
+pub solve_long : (ws before after : List ℕ) (r : Result ℕ Refusal) → SolveRight (take kept ws) before after r → SolveRight ws before after r
+solve_long ws before after (Ok c) h =
+    long_all Question solved (λ us. SolveRight us before after (Ok c)) ws h.0.1 h
+solve_long ws before after (Err q) (inl h, same) = (inl h, same)
+solve_long ws before after (Err q) (inr h, same) =
+    (inr (h.0, long_no Question solved ws (number q) h.1), same)
 
-pub kernel_long : (ws before after : List ℕ) (r : Written) → KernelRight (take kept ws) before after r → KernelRight ws before after r
-kernel_long ws before after (written.Count c) h =
-    long_all Kernel completed (λ us. KernelRight us before after (written.Count c)) ws h.0.1 h
-kernel_long ws before after (written.Refused n) (inl h, same) = (inl h, same)
-kernel_long ws before after (written.Refused n) (inr h, same) =
-    (inr (h.0, long_no Kernel completed ws n h.1), same)
+pub kernel_long : (ws before after : List ℕ) (r : Result ℕ Refusal) → KernelRight (take kept ws) before after r → KernelRight ws before after r
+kernel_long ws before after (Ok c) h =
+    long_all Kernel completed (λ us. KernelRight us before after (Ok c)) ws h.0.1 h
+kernel_long ws before after (Err q) (inl h, same) = (inl h, same)
+kernel_long ws before after (Err q) (inr h, same) =
+    (inr (h.0, long_no Kernel completed ws (number q) h.1), same)

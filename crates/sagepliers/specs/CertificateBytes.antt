@@ -1,12 +1,11 @@
 -- A certificate as a file: its words as bytes, four a word, the lowest first, are read back as its words, and pass the C check.
 -- Assumes nothing.
-use Rattle.std.specs.Prelude.{◌≡◌, refl, List, [], ◌∷◌, ℕ, zero, suc, ◌+◌, ◌*◌, ◌/◌, ◌%◌, ◌^◌, ◌<◌, length, get_or}
+use Rattle.std.specs.Prelude.{◌≡◌, refl, List, [], ◌∷◌, ℕ, zero, suc, ◌+◌, ◌*◌, ◌/◌, ◌%◌, ◌^◌, ◌<◌, length, get_or, Ok}
 use Rattle.std.proofs.Common.{sym, ◌∙◌, ap, subst, arith, ext_get_or}
 use Rattle.slices.specs.Filling.{length_tab, get_d_tab}
 use Rattle.zmod.specs.Residues.{Reduced}
 use Rattle.sheet.specs.Word.{word_at, words_of}
 use Rattle.questions.specs.Questions.{AllYes}
-use Rattle.promises.specs.declared.Verdict.TheVariants as verdict
 use Rattle.promises.specs.Asked.{check_asks}
 use Rattle.promises.specs.Certificates.{check_asked}
 use Rattle.guarantees.specs.Words.{words_small}
@@ -61,7 +60,7 @@ bytes_back ws h =
 -- The bytes of a certificate that passes get 0 from the C check.
 pub certificate_bytes : (ws : List ℕ) → AllYes (check_asks ws) → CheckNumber (bytes_of ws) 0
 certificate_bytes ws passes = record {
-  answer = verdict.Passes;
+  answer = Ok tt;
   right = ((bytes_whole ws, subst (λ us. AllYes (check_asks us)) (sym (bytes_back ws (words_small ws (check_asked ws passes)))) passes), tt);
   number = refl;
 }

@@ -1,9 +1,8 @@
 -- For each call of a C entry, and of the entries on bytes, one answer is right at most, with one content of the lent buffer.
 -- Assumes nothing.
-use Rattle.std.specs.Prelude.{◌≡◌, refl, List, [], ◌∷◌, ◌++◌, ℕ, ◌+◌, ◌*◌, ◌^◌, ◌<◌, ◌≤◌, length, drop}
+use Rattle.std.specs.Prelude.{◌≡◌, refl, List, [], ◌∷◌, ℕ, ◌+◌, ◌*◌, ◌^◌, ◌<◌, ◌≤◌, length, drop, Result}
 use Rattle.std.proofs.Common.{sym, ◌∙◌, ap, arith}
 use Rattle.std.proofs.Math.Decide.{dec_lt}
-use Rattle.questions.specs.Questions.{AllYes}
 use Rattle.questions.specs.Joined.{all_front}
 use Rattle.questions.specs.Answers.{answers_unique, writes_unique}
 use Rattle.sheet.specs.declared.Form.TheVariants.{Question, Certificate, Kernel}
@@ -11,21 +10,10 @@ use Rattle.sheet.specs.Word.{word_at, words_of}
 use Rattle.sheet.specs.Values.{values_of, gOf, n_of}
 use Rattle.sheet.specs.Asked.{asked}
 use Rattle.sheet.specs.Ready.{ready}
-use Rattle.promises.specs.declared.Verdict.{Verdict}
-use Rattle.promises.specs.declared.Written.{Written}
-use Rattle.promises.specs.declared.Image.{Image}
-use Rattle.promises.specs.Outcome.{
-  verdict_outcome,
-  written_outcome,
-  image_outcome,
-  verdict_number,
-  written_number,
-  image_number,
-  name_number,
-  same_verdict,
-  same_written,
-  same_image,
-}
+use Rattle.questions.specs.Number.{outcome, same_outcome}
+use Rattle.questions.specs.declared.refusal.Refusal.{Refusal}
+use Rattle.promises.specs.declared.Point.{Point}
+use Rattle.promises.specs.Outcome.{verdict_number, written_number, image_number, name_number}
 use Rattle.promises.specs.Asked.{Given, Solvable, last_ask}
 use Rattle.promises.specs.Answer.{Goes, CertificateIn, KernelIn}
 use Rattle.guarantees.specs.Certified.{one_certificate}
@@ -55,9 +43,9 @@ use Rattle.sagepliers.specs.Entry.{
 
 -- ── check
 
-pub check_answer_unique : (bytes : List ℕ) (r s : Verdict) → CheckAnswer bytes r → CheckAnswer bytes s → r ≡ s
+pub check_answer_unique : (bytes : List ℕ) (r s : Result (Unit {0}) Refusal) → CheckAnswer bytes r → CheckAnswer bytes s → r ≡ s
 check_answer_unique bytes r s h k =
-    same_verdict r s (answers_unique (bytes_ask bytes) (λ _. Unit {0}) (λ _ a b _ _. one a b) (verdict_outcome r) (verdict_outcome s) h k)
+    same_outcome r s (answers_unique (bytes_ask bytes) (λ _. Unit {0}) (λ _ a b _ _. one a b) (outcome r) (outcome s) h k)
   where
     one : (a b : Unit {0}) → a ≡ b
     one a b = refl
@@ -69,19 +57,19 @@ check_number_unique bytes r s h k =
 -- ── push
 
 module _ (bytes : List ℕ) (k : ℕ) where
-  pub push_answer_unique : (r s : Image) → PushAnswer bytes k r → PushAnswer bytes k s → r ≡ s
+  pub push_answer_unique : (r s : Result Point Refusal) → PushAnswer bytes k r → PushAnswer bytes k s → r ≡ s
   push_answer_unique r s h h' =
-      same_image r s
+      same_outcome r s
       (answers_unique (push_number_asks bytes k)
       (Goes (values_of Certificate (words_of bytes)) (gOf Certificate (words_of bytes)) (n_of Certificate (words_of bytes)) (point_of k)) (λ all a b.
       goes_once (words_of bytes)
       (all_front (bytes_ask bytes) ((12, ((k ≤ 2 ^ 56) × Given (values_of Certificate (words_of bytes)) (point_of k))) ∷ []) all).1 (point_of k) a b)
-      (image_outcome r) (image_outcome s) h h')
+      (outcome r) (outcome s) h h')
 
   pub push_number_unique : (r s : ℕ) → PushNumber bytes k r → PushNumber bytes k s → r ≡ s
   push_number_unique r s h h' = h.number ∙ ap image_number (push_answer_unique h.answer h'.answer h.right h'.right) ∙ sym h'.number
 
-pub push_input_unique : (bytes : List ℕ) (r s : Image) → PushInput bytes r → PushInput bytes s → r ≡ s
+pub push_input_unique : (bytes : List ℕ) (r s : Result Point Refusal) → PushInput bytes r → PushInput bytes s → r ≡ s
 push_input_unique bytes r s h k = go (dec_lt (length bytes) 8)
   where
     go : Dec (length bytes < 8) → r ≡ s
@@ -105,23 +93,23 @@ module _ (bytes before after after' : List ℕ) where
   abbrev us : List ℕ
   us = words_of bytes
 
-  pub solve_answer_unique : (r s : Written) → SolveAnswer bytes before after r → SolveAnswer bytes before after' s → (r ≡ s) × (after ≡ after')
+  pub solve_answer_unique : (r s : Result ℕ Refusal) → SolveAnswer bytes before after r → SolveAnswer bytes before after' s → (r ≡ s) × (after ≡ after')
   solve_answer_unique r s h k =
       let same =
       writes_unique (solve_bytes_ask bytes (length before)) (λ count after. CertificateIn (values_of Question us) before after count) before
       (λ all c c' xs ys a b.
       one_certificate (values_of Question us) (ready Question us (all_front (asked Question us) ((11, Solvable (values_of Question us)) ∷ []) all.1.1)) before
-      xs ys c c' a b) (written_outcome r) (written_outcome s) after after' h k in
-      (same_written r s same.0, same.1)
+      xs ys c c' a b) (outcome r) (outcome s) after after' h k in
+      (same_outcome r s same.0, same.1)
 
-  pub kernel_answer_unique : (r s : Written) → KernelAnswer bytes before after r → KernelAnswer bytes before after' s → (r ≡ s) × (after ≡ after')
+  pub kernel_answer_unique : (r s : Result ℕ Refusal) → KernelAnswer bytes before after r → KernelAnswer bytes before after' s → (r ≡ s) × (after ≡ after')
   kernel_answer_unique r s h k =
       let same =
       writes_unique (kernel_bytes_ask bytes (length before)) (λ count after. KernelIn (values_of Kernel us) (gOf Kernel us) before after count) before
       (λ all c c' xs ys a b.
       one_kernel (values_of Kernel us) (ready Kernel us (all_front (asked Kernel us) (last_ask (values_of Kernel us) (gOf Kernel us)) all.1.1))
-      (gOf Kernel us) before a b) (written_outcome r) (written_outcome s) after after' h k in
-      (same_written r s same.0, same.1)
+      (gOf Kernel us) before a b) (outcome r) (outcome s) after after' h k in
+      (same_outcome r s same.0, same.1)
 
 -- ── compose
 

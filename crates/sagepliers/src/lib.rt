@@ -6,7 +6,7 @@ pub mod files;
 ghost use Rattle.sagepliers.specs.Entry.{CheckNumber, PushNumber, SolveNumber, KernelNumber, ComposeNumber, NameNumber};
 
 pub use encoding::point_number;
-use services::{Image, Named};
+use services::Point;
 
 pub fn sagepliers_check(bytes: &[u8]) -> u32
     ensures { CheckNumber bytes.now result }
@@ -17,14 +17,11 @@ pub fn sagepliers_check(bytes: &[u8]) -> u32
 pub fn sagepliers_push(bytes: &[u8], point: u64) -> u64
     ensures { PushNumber bytes.now point result }
 {
-    let image = files::push(bytes, point);
-    let Image::Affine(u, v) = image else {
-        let Image::Refused(n) = image else {
-            return files::INFINITY;
-        };
-        return encoding::refusal(n);
-    };
-    encoding::point_number(u, v)
+    match files::push(bytes, point) {
+        Ok(Point::Affine(u, v)) => encoding::point_number(u, v),
+        Ok(Point::Infinity) => files::INFINITY,
+        Err(q) => encoding::refusal(q),
+    }
 }
 
 pub fn sagepliers_solve(sheet: &[u32], answer: &mut [u32]) -> u64
@@ -48,9 +45,5 @@ pub fn sagepliers_compose(first: &[u32], second: &[u32], answer: &mut [u32]) -> 
 pub fn sagepliers_name(p: u32, a: u32, b: u32) -> u64
     ensures { NameNumber p a b result }
 {
-    let name = services::name(p, a, b);
-    match name {
-        Named::Value(j) => field::wide(j),
-        Named::Refused(n) => encoding::refusal(n),
-    }
+    encoding::written_number(services::name(p, a, b))
 }

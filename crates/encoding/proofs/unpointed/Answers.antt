@@ -1,5 +1,5 @@
 -- `encoding::unpointed` meets its contract. Assumes nothing.
-use Rattle.std.proofs.Common.{ap, sym, ◌∙◌}
+use Rattle.std.proofs.Common.{ap, sym}
 use Rattle.std.proofs.lemmas.Result.{err_from_is_err_and}
 use Rattle.encoding.specs.Encoding.{unpointed_of}
 use Rattle.encoding.proofs.unpointed.Goals as goal
