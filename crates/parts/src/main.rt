@@ -12,6 +12,7 @@ ghost use Rattle.rules.specs.Products.{Products};
 ghost use Rattle.text.specs.Text.{hex_lines};
 ghost use Rattle.parts.specs.Parts.{Parts, PartsText};
 
+use barrett::Modulus;
 use sheet::Values;
 
 // The residues of all coefficients that the three slices have room for.
@@ -72,7 +73,7 @@ fn main(rt: HostRuntime) {
     let mut square = [0u32; 3];
     let mut slope = [0u32; 2];
     let mut bend = [0u32; 1];
-    let m = barrett::modulus(1009);
+    let m = Modulus::new(1009);
     let mut e = [0u64; 8];
     let mut acc = [0u64; 3];
     let mut h = [0u32; 1];

@@ -50,7 +50,7 @@ fn slope_coefficient(s: &[u32], i: usize, p: u32) -> u32
     requires { (0 < p) × (p ≤ 2 ^ 28) × (Reduced p s.now) × (i < 2 ^ 16) }
     ensures { Residue p (minus p (∂ (Zmod p) (poly p s.now) i)) result }
 {
-    let less = field::subtract(0, poly::word(s, i + 1), p);
+    let less = field::subtract(0, rows::word(s, i + 1), p);
     field::multiply((i as u32) + 1, less, p)
 }
 
@@ -70,9 +70,9 @@ fn bend_coefficient(s: &[u32], t: &[u32], i: usize, p: u32) -> u32
     ensures { Residue p (bend_from (Zmod p) (poly p s.now) (poly p t.now) i) result }
 {
     let n = (i as u32) + 1;
-    let above = poly::word(s, i + 1);
+    let above = rows::word(s, i + 1);
     field::reduce(
-        field::combination(2 * n, above, 8, poly::word(t, i), 0, 0),
+        field::combination(2 * n, above, 8, rows::word(t, i), 0, 0),
         p,
     )
 }
@@ -91,7 +91,7 @@ pub fn bend_of(s: &[u32], t: &[u32], out: &mut [u32], p: u32)
 fn back(a: &[u32], j: usize, k: usize) -> u32
     ensures { (k < j → result ≡ 0) × (j ≤ k → result ≡ get_or a.now (k - j) 0) }
 {
-    if k < j { 0 } else { poly::word(a, k - j) }
+    if k < j { 0 } else { rows::word(a, k - j) }
 }
 
 // The part of ℓx - σ: a number in the class of the coefficient k of (ℓx - σ)g², from g².
@@ -106,7 +106,7 @@ pub fn linear_part(v: Values, square: &[u32], k: usize) -> u64
         v.degree,
         back(square, 1, k),
         minus_sigma,
-        poly::word(square, k),
+        rows::word(square, k),
         0,
         0,
     )
@@ -119,7 +119,7 @@ pub fn first_logarithmic_part(v: Values, slope: &[u32], k: usize) -> u64
         → mk v.p result ≡ first_logarithmic_part_of (Zmod v.p) (question v) g k }
     ensures upper_bound { result < 2 ^ 62 }
 {
-    field::combination(3, back(slope, 2, k), v.a, poly::word(slope, k), 0, 0)
+    field::combination(3, back(slope, 2, k), v.a, rows::word(slope, k), 0, 0)
 }
 
 // The part of (D'/D)': the same of -4f(gg'' - g'²), from -4(gg'' - g'²).
@@ -135,7 +135,7 @@ pub fn second_logarithmic_part(v: Values, bend: &[u32], k: usize) -> u64
         v.a,
         back(bend, 1, k),
         v.b,
-        poly::word(bend, k),
+        rows::word(bend, k),
     )
 }
 

@@ -19,7 +19,7 @@ fn scale(a: &[u32], c: u32, out: &mut [u64])
     ensures { Filled (λ j v. v ≡ c * get_or a.now j 0) out.new (length out.new) }
 {
     for k in 0..out.len() {
-        out[k] = field::product(c, poly::word(a, k));
+        out[k] = field::product(c, rows::word(a, k));
     }
 }
 
