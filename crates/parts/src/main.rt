@@ -12,6 +12,7 @@ ghost use Rattle.rules.specs.Products.{Products};
 ghost use Rattle.text.specs.Text.{hex_lines};
 ghost use Rattle.parts.specs.Parts.{Parts, PartsText};
 
+use barrett::Modulus;
 use sheet::Values;
 
 // The residues of all coefficients that the three slices have room for.
@@ -29,12 +30,10 @@ fn fill(
     ensures { (g : Seq (Zmod v.p)) → Products v.p g square.now slope.now bend.now
         → Parts v g linear.new first.new second.new }
 {
-    let mut k = 0;
-    while k < linear.len() {
+    for k in 0..linear.len() {
         linear[k] = field::reduce(rules::linear_part(v, square, k), v.p);
         first[k] = field::reduce(rules::first_logarithmic_part(v, slope, k), v.p);
         second[k] = field::reduce(rules::second_logarithmic_part(v, bend, k), v.p);
-        k += 1;
     }
 }
 
@@ -72,7 +71,7 @@ fn main(rt: HostRuntime) {
     let mut square = [0u32; 3];
     let mut slope = [0u32; 2];
     let mut bend = [0u32; 1];
-    let m = barrett::modulus(1009);
+    let m = Modulus::new(1009);
     let mut e = [0u64; 8];
     let mut acc = [0u64; 3];
     let mut h = [0u32; 1];
