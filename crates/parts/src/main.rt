@@ -30,12 +30,10 @@ fn fill(
     ensures { (g : Seq (Zmod v.p)) → Products v.p g square.now slope.now bend.now
         → Parts v g linear.new first.new second.new }
 {
-    let mut k = 0;
-    while k < linear.len() {
+    for k in 0..linear.len() {
         linear[k] = field::reduce(rules::linear_part(v, square, k), v.p);
         first[k] = field::reduce(rules::first_logarithmic_part(v, slope, k), v.p);
         second[k] = field::reduce(rules::second_logarithmic_part(v, bend, k), v.p);
-        k += 1;
     }
 }
 

@@ -35,9 +35,6 @@ pub bounds-second-k : goal.bounds-second-k
 bounds-second-k c =
     omega (arith, c.loop-k.invariant.0, c.loop-k.invariant.2, c.requires.first_len.1)
 
-pub loop-k-smaller : goal.loop-k-smaller
-loop-k-smaller c = omega (arith, c.loop-k.invariant.0)
-
 pub loop-k-preserved : goal.loop-k-preserved
 loop-k-preserved c =
     let a = c.args in

@@ -1,4 +1,4 @@
-use Rattle.std.proofs.Common.{length, ◌-◌, ◌≡◌}
+use Rattle.std.proofs.Common.{length, ◌≡◌}
 use Rattle.series.specs.Series.{Seq}
 use Rattle.zmod.specs.Zmod.{Zmod}
 use Rattle.isogeny.specs.Rules.{linear_part_of, first_logarithmic_part_of, second_logarithmic_part_of}
@@ -15,6 +15,3 @@ invariant-loop-k l =
     → Stored (Of l.v.p (linear_part_of (Zmod l.v.p) (question l.v) g)) l.initial.linear l.linear l.k
     × Stored (Of l.v.p (first_logarithmic_part_of (Zmod l.v.p) (question l.v) g)) l.initial.first l.first l.k
     × Stored (Of l.v.p (second_logarithmic_part_of (Zmod l.v.p) (question l.v) g)) l.initial.second l.second l.k)
-
-abbrev pub decreases-loop-k : goal.decreases-loop-k
-decreases-loop-k l = length l.initial.linear - l.k

@@ -6,9 +6,8 @@ use Rattle.parts.proofs.main.Goals as goal
 
 pub products-requires : goal.products-requires
 products-requires c =
-    let m = c.modulus-m.ensures in
     record {
-      ready = (first_ready, first_holds, record { prepared = m.1; same = m.0 });
+      ready = (first_ready, first_holds, record { same = c.new-m.ensures });
       e_len = (refl, refl, refl, refl);
       square_len = (refl, refl, refl);
     }
