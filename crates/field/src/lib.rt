@@ -72,7 +72,7 @@ pub fn power(a: u32, e: u32, p: u32) -> u32
         return 1;
     }
     let mut r = a;
-    for i in (0..e.ilog2()).rev() {
+    for i in (0..31 - u32::leading_zeros(e)).rev() {
         r = multiply(r, r, p);
         if (e >> i) % 2 == 1 {
             r = multiply(r, a, p);

@@ -67,11 +67,13 @@ fn image_text(image: Result<Point, Refusal>, out: &mut [u8]) -> usize
     requires { room ≤ length out.old }
     ensures { Fills (image_text image) out.old out.new result }
 {
-    match image {
-        Ok(Point::Affine(u, v)) => text::number_line(sagepliers::point_number(u, v), out),
-        Ok(Point::Infinity) => text::number_line(sagepliers::files::INFINITY, out),
-        Err(refusal) => text::refused_line(u32::from(refusal), out),
-    }
+    let Ok(Point::Affine(u, v)) = image else {
+        let Err(refusal) = image else {
+            return text::number_line(sagepliers::files::INFINITY, out);
+        };
+        return text::refused_line(u32::from(refusal), out);
+    };
+    text::number_line(sagepliers::point_number(u, v), out)
 }
 
 pub fn push(bytes: &[u8], out: &mut [u8]) -> usize

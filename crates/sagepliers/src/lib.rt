@@ -17,11 +17,14 @@ pub fn sagepliers_check(bytes: &[u8]) -> u32
 pub fn sagepliers_push(bytes: &[u8], point: u64) -> u64
     ensures { PushNumber bytes.now point result }
 {
-    match files::push(bytes, point) {
-        Ok(Point::Affine(u, v)) => encoding::point_number(u, v),
-        Ok(Point::Infinity) => files::INFINITY,
-        Err(q) => encoding::refusal(q),
-    }
+    let image = files::push(bytes, point);
+    let Ok(Point::Affine(u, v)) = image else {
+        let Err(refusal) = image else {
+            return files::INFINITY;
+        };
+        return encoding::refusal(refusal);
+    };
+    encoding::point_number(u, v)
 }
 
 pub fn sagepliers_solve(sheet: &[u32], answer: &mut [u32]) -> u64
