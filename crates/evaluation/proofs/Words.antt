@@ -1,19 +1,19 @@
--- What single words contribute: a power and a slope of the tables, and the sums of products with their bounds; and a part of a slice.
+-- What single words contribute: a power and a slope of the tables, and the sums of products with their bounds; and the blocks of a slice.
 -- Assumes nothing.
 use mathlib.Core.Path.{◌≡◌, refl, sym, ◌∙◌, ap, ap₂}
-use mathlib.Core.List.{List}
+use mathlib.Core.List.{List, ◌++◌}
 use Prim.Native.Nat.{ℕ, zero, suc, ◌+◌, ◌-◌, ◌*◌, ◌^◌, ◌≤◌, ◌<◌}
 use native.Mathlib.Nat as N
 use native.Mathlib.Decide.{dec_lt}
 use native.Mathlib.Numerals.{add-one}
 use native.Mathlib.Omega.{arith}
-use lib.ListN.{length, get_or, take, drop, length-take, length-drop, get_or-eq_default}
-use lib.Seq.{get_or-take, get_or-drop}
+use lib.ListN.{length, get_or, get_or-append, get_or-eq_default}
+use Rattle.std.proofs.Common.{length-append, get_or-append-add}
 use Rattle.ring.specs.Ring.{pow, pow-zero, pow-suc, pow-add}
 use Rattle.slices.specs.Filling.{Filled}
 use Rattle.series.specs.Series.{sum, sum_suc}
 use Rattle.zmod.specs.Zmod.{Elt, Zmod, mk, plus, times, times_one, mk_add, mk_mul, cast_mk}
-use Rattle.zmod.specs.Residues.{Residue, Reduced, Residues, poly, poly_at, reduced_take, residue_same, residue_self}
+use Rattle.zmod.specs.Residues.{Residue, Reduced, Residues, poly, poly_at, residue_same, residue_self}
 use Rattle.evaluation.specs.Tables.{Low, rise, weighed}
 
 -- ── powers
@@ -94,18 +94,35 @@ factor_low m x y hm hx hy = omega (arith, product_le {x = x} {y = y} {m = 17 * 2
 pub product_more : (p s t x y : ℕ) {w z : Elt p} → mk p s ≡ w → mk p x ≡ z → t ≡ x * y → mk p (s + t) ≡ plus p w (times p z (mk p y))
 product_more p s t x y es ex et = mk_add p s t ∙ ap₂ (plus p) es (ap (mk p) et ∙ mk_mul p x y ∙ ap (λ z. times p z (mk p y)) ex)
 
--- ── the words from s up to i
+-- ── blocks: the last of the words that are left of a
 
-module _ (a : List ℕ) (s i : ℕ) (lo : s ≤ i) (hi : i ≤ length a) where
-  abbrev pub part : List ℕ
-  part = take (i - s) (drop s a)
+pub record Front (a rest : List ℕ) : Type 0 where
+  pub fits : length rest ≤ length a
+  pub same : (j : ℕ) → j < length rest → get_or rest j 0 ≡ get_or a j 0
 
-  pub part_length : length part ≡ i - s
-  part_length = simp (length-take, length-drop) (omega arith)
+pub front_all : (a : List ℕ) → Front a a
+front_all a = record { fits = omega arith; same = λ j l. refl }
 
-  pub part_reduced : {q : ℕ} → Reduced q a → Reduced q part
-  part_reduced {q} h = reduced_take (drop s a) (omega (arith, h 0)) (i - s) (λ j. rw get_or-drop (h (s + j)))
+module _ (a rest left block : List ℕ) (front : Front a rest) (cut : rest ≡ left ++ block) where
+  pub sizes : length rest ≡ length left + length block
+  sizes = ap length cut ∙ length-append left block
 
-  pub part_poly : (p j : ℕ) → j < length part → poly p part j ≡ poly p a (s + j)
-  part_poly p j l =
-      poly_at p part j ∙ ap (mk p) (get_or-take (i - s) (drop s a) j 0 (omega (arith, part_length)) ∙ get_or-drop s a j 0) ∙ sym (poly_at p a (s + j))
+  pub front_left : Front a left
+  front_left = record {
+    fits = omega (arith, sizes, front.fits);
+    same = λ j l.
+        sym (get_or-append left block 0 j l) ∙ ap (λ xs. get_or xs j 0) (sym cut) ∙ front.same j (omega (arith, sizes));
+  }
+
+  at : (j : ℕ) → j < length block → get_or block j 0 ≡ get_or a (length left + j) 0
+  at j l = sym (get_or-append-add left block j 0) ∙ ap (λ xs. get_or xs (length left + j) 0) (sym cut) ∙ front.same (length left + j) (omega (arith, sizes))
+
+  pub block_reduced : {q : ℕ} → Reduced q a → Reduced q block
+  block_reduced {q} low j = go (dec_lt j (length block))
+    where
+      go : Dec (j < length block) → get_or block j 0 < q
+      go (yes l) = omega (arith, at j l, low (length left + j))
+      go (no l) = let z : get_or block j 0 ≡ 0 = get_or-eq_default block 0 (omega arith) in omega (arith, low 0)
+
+  pub block_poly : (p j : ℕ) → j < length block → poly p block j ≡ poly p a (length left + j)
+  block_poly p j l = poly_at p block j ∙ ap (mk p) (at j l) ∙ sym (poly_at p a (length left + j))

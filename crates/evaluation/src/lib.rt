@@ -126,12 +126,8 @@ pub fn evaluate(a: &[u32], powers: &[u32], slopes: &[u32], p: u32) -> Jet
     ensures { (u : Elt p) → Tables p u powers.now slopes.now → JetOf p a.now u result }
 {
     let mut r = Jet { value: 0, slope: 0 };
-    let mut i = a.len();
-    // Blocks from the top; std's slices have no `rchunks`.
-    while 0 < i {
-        let start = i.saturating_sub(16);
-        r = step(&a[start..i], powers, slopes, r, p);
-        i = start;
+    for block in a.rchunks(16) {
+        r = step(block, powers, slopes, r, p);
     }
     r
 }
