@@ -48,7 +48,7 @@ fn residue(s: u64, w: u32, a: u64, x: u32, b: u64, y: u32, c: u64, p: u32) -> u3
     field::reduce(sum, p)
 }
 
-// Four words from `at` on.
+// Four words from `at` on. (One function with `rows::put` would be over slices of any type, of which `Four`, a fact of numbers, says nothing.)
 fn put(out: &mut [u32], at: usize, w: u32, x: u32, y: u32, z: u32)
     requires { at + 4 ≤ length out.old }
     ensures { Four out.old at w x y z out.new }
