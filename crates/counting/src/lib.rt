@@ -6,7 +6,6 @@ ghost use Rattle.std.specs.Prelude.{◌≡◌, ◌+◌, ◌-◌, ◌*◌, ◌<�
 ghost use Rattle.zmod.specs.Prime.{Prime};
 ghost use Rattle.zmod.specs.Residues.{poly};
 ghost use Rattle.roots.specs.Rational.{rational_roots};
-ghost use Rattle.barrett.specs.Modulus.{Prepared};
 ghost use Rattle.modulo.specs.Modulo.{Divisor, RemainderOf};
 ghost use Rattle.modulo.specs.Power.{x_to};
 
@@ -14,7 +13,7 @@ use barrett::Modulus;
 
 // The number of roots of g, where r is x^p modulo g: the degree of the greatest common divisor of g and r − x. a and b are room, and so is r.
 fn from_power(g: &[u32], r: &mut [u32], a: &mut [u64], b: &mut [u64], m: Modulus) -> usize
-    requires prime { Prime m.p × Prepared m × (Divisor m.p g.now) × (3 ≤ length g.now) }
+    requires prime { Prime m.p × (Divisor m.p g.now) × (3 ≤ length g.now) }
     requires r_len { (length r.old + 1 ≡ length g.now) × (length a.old ≡ length g.now) × (length b.old ≡ length r.old)
         × RemainderOf m.p (length g.now - 1) (poly m.p g.now) (x_to m.p m.p) r.old }
     ensures { result ≡ rational_roots m.p (length g.now) (poly m.p g.now) }
@@ -38,7 +37,7 @@ fn by_quotients(
     room: &mut [u32],
     m: Modulus,
 ) -> usize
-    requires prime { Prime m.p × Prepared m × (Divisor m.p g.now) × (3 ≤ length g.now) × (length g.now ≤ 128) }
+    requires prime { Prime m.p × (Divisor m.p g.now) × (3 ≤ length g.now) × (length g.now ≤ 128) }
     requires a_len { (length a.old ≡ length g.now) × (length r.old + 1 ≡ length g.now) × (length q.old ≡ length g.now)
         × (length g.now + 3 ≤ length t.old) × (length g.now + 3 ≤ length n.old) × (length g.now + 6 ≤ length e.old)
         × (length acc.old ≡ length room.old) × (length room.old + 1 ≡ 2 * length g.now) }
@@ -50,53 +49,23 @@ fn by_quotients(
     from_power(g, r, &mut t[..k], &mut n[..d], m)
 }
 
-// The same, with room of its own, in two sizes.
-fn roots88(g: &[u32], m: Modulus) -> usize
-    requires { Prime m.p × Prepared m × (Divisor m.p g.now) × (3 ≤ length g.now) × (length g.now ≤ 40) }
+// The same, with N words of room for each slice.
+fn roots_sized<const N: usize>(g: &[u32], m: Modulus) -> usize
+    requires { Prime m.p × (Divisor m.p g.now) × (3 ≤ length g.now) × (2 * length g.now + 8 ≤ N) × (N ≤ 264) }
     ensures { result ≡ rational_roots m.p (length g.now) (poly m.p g.now) }
 {
     let k = g.len();
     let d = k - 1;
     let c = k + 6;
     let i = 2 * k - 1;
-    let mut a = rows::blank88();
-    let mut r = rows::blank88();
-    let mut q = rows::blank88();
-    let mut t = rows::sums88();
-    let mut n = rows::sums88();
-    let mut e = rows::sums88();
-    let mut acc = rows::sums88();
-    let mut room = rows::blank88();
-    by_quotients(
-        g,
-        &mut a[..k],
-        &mut r[..d],
-        &mut q[..k],
-        &mut t[..c],
-        &mut n[..c],
-        &mut e[..c],
-        &mut acc[..i],
-        &mut room[..i],
-        m,
-    )
-}
-
-fn roots264(g: &[u32], m: Modulus) -> usize
-    requires { Prime m.p × Prepared m × (Divisor m.p g.now) × (3 ≤ length g.now) × (length g.now ≤ 128) }
-    ensures { result ≡ rational_roots m.p (length g.now) (poly m.p g.now) }
-{
-    let k = g.len();
-    let d = k - 1;
-    let c = k + 6;
-    let i = 2 * k - 1;
-    let mut a = rows::blank264();
-    let mut r = rows::blank264();
-    let mut q = rows::blank264();
-    let mut t = rows::sums264();
-    let mut n = rows::sums264();
-    let mut e = rows::sums264();
-    let mut acc = rows::sums264();
-    let mut room = rows::blank264();
+    let mut a = [0u32; N];
+    let mut r = [0u32; N];
+    let mut q = [0u32; N];
+    let mut t = [0u64; N];
+    let mut n = [0u64; N];
+    let mut e = [0u64; N];
+    let mut acc = [0u64; N];
+    let mut room = [0u32; N];
     by_quotients(
         g,
         &mut a[..k],
@@ -122,7 +91,7 @@ fn by_table(
     acc: &mut [u64],
     m: Modulus,
 ) -> usize
-    requires prime { Prime m.p × Prepared m × (Divisor m.p g.now) × (3 ≤ length g.now) × (length g.now ≤ 16) }
+    requires prime { Prime m.p × (Divisor m.p g.now) × (3 ≤ length g.now) × (length g.now ≤ 16) }
     requires r_len { (length r.old + 1 ≡ length g.now) × (length n.old ≡ length r.old) × (length q.old ≡ length r.old)
         × (length t.old ≡ length r.old * (length r.old + 3)) × (length r.old + 6 ≤ length e.old)
         × (length acc.old ≡ 2 * length r.old) }
@@ -134,33 +103,21 @@ fn by_table(
     from_power(g, r, &mut acc[..k], &mut e[..d], m)
 }
 
-fn blank40() -> [u32; 40] {
-    [0; 40]
-}
-
-fn sums40() -> [u64; 40] {
-    [0; 40]
-}
-
-fn table() -> [u64; 270] {
-    [0; 270]
-}
-
 // The same, with room of its own.
 fn roots40(g: &[u32], m: Modulus) -> usize
-    requires { Prime m.p × Prepared m × (Divisor m.p g.now) × (3 ≤ length g.now) × (length g.now ≤ 16) }
+    requires { Prime m.p × (Divisor m.p g.now) × (3 ≤ length g.now) × (length g.now ≤ 16) }
     ensures { result ≡ rational_roots m.p (length g.now) (poly m.p g.now) }
 {
     let d = g.len() - 1;
     let c = d + 6;
     let i = 2 * d;
     let s = d * (d + 3);
-    let mut r = blank40();
-    let mut n = blank40();
-    let mut q = blank40();
-    let mut t = table();
-    let mut e = sums40();
-    let mut acc = sums40();
+    let mut r = [0u32; 40];
+    let mut n = [0u32; 40];
+    let mut q = [0u32; 40];
+    let mut t = [0u64; 270];
+    let mut e = [0u64; 40];
+    let mut acc = [0u64; 40];
     by_table(
         g,
         &mut r[..d],
@@ -175,7 +132,7 @@ fn roots40(g: &[u32], m: Modulus) -> usize
 
 // The same for every degree. One of degree 1 has one root.
 fn roots_by_size(g: &[u32], m: Modulus) -> usize
-    requires { Prime m.p × Prepared m × (Divisor m.p g.now) × (2 ≤ length g.now) × (length g.now ≤ 128) }
+    requires { Prime m.p × (Divisor m.p g.now) × (2 ≤ length g.now) × (length g.now ≤ 128) }
     ensures { result ≡ rational_roots m.p (length g.now) (poly m.p g.now) }
 {
     if g.len() == 2 {
@@ -185,14 +142,14 @@ fn roots_by_size(g: &[u32], m: Modulus) -> usize
         return roots40(g, m);
     }
     if g.len() <= 40 {
-        return roots88(g, m);
+        return roots_sized::<88>(g, m);
     }
-    roots264(g, m)
+    roots_sized::<264>(g, m)
 }
 
 // The number of roots of g in ℤ/p.
 pub fn roots(g: &[u32], m: Modulus) -> u32
-    requires { Prime m.p × Prepared m × (Divisor m.p g.now) × (2 ≤ length g.now) × (length g.now ≤ 128) }
+    requires { Prime m.p × (Divisor m.p g.now) × (2 ≤ length g.now) × (length g.now ≤ 128) }
     ensures { result ≡ rational_roots m.p (length g.now) (poly m.p g.now) }
 {
     roots_by_size(g, m) as u32

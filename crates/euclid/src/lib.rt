@@ -10,7 +10,6 @@ ghost use Rattle.series.specs.Reversal.{shift};
 ghost use Rattle.zmod.specs.Zmod.{Zmod, mk, plus, minus, times};
 ghost use Rattle.zmod.specs.Prime.{Prime};
 ghost use Rattle.zmod.specs.Residues.{Residue, Reduced, poly, Residues};
-ghost use Rattle.barrett.specs.Modulus.{Prepared};
 ghost use Rattle.euclid.specs.Words.{Trimmed, Leads};
 ghost use Rattle.euclid.specs.Combination.{linear};
 ghost use Rattle.euclid.specs.Pseudo.{PseudoRemainder};
@@ -20,10 +19,10 @@ use barrett::Modulus;
 
 // c x
 pub fn multiply(c: u64, x: u64, m: Modulus) -> u64
-    requires { Prepared m × (c < m.p) × (x < m.p) }
+    requires { (c < m.p) × (x < m.p) }
     ensures { Residue m.p (times m.p (mk m.p c) (mk m.p x)) result }
 {
-    barrett::short_remainder(barrett::product(c, x), m)
+    m.short_remainder(barrett::product(c, x))
 }
 
 // -x
@@ -31,15 +30,15 @@ pub fn negate(x: u64, m: Modulus) -> u64
     requires { x < m.p }
     ensures { Residue m.p (minus m.p (mk m.p x)) result }
 {
-    field::wide(field::negate(x as u32, m.p))
+    u64::from(field::negate(x as u32, m.p))
 }
 
 // c x + z y
 pub fn two_products(c: u64, x: u64, z: u64, y: u64, m: Modulus) -> u64
-    requires { Prepared m × (c < m.p) × (x < m.p) × (z < m.p) × (y < m.p) }
+    requires { (c < m.p) × (x < m.p) × (z < m.p) × (y < m.p) }
     ensures { Residue m.p (plus m.p (times m.p (mk m.p c) (mk m.p x)) (times m.p (mk m.p z) (mk m.p y))) result }
 {
-    barrett::short_remainder(barrett::product(c, x) + barrett::product(z, y), m)
+    m.short_remainder(barrett::product(c, x) + barrett::product(z, y))
 }
 
 // c x + y v + z w, before the remainder. By products of `barrett`, which the compiler turns into vectors.
@@ -52,35 +51,31 @@ fn three_products(c: u64, x: u64, y: u64, v: u64, z: u64, w: u64) -> u64
 
 // out = c out + y before + z here
 fn combine(out: &mut [u64], before: &[u64], here: &[u64], c: u64, y: u64, z: u64, m: Modulus)
-    requires prepared { Prepared m × (c < m.p) × (y < m.p) × (z < m.p) × (length out.old ≤ length before.now) × (length out.old ≤ length here.now) }
+    requires lt_p { (c < m.p) × (y < m.p) × (z < m.p) × (length out.old ≤ length before.now) × (length out.old ≤ length here.now) }
     requires reduced { (Reduced m.p out.old) × (Reduced m.p before.now) × (Reduced m.p here.now) }
     ensures { Residues m.p (sums (Zmod m.p) (sums (Zmod m.p) (scaled (Zmod m.p) (mk m.p c) (poly m.p out.old))
         (scaled (Zmod m.p) (mk m.p y) (poly m.p before.now)))
         (scaled (Zmod m.p) (mk m.p z) (poly m.p here.now))) out.new }
 {
-    let mut k = 0;
-    while k < out.len() {
+    for k in 0..out.len() {
         let sum = three_products(c, out[k], y, before[k], z, here[k]);
-        out[k] = barrett::short_remainder(sum, m);
-        k += 1;
+        out[k] = m.short_remainder(sum);
     }
 }
 
 // out = c out
 fn scale(out: &mut [u64], c: u64, m: Modulus)
-    requires { Prepared m × (c < m.p) × (Reduced m.p out.old) }
+    requires { (c < m.p) × (Reduced m.p out.old) }
     ensures { Residues m.p (scaled (Zmod m.p) (mk m.p c) (poly m.p out.old)) out.new }
 {
-    let mut k = 0;
-    while k < out.len() {
-        out[k] = multiply(c, out[k], m);
-        k += 1;
+    for word in out.iter_mut() {
+        *word = multiply(c, *word, m);
     }
 }
 
 // a = c a + (y x + z) x^s b, where s is by how much a is longer than b; of the product only the words that a has.
 pub fn add_multiple(a: &mut [u64], b: &[u64], c: u64, y: u64, z: u64, m: Modulus)
-    requires prepared { Prepared m × (c < m.p) × (y < m.p) × (z < m.p) × (0 < length b.now) × (length b.now ≤ length a.old) }
+    requires lt_p { (c < m.p) × (y < m.p) × (z < m.p) × (0 < length b.now) × (length b.now ≤ length a.old) }
     requires reduced { (Reduced m.p a.old) × (Reduced m.p b.now) }
     ensures { Residues m.p (sums (Zmod m.p) (scaled (Zmod m.p) (mk m.p c) (poly m.p a.old))
         (shift (Zmod m.p) (length a.old - length b.now)
@@ -106,7 +101,7 @@ fn second(b: &[u64]) -> u64
 // a loses its two highest coefficients, and is a unit times what it was modulo b, which is shorter. With the last words a₁ and b₁ and those before, a₀ and b₀:
 // a becomes b₁² a − (a₁ b₁ x + a₀ b₁ − a₁ b₀) xˢ b.
 fn cancel_two(a: &mut [u64], b: &[u64], m: Modulus)
-    requires { Prime m.p × Prepared m × (Leads m.p b.now) × (Reduced m.p a.old) × (length b.now < length a.old) }
+    requires { Prime m.p × (Leads m.p b.now) × (Reduced m.p a.old) × (length b.now < length a.old) }
     ensures { PseudoRemainder m.p (length a.old - 2) (poly m.p b.now) (poly m.p a.old) a.new }
 {
     let k = a.len() - 1;
@@ -123,7 +118,7 @@ fn cancel_two(a: &mut [u64], b: &[u64], m: Modulus)
 
 // The same where a has as many words as b, for its highest coefficient: a becomes b₁ a − a₁ b.
 fn cancel_one(a: &mut [u64], b: &[u64], m: Modulus)
-    requires { Prime m.p × Prepared m × (Leads m.p b.now) × (Reduced m.p a.old) × (length a.old ≡ length b.now) }
+    requires { Prime m.p × (Leads m.p b.now) × (Reduced m.p a.old) × (length a.old ≡ length b.now) }
     ensures { PseudoRemainder m.p (length a.old - 1) (poly m.p b.now) (poly m.p a.old) a.new }
 {
     let k = b.len() - 1;
@@ -135,24 +130,21 @@ fn cancel_one(a: &mut [u64], b: &[u64], m: Modulus)
 fn trimmed(a: &[u64]) -> usize
     ensures { Trimmed a.now result }
 {
-    let mut k = a.len();
-    while 0 < k {
-        if a[k - 1] != 0 {
-            return k;
-        }
-        k -= 1;
+    match a.iter().rposition(|word| *word != 0) {
+        Some(last) => last + 1,
+        None => 0,
     }
-    0
 }
 
 // A step of Euclid's loop: a becomes a unit times its remainder modulo b. The result is the number of its coefficients.
 fn next(a: &mut [u64], b: &[u64], m: Modulus) -> usize
-    requires { Prime m.p × Prepared m × (Leads m.p b.now) × (Reduced m.p a.old) }
+    requires { Prime m.p × (Leads m.p b.now) × (Reduced m.p a.old) }
     ensures { (result < length b.now) × (Trimmed a.new result)
         × PseudoRemainder m.p result (poly m.p b.now) (poly m.p a.old) a.new }
 {
     let n = b.len();
     let mut k = a.len();
+    // No `for` in steps of 2: where the loop ends, k says whether a coefficient is left.
     while n < k {
         cancel_two(&mut a[..k], b, m);
         k -= 2;
@@ -165,7 +157,7 @@ fn next(a: &mut [u64], b: &[u64], m: Modulus) -> usize
 
 // The degree of the greatest common divisor of a, of which the last word is not 0, and b. Both are room too: x and y are how many coefficients they have.
 pub fn gcd_degree(a: &mut [u64], b: &mut [u64], m: Modulus) -> usize
-    requires { Prime m.p × Prepared m × (Leads m.p a.old) × (Reduced m.p b.old) }
+    requires { Prime m.p × (Leads m.p a.old) × (Reduced m.p b.old) }
     ensures { GcdDegree (Zmod m.p) (poly m.p a.old) (poly m.p b.old) result }
 {
     let mut x = a.len();

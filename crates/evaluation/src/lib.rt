@@ -22,7 +22,7 @@ pub struct Jet {
 pub fn count(n: usize) -> usize
     ensures { result ≡ min n 16 + 1 }
 {
-    if n < 16 { n + 1 } else { 17 }
+    n.min(16) + 1
 }
 
 // x^i from two powers before it: those of the table wait for four remainders at most, not for sixteen.
@@ -47,10 +47,8 @@ fn fill_powers(x: u32, out: &mut [u32], p: u32)
     requires { (1 < p) × (x < p) }
     ensures { Residues p (pow (Zmod p) (mk p x)) out.new }
 {
-    let mut i = 0;
-    while i < out.len() {
+    for i in 0..out.len() {
         out[i] = power(out, i, x, p);
-        i += 1;
     }
 }
 
@@ -72,10 +70,8 @@ fn fill_slopes(powers: &[u32], out: &mut [u32])
     ensures low { Low out.new }
     ensures by_index { (p : ℕ) (u : Elt p) → Residues p (pow (Zmod p) u) powers.now → Slopes p u out.new }
 {
-    let mut i = 0;
-    while i < out.len() {
+    for i in 0..out.len() {
         out[i] = slope(powers, i);
-        i += 1;
     }
 }
 
@@ -97,10 +93,8 @@ fn dot(a: &[u32], b: &[u32]) -> u64
     ensures by_index { (p : ℕ) → mk p result ≡ weighed (Zmod p) (poly p a.now) (poly p b.now) (length a.now) }
 {
     let mut s = 0;
-    let mut i = 0;
-    while i < a.len() {
+    for i in 0..a.len() {
         s += field::product(a[i], b[i]);
-        i += 1;
     }
     s
 }
@@ -124,13 +118,6 @@ fn step(a: &[u32], powers: &[u32], slopes: &[u32], above: Jet, p: u32) -> Jet
     }
 }
 
-// Where the block below i starts.
-fn below(i: usize) -> usize
-    ensures { result ≡ i - 16 }
-{
-    if i < 16 { 0 } else { i - 16 }
-}
-
 // a(x) and a'(x), by the tables for x.
 pub fn evaluate(a: &[u32], powers: &[u32], slopes: &[u32], p: u32) -> Jet
     requires a_in_bounds { (min (length a.now) 16 < length powers.now) × (min (length a.now) 16 < length slopes.now) }
@@ -140,8 +127,9 @@ pub fn evaluate(a: &[u32], powers: &[u32], slopes: &[u32], p: u32) -> Jet
 {
     let mut r = Jet { value: 0, slope: 0 };
     let mut i = a.len();
+    // Blocks from the top; std's slices have no `rchunks`.
     while 0 < i {
-        let start = below(i);
+        let start = i.saturating_sub(16);
         r = step(&a[start..i], powers, slopes, r, p);
         i = start;
     }

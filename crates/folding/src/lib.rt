@@ -10,7 +10,6 @@ ghost use Rattle.series.specs.Indeterminate.{ind};
 ghost use Rattle.series.specs.Reversal.{shift};
 ghost use Rattle.zmod.specs.Zmod.{Zmod, mk, plus, times};
 ghost use Rattle.zmod.specs.Residues.{Residue, Reduced, poly, Residues};
-ghost use Rattle.barrett.specs.Modulus.{Prepared};
 ghost use Rattle.rows.specs.Sums.{Sums, ProductSums};
 ghost use Rattle.modulo.specs.Modulo.{Divisor, RemainderOf};
 ghost use Rattle.modulo.specs.Power.{x_to};
@@ -22,23 +21,21 @@ use barrett::Modulus;
 
 // x + c y
 fn plus_multiple(x: u32, c: u32, y: u32, m: Modulus) -> u32
-    requires { Prepared m × (x < m.p) × (c < m.p) × (y < m.p) }
+    requires { (x < m.p) × (c < m.p) × (y < m.p) }
     ensures { Residue m.p (plus m.p (mk m.p x) (times m.p (mk m.p c) (mk m.p y))) result }
 {
-    barrett::remainder(field::wide(x) + field::product(c, y), m)
+    m.remainder(u64::from(x) + field::product(c, y))
 }
 
 // out = out + c a, as `poly::add_scaled`, but with remainders of which the compiler makes vectors.
 fn add_reduced(out: &mut [u32], a: &[u32], c: u32, m: Modulus)
-    requires prepared { Prepared m × (length out.old ≤ length a.now) × (c < m.p) }
+    requires len_bound { (length out.old ≤ length a.now) × (c < m.p) }
     requires reduced { (Reduced m.p out.old) × (Reduced m.p a.now) }
     ensures { Residues m.p (sums (Zmod m.p) (poly m.p out.old)
         (scaled (Zmod m.p) (mk m.p c) (poly m.p a.now))) out.new }
 {
-    let mut k = 0;
-    while k < out.len() {
+    for k in 0..out.len() {
         out[k] = plus_multiple(out[k], c, a[k], m);
-        k += 1;
     }
 }
 
@@ -47,18 +44,16 @@ fn shift_up(r: &mut [u32])
     ensures { (p : ℕ) → Reduced p r.old → Residues p (conv (Zmod p) (ind (Zmod p)) (poly p r.old)) r.new }
 {
     let mut c = 0;
-    let mut k = 0;
-    while k < r.len() {
+    for k in 0..r.len() {
         let next = r[k];
         r[k] = c;
         c = next;
-        k += 1;
     }
 }
 
 // r = x r modulo x^d − n
 fn times_x(r: &mut [u32], n: &[u32], m: Modulus)
-    requires { Prepared m × (0 < length n.now) × (length r.old ≡ length n.now) × (Reduced m.p r.old) × (Reduced m.p n.now) }
+    requires { (0 < length n.now) × (length r.old ≡ length n.now) × (Reduced m.p r.old) × (Reduced m.p n.now) }
     ensures { RemainderOf m.p (length n.now) (monic_of m.p n.now)
         (conv (Zmod m.p) (ind (Zmod m.p)) (poly m.p r.old)) r.new }
 {
@@ -69,7 +64,7 @@ fn times_x(r: &mut [u32], n: &[u32], m: Modulus)
 
 // Row i of the table, where those before it are there and r is x^(d + i); r goes on to the next power.
 fn fill_row(r: &mut [u32], n: &[u32], t: &mut [u64], i: usize, m: Modulus)
-    requires prepared { Prepared m × (i < length n.now) × (length r.old ≡ length n.now)
+    requires i_bound { (i < length n.now) × (length r.old ≡ length n.now)
         × (length t.old ≡ length n.now * (length n.now + 3)) × (Reduced m.p n.now) }
     requires begun_table { (BegunTable m.p n.now i t.old)
         × (RemainderOf m.p (length n.now) (monic_of m.p n.now) (x_to m.p (length n.now + i)) r.old) }
@@ -85,18 +80,16 @@ fn fill_row(r: &mut [u32], n: &[u32], t: &mut [u64], i: usize, m: Modulus)
 
 // The table of x^d − n: x^d, .., x^(2d − 1), and three rows of zeros, so that rows of four have no end of their own. r is room.
 fn fill(r: &mut [u32], n: &[u32], t: &mut [u64], m: Modulus)
-    requires { Prepared m × (length r.old ≡ length n.now)
+    requires { (length r.old ≡ length n.now)
         × (length t.old ≡ length n.now * (length n.now + 3)) × (Reduced m.p n.now) }
     ensures { (Reduced m.p t.new)
         × (Table m.p (length n.now) (monic_of m.p n.now) (length n.now) t.new) }
 {
     let d = n.len();
-    rows::clear(&mut t[d * d..]);
-    poly::copy(n, r);
-    let mut i = 0;
-    while i < d {
+    t[d * d..].fill(0);
+    r.copy_from_slice(n);
+    for i in 0..d {
         fill_row(r, n, t, i, m);
-        i += 1;
     }
 }
 
@@ -123,25 +116,23 @@ fn fold(acc: &mut [u64], q: &[u32], t: &[u64], p: u32)
         (poly p q.now) (rows p (length acc.old) t.now))) acc.new }
 {
     let d = acc.len();
-    let mut i = 0;
-    while i < d {
+    for i in (0..d).step_by(4) {
         fold_four(acc, q, i, &t[i * d..], p);
-        i += 4;
     }
 }
 
 // r = acc modulo g, where acc holds 2d sums and t is the table of g. q is room.
 fn remainder(acc: &mut [u64], q: &mut [u32], t: &[u64], r: &mut [u32], m: Modulus)
-    requires prepared { Prepared m × (length r.old ≤ 15) × (length acc.old ≡ length r.old + length r.old) × (length q.old ≡ length r.old)
+    requires r_len_bound { (length r.old ≤ 15) × (length acc.old ≡ length r.old + length r.old) × (length q.old ≡ length r.old)
         × (length t.now ≡ length r.old * (length r.old + 3)) }
     requires reduced { (Reduced m.p t.now) × ((k : ℕ) → get_or acc.old k 0 ≤ 32 * ((m.p - 1) * (m.p - 1))) }
     ensures { (g : Seq (Zmod m.p)) → Table m.p (length r.old) g (length r.old) t.now
         → RemainderOf m.p (length r.old) g (poly m.p acc.old) r.new }
 {
     let d = r.len();
-    barrett::remainders(&acc[d..], q, m);
+    m.remainders(&acc[d..], q);
     fold(&mut acc[..d], q, t, m.p);
-    barrett::remainders(&acc[..d], r, m);
+    m.remainders(&acc[..d], r);
 }
 
 // The sums of x^bit r², twice as many as r has words. e is room.
@@ -165,7 +156,7 @@ fn square_modulo(
     q: &mut [u32],
     m: Modulus,
 )
-    requires prepared { Prepared m × (bit ≤ 1) × (0 < length r.old) × (length r.old ≤ 15) × (length acc.old ≡ length r.old + length r.old)
+    requires bit_bound { (bit ≤ 1) × (0 < length r.old) × (length r.old ≤ 15) × (length acc.old ≡ length r.old + length r.old)
         × (length q.old ≡ length r.old) × (length r.old + 6 ≤ length e.old) × (length t.now ≡ length r.old * (length r.old + 3)) }
     requires reduced { (Reduced m.p r.old) × (Reduced m.p t.now) }
     ensures { (g : Seq (Zmod m.p)) → Table m.p (length r.old) g (length r.old) t.now
@@ -178,7 +169,7 @@ fn square_modulo(
 
 // t = the table of g. r and n are room.
 fn prepare(g: &[u32], r: &mut [u32], n: &mut [u32], t: &mut [u64], m: Modulus)
-    requires { Prepared m × (Divisor m.p g.now) × (length r.old ≡ length g.now - 1) × (length n.old ≡ length r.old)
+    requires { (Divisor m.p g.now) × (length r.old ≡ length g.now - 1) × (length n.old ≡ length r.old)
         × (length t.old ≡ length r.old * (length r.old + 3)) }
     ensures { (Reduced m.p t.new)
         × (Table m.p (length r.old) (poly m.p g.now) (length r.old) t.new) }
@@ -198,16 +189,15 @@ pub fn power_of_x(
     acc: &mut [u64],
     m: Modulus,
 )
-    requires prepared { Prepared m × (1 < m.p) × (Divisor m.p g.now) × (2 ≤ length g.now) × (length g.now ≤ 16) }
+    requires p_bound { (1 < m.p) × (Divisor m.p g.now) × (2 ≤ length g.now) × (length g.now ≤ 16) }
     requires r_len { (length r.old ≡ length g.now - 1) × (length n.old ≡ length r.old) × (length q.old ≡ length r.old)
         × (length t.old ≡ length r.old * (length r.old + 3)) × (length r.old + 6 ≤ length e.old)
         × (length acc.old ≡ length r.old + length r.old) }
     ensures { RemainderOf m.p (length g.now - 1) (poly m.p g.now) (x_to m.p m.p) r.new }
 {
     prepare(g, r, n, t, m);
-    let mut i = modulo::begin(r, m.p);
-    while 0 < i {
-        i -= 1;
+    let top = modulo::begin(r, m.p);
+    for i in (0..top).rev() {
         square_modulo(r, ((m.p >> i) % 2) as usize, t, e, acc, q, m);
     }
 }

@@ -14,10 +14,8 @@ pub fn negated(a: &[u32], out: &mut [u32], p: u32)
     requires { (length out.old ≤ length a.now) × (Reduced p a.now) }
     ensures { Residues p (negs (Zmod p) (poly p a.now)) out.new }
 {
-    let mut k = 0;
-    while k < out.len() {
+    for k in 0..out.len() {
         out[k] = field::negate(a[k], p);
-        k += 1;
     }
 }
 
@@ -26,13 +24,11 @@ fn leading_below(d: usize, p: u32) -> u32
     requires { (0 < d) × (0 < p) × (p < 2 ^ 28) }
     ensures { (result ≤ 28) × (p / 2 ^ result < d) }
 {
-    let mut i = 32 - u32::leading_zeros(p);
-    while 0 < i {
-        let more = (p >> (i - 1)) as usize;
+    for i in (0..32 - u32::leading_zeros(p)).rev() {
+        let more = (p >> i) as usize;
         if d <= more {
-            return i;
+            return i + 1;
         }
-        i -= 1;
     }
     0
 }
@@ -45,7 +41,7 @@ pub fn begin(r: &mut [u32], p: u32) -> u32
 {
     let i = leading_below(r.len(), p);
     let k = (p >> i) as usize;
-    poly::clear(r);
+    r.fill(0);
     r[k] = 1;
     i
 }

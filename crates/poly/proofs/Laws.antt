@@ -1,14 +1,21 @@
 -- What single words contribute: the coefficient of a derivative, c times a word added to a word, a coefficient of a scaled polynomial, and slices of
 -- equal words.
 -- Assumes nothing.
-use mathlib.Core.Path.{◌≡◌, sym, ◌∙◌, ap, ap₂, fun_ext}
-use mathlib.Core.List.{List}
-use Prim.Native.Nat.{ℕ, suc, ◌+◌, ◌*◌, ◌^◌, ◌≤◌, ◌<◌}
+use mathlib.Core.Path.{◌≡◌, refl, sym, ◌∙◌, ap, ap₂, subst, fun_ext}
+use mathlib.Core.Logic.{◌≢◌}
+use mathlib.Core.Bool.{Bool, true, false, false≢true}
+use mathlib.Core.List.{List, ◌++◌}
+use Prim.Native.Nat.{ℕ, suc, ◌+◌, ◌-◌, ◌*◌, ◌^◌, ◌≤◌, ◌<◌, min}
 use native.Mathlib.Nat as N
 use native.Mathlib.Decide.{dec_lt}
 use native.Mathlib.Numerals.{add-one}
 use native.Mathlib.Omega.{arith}
-use lib.ListN.{length, get_or, get_or-eq_default}
+use lib.ListN.{length, get_or, take, drop, replicate, get_or-eq_default, get_or-append, length-replicate, get_or-replicate}
+use Rattle.std.proofs.Common.{length-append, length-drop, length-take-le, get_or-drop, get_or-take}
+use Rattle.std.proofs.lemmas.List.{get_or-append_right}
+use Rattle.std.proofs.lemmas.List.FromFn.{length-range_with_len, get_or-range_with_len}
+use Rattle.std.specs.Bool.{MatchBool}
+use Rattle.std.specs.List.{AllWithin, HoldsAt, range_with_len}
 use Rattle.ring.specs.Ring
 use Rattle.ring.specs.Ring.{cast}
 use Rattle.series.specs.Series.{Seq, conv, sums, scaled, negs, ∂, ∂-at}
@@ -72,3 +79,33 @@ product_turn p v a b k h = residue_same (Ring.zero-add (Zmod p) _) h
 pub add_product_turn : (p x v : ℕ) (out a b : List ℕ) (k : ℕ) → x ≡ get_or out k 0 → Residue p (plus p (mk p x) (conv (Zmod p) (poly p a) (poly p b) k)) v
     → Residue p (sums (Zmod p) (poly p out) (conv (Zmod p) (poly p a) (poly p b)) k) v
 add_product_turn p x v out a b k e h = residue_same (ap (λ y. plus p y (conv (Zmod p) (poly p a) (poly p b) k)) (ap (mk p) e ∙ sym (poly_at p out k))) h
+
+-- `all` over the places of two slices, as many as the longer one has
+pub same_all : (p : ℕ) (a b : List ℕ) (n : ℕ) (r : Bool) → length a ≤ n → length b ≤ n
+    → MatchBool r (AllWithin (λ i. get_or a i 0 ≡ get_or b i 0) (range_with_len 0 n) 0 (length (range_with_len 0 n)))
+    ((k : ℕ) × (k < length (range_with_len 0 n)) × HoldsAt (λ i. get_or a i 0 ≢ get_or b i 0) (range_with_len 0 n) k)
+    → Reduced p a → Reduced p b → (r ≡ true → poly p a ≡ poly p b) × (poly p a ≡ poly p b → r ≡ true)
+same_all p a b n true ha hb h low_a low_b = (
+  λ e. same_words p a b n ha hb (λ i l. subst (λ j. get_or a j 0 ≡ get_or b j 0) (get_or-range_with_len 0 n i 0 l ∙ N.zero-add i)
+      (h i 0 (omega arith) (omega (arith, length-range_with_len 0 n)))),
+  λ e. refl,
+)
+same_all p a b n false ha hb h low_a low_b = (λ e. absurd (false≢true e), λ e. absurd (h.2 0 (same_word p a b _ low_a low_b e)))
+
+-- the front of a on zeros: a, as far as there is room
+pub copied : (a front rest : List ℕ) (size n j : ℕ) → n ≡ min (length a) size → front ≡ take n a → rest ≡ replicate size 0
+    → j < length (front ++ drop n rest) → get_or (front ++ drop n rest) j 0 ≡ get_or a j 0
+copied a front rest size n j en ef er inside = go (dec_lt j n)
+  where
+    long : length front ≡ n
+    long = ap length ef ∙ length-take-le n a (omega arith)
+
+    total : length (front ++ drop n rest) ≡ size
+    total = length-append front (drop n rest) ∙ omega (arith, long, length-drop n rest, ap length er, length-replicate {A = ℕ} size 0)
+
+    go : Dec (j < n) → get_or (front ++ drop n rest) j 0 ≡ get_or a j 0
+    go (yes l) = get_or-append front (drop n rest) 0 j (omega (arith, long)) ∙ ap (λ xs. get_or xs j 0) ef ∙ get_or-take n a j 0 l
+    go (no l) =
+        let same : n + (j - n) ≡ j = omega arith in
+        get_or-append_right front (drop n rest) n j 0 long (omega arith) ∙ get_or-drop n rest (j - n) 0 ∙ ap (λ k. get_or rest k 0) same
+        ∙ ap (λ xs. get_or xs j 0) er ∙ get_or-replicate size j 0 0 (omega (arith, total)) ∙ sym (get_or-eq_default a 0 (omega (arith, total)))

@@ -7,7 +7,6 @@ ghost use Rattle.std.specs.Prelude.{◌≡◌, ◌↔◌, true, ℕ, ◌+◌, �
 ghost use Rattle.series.specs.Series.{conv, sums, negs, scaled, ∂};
 ghost use Rattle.zmod.specs.Zmod.{Zmod, mk, plus, times};
 ghost use Rattle.zmod.specs.Residues.{Residue, Reduced, poly, Residues};
-ghost use Rattle.barrett.specs.Modulus.{Prepared};
 ghost use Rattle.rows.specs.Room.{turns};
 ghost use Rattle.poly.specs.Partial.{partial, Alone};
 
@@ -16,14 +15,14 @@ use barrett::Modulus;
 pub fn most(x: usize, y: usize) -> usize
     ensures { result ≡ max x y }
 {
-    if x < y { y } else { x }
+    x.max(y)
 }
 
 // x - y, or 0 where y is larger.
 pub fn over(x: usize, y: usize) -> usize
     ensures { result ≡ x - y }
 {
-    if x < y { 0 } else { x - y }
+    x.saturating_sub(y)
 }
 
 // The sum of a[i] * b[k - i] over i from `from` up to `to`: at most 256 products, which a u64 holds.
@@ -35,10 +34,8 @@ fn dot(a: &[u32], b: &[u32], from: usize, to: usize, k: usize) -> u64
     ensures upper_bound { result ≤ (to - from) * 72057593501057025 }
 {
     let mut s = 0;
-    let mut i = from;
-    while i < to {
+    for i in from..to {
         s += field::product(a[i], b[k - i]);
-        i += 1;
     }
     s
 }
@@ -63,11 +60,12 @@ fn span(
 {
     let mut s = start;
     let mut i = from;
+    // no `for`: the products that are left at the end take no remainder here
     while size < to - i {
-        s = field::reduce(field::wide(s) + dot(a, b, i, i + size, k), p);
+        s = field::reduce(u64::from(s) + dot(a, b, i, i + size, k), p);
         i += size;
     }
-    field::wide(s) + dot(a, b, i, to, k)
+    u64::from(s) + dot(a, b, i, to, k)
 }
 
 // `start` plus the coefficient k of the product.
@@ -76,8 +74,8 @@ pub fn coefficient(start: u32, a: &[u32], b: &[u32], k: usize, p: u32) -> u32
     requires reduced { (Reduced p a.now) × (Reduced p b.now) }
     ensures { Residue p (plus p (mk p start) (conv (Zmod p) (poly p a.now) (poly p b.now) k)) result }
 {
-    let from = over(k + 1, b.len());
-    let to = most(from, rows::least(k + 1, a.len()));
+    let from = (k + 1).saturating_sub(b.len());
+    let to = from.max((k + 1).min(a.len()));
     field::reduce(span(start, a, b, from, to, k, 256, p), p)
 }
 
@@ -87,10 +85,8 @@ pub fn product(a: &[u32], b: &[u32], out: &mut [u32], p: u32)
     requires reduced { (Reduced p a.now) × (Reduced p b.now) }
     ensures { Residues p (conv (Zmod p) (poly p a.now) (poly p b.now)) out.new }
 {
-    let mut n = 0;
-    while n < out.len() {
+    for n in 0..out.len() {
         out[n] = coefficient(0, a, b, n, p);
-        n += 1;
     }
 }
 
@@ -101,10 +97,8 @@ pub fn add_product(a: &[u32], b: &[u32], out: &mut [u32], p: u32)
     ensures { Residues p (sums (Zmod p) (poly p out.old)
         (conv (Zmod p) (poly p a.now) (poly p b.now))) out.new }
 {
-    let mut k = 0;
-    while k < out.len() {
+    for k in 0..out.len() {
         out[k] = coefficient(out[k], a, b, k, p);
-        k += 1;
     }
 }
 
@@ -132,8 +126,8 @@ pub fn square_coefficient(a: &[u32], k: usize, p: u32) -> u32
     requires { (0 < p) × (p ≤ 2 ^ 28) × (k < 2 ^ 63) × (Reduced p a.now) }
     ensures { Residue p (conv (Zmod p) (poly p a.now) (poly p a.now) k) result }
 {
-    let from = over(k + 1, a.len());
-    let to = most(from, rows::least((k + 1) / 2, a.len()));
+    let from = (k + 1).saturating_sub(a.len());
+    let to = from.max(((k + 1) / 2).min(a.len()));
     let half = span(0, a, a, from, to, k, 127, p);
     field::reduce(half + half + middle(a, k), p)
 }
@@ -143,16 +137,14 @@ pub fn square_by_coefficients(a: &[u32], out: &mut [u32], p: u32)
     requires { (0 < p) × (p ≤ 2 ^ 28) × (Reduced p a.now) }
     ensures { Residues p (conv (Zmod p) (poly p a.now) (poly p a.now)) out.new }
 {
-    let mut k = 0;
-    while k < out.len() {
+    for k in 0..out.len() {
         out[k] = square_coefficient(a, k, p);
-        k += 1;
     }
 }
 
 // out = a², where acc is room for the sums and e for a. Few coefficients are sooner there without the rows.
 pub fn square(a: &[u32], e: &mut [u64], acc: &mut [u64], out: &mut [u32], m: Modulus)
-    requires prepared { (Prepared m) × (Reduced m.p a.now) × (8 * turns (length a.now) (length out.old) * m.p ≤ 2 ^ 36) }
+    requires reduced { (Reduced m.p a.now) × (8 * turns (length a.now) (length out.old) * m.p ≤ 2 ^ 36) }
     requires acc_len { (length acc.old ≡ length out.old) × (length a.now + 6 ≤ length e.old) × (length a.now < 2 ^ 60) }
     ensures { Residues m.p (conv (Zmod m.p) (poly m.p a.now) (poly m.p a.now)) out.new }
 {
@@ -160,7 +152,7 @@ pub fn square(a: &[u32], e: &mut [u64], acc: &mut [u64], out: &mut [u32], m: Mod
         return square_by_coefficients(a, out, m.p);
     }
     rows::square(a, e, acc, m.p);
-    barrett::remainders(acc, out, m);
+    m.remainders(acc, out);
 }
 
 // x + c y
@@ -168,7 +160,7 @@ fn plus_multiple(x: u32, c: u32, y: u32, p: u32) -> u32
     requires { 0 < p }
     ensures { Residue p (plus p (mk p x) (times p (mk p c) (mk p y))) result }
 {
-    field::reduce(field::wide(x) + field::product(c, y), p)
+    field::reduce(u64::from(x) + field::product(c, y), p)
 }
 
 // out = out + c a
@@ -176,11 +168,8 @@ pub fn add_scaled(out: &mut [u32], a: &[u32], c: u32, p: u32)
     requires { (0 < p) × (Reduced p out.old) }
     ensures { Residues p (sums (Zmod p) (poly p out.old) (scaled (Zmod p) (mk p c) (poly p a.now))) out.new }
 {
-    let n = rows::least(out.len(), a.len());
-    let mut k = 0;
-    while k < n {
+    for k in 0..out.len().min(a.len()) {
         out[k] = plus_multiple(out[k], c, a[k], p);
-        k += 1;
     }
 }
 
@@ -198,10 +187,8 @@ pub fn scale(out: &mut [u32], c: u32, p: u32)
     requires { 0 < p }
     ensures { Residues p (scaled (Zmod p) (mk p c) (poly p out.old)) out.new }
 {
-    let mut k = 0;
-    while k < out.len() {
-        out[k] = field::multiply(c, out[k], p);
-        k += 1;
+    for x in out.iter_mut() {
+        *x = field::multiply(c, *x, p);
     }
 }
 
@@ -222,10 +209,8 @@ pub fn derivative(a: &[u32], out: &mut [u32], p: u32)
     requires { (0 < p) × (length a.now ≤ 2 ^ 32) }
     ensures { Residues p (∂ (Zmod p) (poly p a.now)) out.new }
 {
-    let mut k = 0;
-    while k < out.len() {
+    for k in 0..out.len() {
         out[k] = derivative_coefficient(a, k, p);
-        k += 1;
     }
 }
 
@@ -233,35 +218,21 @@ pub fn derivative(a: &[u32], out: &mut [u32], p: u32)
 pub fn equal(a: &[u32], b: &[u32]) -> bool
     ensures { (p : ℕ) → Reduced p a.now → Reduced p b.now → (result ≡ true) ↔ (poly p a.now ≡ poly p b.now) }
 {
-    let n = most(a.len(), b.len());
-    let mut i = 0;
-    while i < n {
-        if word(a, i) != word(b, i) {
-            return false;
-        }
-        i += 1;
-    }
-    true
+    (0..a.len().max(b.len())).all(|i| word(a, i) == word(b, i))
 }
 
 // out = 0
 pub fn clear(out: &mut [u32])
     ensures { out.new ≡ replicate (length out.old) 0 }
 {
-    let mut k = 0;
-    while k < out.len() {
-        out[k] = 0;
-        k += 1;
-    }
+    out.fill(0);
 }
 
 // out = a
 pub fn copy(a: &[u32], out: &mut [u32])
     ensures { (p : ℕ) → Reduced p a.now → Residues p (poly p a.now) out.new }
 {
-    let mut k = 0;
-    while k < out.len() {
-        out[k] = word(a, k);
-        k += 1;
-    }
+    let n = a.len().min(out.len());
+    out.fill(0);
+    out[..n].copy_from_slice(&a[..n]);
 }

@@ -8,7 +8,6 @@ ghost use Rattle.series.specs.Series.{conv, sums};
 ghost use Rattle.series.specs.Reversal.{shift};
 ghost use Rattle.zmod.specs.Zmod.{Zmod};
 ghost use Rattle.zmod.specs.Residues.{Reduced, poly, Residues};
-ghost use Rattle.barrett.specs.Modulus.{Prepared};
 ghost use Rattle.rows.specs.Product.{held, ThreeZeros};
 ghost use Rattle.modulo.specs.Modulo.{Divisor, RemainderOf};
 ghost use Rattle.modulo.specs.Power.{x_to};
@@ -22,12 +21,8 @@ fn reverse(a: &[u32], out: &mut [u32])
     requires { length out.old ≡ length a.now }
     ensures { ReversedWords a.now out.new }
 {
-    let n = a.len();
-    let mut k = 0;
-    while k < n {
-        out[k] = a[n - 1 - k];
-        k += 1;
-    }
+    out.copy_from_slice(a);
+    out.reverse();
 }
 
 // out = 1
@@ -35,7 +30,7 @@ fn put_one(out: &mut [u32])
     requires { 0 < length out.old }
     ensures { out.new ≡ set (replicate (length out.old) 0) 0 1 }
 {
-    poly::clear(out);
+    out.fill(0);
     out[0] = 1;
 }
 
@@ -45,17 +40,15 @@ fn invert(c: &[u32], t: &mut [u32], p: u32)
     ensures { (Reduced p t.new) × InverseTo (Zmod p) (length t.old) (poly p c.now) (poly p t.new) }
 {
     put_one(t);
-    let mut k = 1;
-    while k < t.len() {
+    for k in 1..t.len() {
         let s = poly::coefficient(0, c, t, k, p);
         t[k] = field::negate(s, p);
-        k += 1;
     }
 }
 
 // The quotient of a, of 2n − 1 words, by a g of n words: q has n. t holds the inverse of g backwards; acc and top are room.
 fn quotient(a: &[u32], t: &[u64], acc: &mut [u64], top: &mut [u32], q: &mut [u32], m: Modulus)
-    requires prepared { Prepared m × (1 < m.p) × (Reduced m.p a.now) × (Reduced m.p t.now) × ThreeZeros t.now }
+    requires p_bound { (1 < m.p) × (Reduced m.p a.now) × (Reduced m.p t.now) × ThreeZeros t.now }
     requires q_nonzero { (0 < length q.old) × (length q.old ≤ 252) × (length a.now + 1 ≡ 2 * length q.old) × (length acc.old ≡ length q.old)
         × (length top.old ≡ length q.old) × (length q.old + 3 ≤ length t.now) }
     ensures { (Reduced m.p q.new)
@@ -63,22 +56,22 @@ fn quotient(a: &[u32], t: &[u64], acc: &mut [u64], top: &mut [u32], q: &mut [u32
 {
     let d = q.len() - 1;
     reverse(&a[d..], top);
-    rows::clear(acc);
+    acc.fill(0);
     rows::add_product(acc, top, t, m.p);
-    barrett::remainders(acc, top, m);
+    m.remainders(acc, top);
     reverse(top, q);
 }
 
 // r = a − q g, where n holds −g; acc is room.
 fn subtract_product(a: &[u32], q: &[u32], n: &[u64], acc: &mut [u64], r: &mut [u32], m: Modulus)
-    requires prepared { Prepared m × (1 < m.p) × (Reduced m.p a.now) × (Reduced m.p q.now) × (Reduced m.p n.now) × ThreeZeros n.now }
+    requires p_bound { (1 < m.p) × (Reduced m.p a.now) × (Reduced m.p q.now) × (Reduced m.p n.now) × ThreeZeros n.now }
     requires q_len_bound { (length q.now ≤ 252) × (length acc.old ≡ length q.now) × (length r.old ≤ length q.now) × (length q.now + 3 ≤ length n.now) }
     ensures { Residues m.p (sums (Zmod m.p) (poly m.p a.now)
         (conv (Zmod m.p) (poly m.p q.now) (held m.p n.now))) r.new }
 {
     rows::widen(a, acc);
     rows::add_product(acc, q, n, m.p);
-    barrett::remainders(acc, r, m);
+    m.remainders(acc, r);
 }
 
 // What divisions by g take, made once: t holds the inverse of g backwards, n holds −g, both behind three zeros; top and q are room.
@@ -106,7 +99,7 @@ fn divide(
     r: &mut [u32],
     m: Modulus,
 )
-    requires prepared { Prepared m × (1 < m.p) × (Reduced m.p a.now) × (Divisor m.p g.now) × (DividesBy m.p g.now t.now n.now) }
+    requires p_bound { (1 < m.p) × (Reduced m.p a.now) × (Divisor m.p g.now) × (DividesBy m.p g.now t.now n.now) }
     requires g_len_bound { (length g.now ≤ 252) × (length a.now + 1 ≡ 2 * length g.now) × (length acc.old ≡ length g.now)
         × (length top.old ≡ length g.now) × (length q.old ≡ length g.now) × (length r.old + 1 ≡ length g.now) }
     ensures { RemainderOf m.p (length g.now - 1) (poly m.p g.now) (poly m.p a.now) r.new }
@@ -117,7 +110,7 @@ fn divide(
 
 // out = x^bit a²; e and acc are room.
 fn lifted_square(a: &[u32], bit: usize, e: &mut [u64], acc: &mut [u64], out: &mut [u32], m: Modulus)
-    requires prepared { Prepared m × (Reduced m.p a.now) × (bit ≤ 1) × (length a.now ≤ 127) }
+    requires reduced { (Reduced m.p a.now) × (bit ≤ 1) × (length a.now ≤ 127) }
     requires out_nonzero { (0 < length out.old) × (length acc.old ≡ length out.old) × (length a.now + 6 ≤ length e.old) }
     ensures { Residues m.p (shift (Zmod m.p) bit (conv (Zmod m.p) (poly m.p a.now) (poly m.p a.now)))
         out.new }
@@ -140,7 +133,7 @@ fn square_modulo(
     q: &mut [u32],
     m: Modulus,
 )
-    requires prepared { Prepared m × (1 < m.p) × (Divisor m.p g.now) × (DividesBy m.p g.now t.now n.now) × (length r.old + 1 ≡ length g.now)
+    requires p_bound { (1 < m.p) × (Divisor m.p g.now) × (DividesBy m.p g.now t.now n.now) × (length r.old + 1 ≡ length g.now)
         × (Reduced m.p r.old) × (bit ≤ 1) }
     requires g_len_bound { (length g.now ≤ 128) × (length g.now + 6 ≤ length e.old) × (length room.old + 1 ≡ 2 * length g.now)
         × (length acc.old ≡ length room.old) × (length top.old ≡ length g.now) × (length q.old ≡ length g.now) × (2 ≤ length g.now) }
@@ -165,16 +158,15 @@ pub fn power_of_x(
     q: &mut [u32],
     m: Modulus,
 )
-    requires prepared { Prepared m × (Divisor m.p g.now) × (1 < m.p) × (2 ≤ length g.now) × (length g.now ≤ 128) }
+    requires p_bound { (Divisor m.p g.now) × (1 < m.p) × (2 ≤ length g.now) × (length g.now ≤ 128) }
     requires r_len { (length r.old + 1 ≡ length g.now) × (length g.now + 3 ≤ length t.old) × (length g.now + 3 ≤ length n.old)
         × (length g.now + 6 ≤ length e.old) × (length room.old + 1 ≡ 2 * length g.now) × (length acc.old ≡ length room.old)
         × (length top.old ≡ length g.now) × (length q.old ≡ length g.now) }
     ensures { RemainderOf m.p (length g.now - 1) (poly m.p g.now) (x_to m.p m.p) r.new }
 {
     prepare(g, t, n, top, q, m.p);
-    let mut i = modulo::begin(r, m.p);
-    while 0 < i {
-        i -= 1;
+    let first = modulo::begin(r, m.p);
+    for i in (0..first).rev() {
         let bit = ((m.p >> i) % 2) as usize;
         square_modulo(r, bit, g, t, n, e, acc, room, top, q, m);
     }

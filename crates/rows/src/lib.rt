@@ -45,10 +45,8 @@ pub fn four(
     ensures { Filled (λ j v. v ≡ four_more out.old a.now b.now c.now d.now w x y z j)
         out.new (length out.old) }
 {
-    let mut j = 0;
-    while j < out.len() {
+    for j in 0..out.len() {
         out[j] = sum_more(out[j], w, a[j], x, b[j], y, c[j], z, d[j]);
-        j += 1;
     }
 }
 
@@ -67,28 +65,22 @@ pub fn add_rows(acc: &mut [u64], at: usize, len: usize, e: &[u64], w: u64, x: u6
 pub fn clear(out: &mut [u64])
     ensures { out.new ≡ replicate (length out.old) 0 }
 {
-    let mut k = 0;
-    while k < out.len() {
-        out[k] = 0;
-        k += 1;
-    }
+    out.fill(0);
 }
 
 // The word at i, 0 past the end.
 pub fn word(a: &[u32], i: usize) -> u64
     ensures { result ≡ get_or a.now i 0 }
 {
-    if i < a.len() { field::wide(a[i]) } else { 0 }
+    if i < a.len() { u64::from(a[i]) } else { 0 }
 }
 
 // out = a, in wider words, with zeros past a's end.
 pub fn widen(a: &[u32], out: &mut [u64])
     ensures { Filled (λ j v. v ≡ get_or a.now j 0) out.new (length out.new) }
 {
-    let mut k = 0;
-    while k < out.len() {
+    for k in 0..out.len() {
         out[k] = word(a, k);
-        k += 1;
     }
 }
 
@@ -108,10 +100,8 @@ fn double(a: &[u32], out: &mut [u64])
     requires { (length a.now ≤ length out.old) × Reduced (2 ^ 31) a.now }
     ensures { Twice a.now out.old out.new (length a.now) }
 {
-    let mut k = 0;
-    while k < a.len() {
-        out[k] = 2 * word(a, k);
-        k += 1;
+    for k in 0..a.len() {
+        out[k] = 2 * u64::from(a[k]);
     }
 }
 
@@ -120,14 +110,14 @@ fn prepare(a: &[u32], e: &mut [u64])
     requires { (length a.now + 3 ≤ length e.old) × Reduced (2 ^ 31) a.now }
     ensures { Above a.now 0 e.new }
 {
-    clear(e);
+    e.fill(0);
     double(a, &mut e[3..]);
 }
 
 pub fn least(x: usize, y: usize) -> usize
     ensures { result ≡ min x y }
 {
-    if x < y { x } else { y }
+    x.min(y)
 }
 
 // Four words w, x, y, z of a from i on: (w + x t + y t² + z t³) times themselves and twice what is above them is added to the sums from 2i on.
@@ -142,7 +132,7 @@ fn square_turn(a: &[u32], i: usize, e: &mut [u64], acc: &mut [u64], p: u32)
     let y = word(a, 2 + i);
     let z = word(a, 3 + i);
     put(e, i + 3, w, x, y, z);
-    let len = least(a.len() - i + 3, acc.len() - (i + i));
+    let len = (a.len() - i + 3).min(acc.len() - (i + i));
     add_rows(acc, i + i, len, &e[i..], w, x, y, z);
     put(e, i + 3, 0, 0, 0, 0);
 }
@@ -155,13 +145,11 @@ fn square_turns(a: &[u32], e: &mut [u64], acc: &mut [u64], p: u32)
     ensures { ProductSums (8 * turns (length a.now) (length acc.old)) p
         (conv (Zmod p) (poly p a.now) (poly p a.now)) acc.new }
 {
-    let mut i = 0;
-    while i < a.len() {
+    for i in (0..a.len()).step_by(4) {
         if acc.len() <= 2 * i {
             return;
         }
         square_turn(a, i, e, acc, p);
-        i += 4;
     }
 }
 
@@ -173,7 +161,7 @@ pub fn square(a: &[u32], e: &mut [u64], acc: &mut [u64], p: u32)
         (conv (Zmod p) (poly p a.now) (poly p a.now)) acc.new }
 {
     prepare(a, e);
-    clear(acc);
+    acc.fill(0);
     square_turns(a, e, acc, p);
 }
 
@@ -189,10 +177,8 @@ pub fn put_behind(a: &[u32], e: &mut [u64])
     requires { length a.now + 3 ≤ length e.old }
     ensures { ThreeZeros e.new × ((j : ℕ) → get_or e.new (3 + j) 0 ≡ get_or a.now j 0) }
 {
-    let mut k = 0;
-    while k < e.len() {
+    for k in 0..e.len() {
         e[k] = behind(a, k);
-        k += 1;
     }
 }
 
@@ -203,15 +189,13 @@ pub fn add_product(acc: &mut [u64], a: &[u32], e: &[u64], p: u32)
     ensures { Sums p (sums (Zmod p) (poly p acc.old)
         (conv (Zmod p) (poly p a.now) (held p e.now))) acc.new }
 {
-    let mut i = 0;
-    while i < a.len() {
+    for i in (0..a.len()).step_by(4) {
         let len = acc.len() - i;
         let w = word(a, i);
         let x = word(a, 1 + i);
         let y = word(a, 2 + i);
         let z = word(a, 3 + i);
         add_rows(acc, i, len, e, w, x, y, z);
-        i += 4;
     }
 }
 

@@ -1,7 +1,7 @@
 -- The kernel polynomial of a composite, from slices: g₁², g₂ at n / g₁², and its product with g₁.
 -- Assumes nothing.
-use Rattle.std.specs.Prelude.{◌≡◌, List, ◌++◌, ℕ, ◌+◌, ◌-◌, ◌*◌, ◌≤◌, length, take}
-use Rattle.std.proofs.Common.{◌∙◌, ap, arith, take_at}
+use Rattle.std.specs.Prelude.{◌≡◌, List, ℕ, suc, ◌+◌, ◌-◌, ◌*◌, ◌≤◌, length}
+use Rattle.std.proofs.Common.{◌∙◌, ap, arith}
 use Rattle.ring.specs.Ring.{pow}
 use Rattle.ring.specs.Identity.{solve1}
 use Rattle.ring.specs.Identity.Ex.{◌:*◌, ◌:^◌}
@@ -12,7 +12,7 @@ use Rattle.zmod.specs.Residues.{poly, poly_past, poly_below, Residues, residues_
 use Rattle.composition.specs.Substitution.{homogenize}
 use Rattle.substitution.specs.Degree.{numerator_below}
 
-module _ (p : ℕ) (n g₁ g₂ square part rest out : List ℕ) (some : 2 ≤ length g₁) (size_n : length n ≡ 2 * length g₁)
+module _ (p : ℕ) (n g₁ g₂ square part out : List ℕ) (some : 2 ≤ length g₁) (size_n : length n ≡ 2 * length g₁)
     (size : length square + 1 ≡ 2 * length g₁) (squared : Residues p (conv (Zmod p) (poly p g₁) (poly p g₁)) square) where
   is_square : poly p square ≡ pow (Series (Zmod p)) (poly p g₁) 2
   is_square =
@@ -20,15 +20,13 @@ module _ (p : ℕ) (n g₁ g₂ square part rest out : List ℕ) (some : 2 ≤ l
       (poly_below p g₁ _ (omega arith)) (poly_below p g₁ _ (omega arith))))
       ∙ solve1 (Series (Zmod p)) (λ g. g :* g) (λ g. g :^ 2) tt (poly p g₁)
 
-  -- `part` came back as the first k words of a longer slice
-  pub composed : (k : ℕ) → length part ≡ k → k ≡ (length g₂ - 1) * length square + 1
+  pub composed : suc ((length g₂ - 1) * length square) ≤ length part
       → Residues p (homogenize (Zmod p) (poly p n) (poly p square) (length g₂ - 1) (poly p g₂)) part
-      → Residues p (conv (Zmod p) (poly p g₁) (poly p (take k (part ++ rest)))) out
+      → Residues p (conv (Zmod p) (poly p g₁) (poly p part)) out
       → Residues p (conv (Zmod p) (poly p g₁)
       (homogenize (Zmod p) (poly p n) (pow (Series (Zmod p)) (poly p g₁) 2) (length g₂ - 1) (poly p g₂))) out
-  composed k long is substituted =
-      residues_same (ap (conv (Zmod p) (poly p g₁)) (ap (poly p) (take_at part rest k long)
-      ∙ residues_poly substituted (below_mono (Zmod p) _ _ _ (omega arith)
+  composed long substituted =
+      residues_same (ap (conv (Zmod p) (poly p g₁)) (residues_poly substituted (below_mono (Zmod p) _ _ _ long
       (numerator_below (Zmod p) (length square) (omega arith) (poly p square) (poly_past p square) (poly p n) (poly_below p n _ (omega arith))
       (length g₂ - 1) (poly p g₂)))
       ∙ ap (λ Y. homogenize (Zmod p) (poly p n) Y (length g₂ - 1) (poly p g₂)) is_square))

@@ -2,7 +2,6 @@ pub mod Sums
 pub mod Horner
 pub mod Degree
 pub mod Begin
-pub mod Step
 pub mod State
 pub mod Sizes
 pub mod Composite

@@ -5,7 +5,7 @@ use Rattle.counting.proofs.by_quotients.Goals as goal
 pub power_of_x-requires : goal.power_of_x-requires
 power_of_x-requires c =
     record {
-      prepared = (c.requires.prime.1, c.requires.prime.2, c.requires.prime.0.above_one, omega (arith, c.requires.prime.3), c.requires.prime.4);
+      p_bound = (c.requires.prime.1, c.requires.prime.0.above_one, omega (arith, c.requires.prime.2), c.requires.prime.3);
       r_len = (c.requires.a_len.1, c.requires.a_len.3, c.requires.a_len.4, c.requires.a_len.5, c.requires.a_len.7, c.requires.a_len.6, c.requires.a_len.0, c.requires.a_len.2);
     }
 
@@ -20,7 +20,7 @@ slice_bounds-from_power-end-4 c =
 pub from_power-requires : goal.from_power-requires
 from_power-requires c =
     let power = c.power_of_x in record {
-      prime = (c.requires.prime.0, c.requires.prime.1, c.requires.prime.2, c.requires.prime.3);
+      prime = (c.requires.prime.0, c.requires.prime.1, c.requires.prime.2);
       r_len = (
         omega (arith, c.requires.a_len.1, power.auto),
         simp length-take (omega (arith, power.auto, c.requires.a_len.3)),

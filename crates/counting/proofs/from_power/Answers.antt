@@ -2,7 +2,7 @@
 use Rattle.std.proofs.Common.{arith, length-set, set, subst, sym, ◌≡◌}
 use Rattle.zmod.specs.Zmod.{Zmod}
 use Rattle.zmod.specs.Residues.{Reduced, poly}
-use Rattle.barrett.specs.Modulus.{prepared_below}
+use Rattle.barrett.specs.Modulus.{prepared, prepared_below}
 use Rattle.euclid.specs.Words.{Leads}
 use Rattle.euclid.specs.Euclid.{GcdDegree}
 use Rattle.counting.specs.Count.{subtracted_reduced, subtracted_is, widened, divisor_leads, counted}
@@ -10,7 +10,7 @@ use Rattle.counting.proofs.from_power.Goals as goal
 
 pub subtract-requires : goal.subtract-requires
 subtract-requires c =
-    (c.requires.r_len.3.reduced 1, c.requires.prime.0.above_one, omega (arith, prepared_below c.requires.prime.1))
+    (c.requires.r_len.3.reduced 1, c.requires.prime.0.above_one, omega (arith, prepared_below (prepared c.args.m)))
 
 pub gcd_degree-requires : goal.gcd_degree-requires
 gcd_degree-requires c =
@@ -26,11 +26,10 @@ gcd_degree-requires c =
     in
     let p = c.args.m.p in
     let r = c.args.r.now in
-    let low = subtracted_reduced p c.subtract.result r c.requires.r_len.3.reduced (omega (arith, c.requires.r_len.0, c.requires.prime.3))
+    let low = subtracted_reduced p c.subtract.result r c.requires.r_len.3.reduced (omega (arith, c.requires.r_len.0, c.requires.prime.2))
     c.subtract.ensures in (
       c.requires.prime.0,
-      c.requires.prime.1,
-      subst (Leads p) (sym (same_g)) (divisor_leads c.requires.prime.0.above_one c.requires.prime.2),
+      subst (Leads p) (sym (same_g)) (divisor_leads c.requires.prime.0.above_one c.requires.prime.1),
       subst (Reduced p) (sym (same-r)) low,
     )
 
@@ -54,4 +53,4 @@ returns c =
     (subst (λ l. GcdDegree (Zmod p) (poly p l) (poly p c.widen-2.new.out) n) (same_g) c.gcd_degree.ensures) in
     counted c.requires.prime.0 a.g.now a.r.now c.requires.r_len.3
     (subst (λ s. GcdDegree (Zmod p) (poly p a.g.now) s n)
-    (subtracted_is p v.result a.r.now c.requires.r_len.3.reduced (omega (arith, c.requires.r_len.0, c.requires.prime.3)) v.ensures) whole)
+    (subtracted_is p v.result a.r.now c.requires.r_len.3.reduced (omega (arith, c.requires.r_len.0, c.requires.prime.2)) v.ensures) whole)

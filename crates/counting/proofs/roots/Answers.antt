@@ -5,4 +5,4 @@ use Rattle.counting.proofs.roots.Goals as goal
 
 pub overflow_cast-result : goal.overflow_cast-result
 overflow_cast-result c =
-    search (rules, roots_few c.requires.0 c.requires.2, c.roots_by_size.ensures, c.requires.4)
+    search (rules, roots_few c.requires.0 c.requires.1, c.roots_by_size.ensures, c.requires.3)

@@ -5,4 +5,4 @@ use Rattle.counting.proofs.roots_by_size.Goals as goal
 
 pub returns-then-g-eq2 : goal.returns-then-g-eq2
 returns-then-g-eq2 c =
-    sym (roots_one c.requires.0 c.requires.2 (omega arith))
+    sym (roots_one c.requires.0 c.requires.1 (omega arith))

@@ -1,8 +1,8 @@
 -- `euclid::add_multiple` meets its contract. Assumes nothing.
-use Rattle.std.proofs.Common.{arith, drop, length, length-drop, length-take, length-take-le, set, sym, take, ◌++◌, ◌+◌, ◌-◌, ◌≡◌}
+use Rattle.std.proofs.Common.{List, arith, drop, length, length-drop, length-take, length-take-le, set, sym, take, ℕ, ◌++◌, ◌+◌, ◌-◌, ◌≡◌}
 use Rattle.slices.specs.Stored.{part_below}
 use Rattle.zmod.specs.Residues.{reduced_take}
-use Rattle.barrett.specs.Modulus.{prepared_positive}
+use Rattle.barrett.specs.Modulus.{prepared, prepared_positive}
 use Rattle.euclid.specs.Combination.{first_at, second_length, second_reduced, rear_length, all_length, added_residues}
 use Rattle.euclid.proofs.add_multiple.Goals as goal
 
@@ -14,51 +14,25 @@ slice_bounds-scale-end-2 c =
 pub scale-requires : goal.scale-requires
 scale-requires c =
     let a = c.args in
-    (c.requires.prepared.0, c.requires.prepared.1, reduced_take a.a.now (prepared_positive c.requires.prepared.0) (length a.a.now - length a.b.now) c.requires.reduced.0)
+    (c.requires.lt_p.0, reduced_take a.a.now (prepared_positive (prepared a.m)) (length a.a.now - length a.b.now) c.requires.reduced.0)
+
+-- as many words are scaled as a has more than b
+front_size : (a b front : List ℕ) → length front ≡ length (take (length a - length b) a) → length front ≡ length a - length b
+front_size a b front same = omega (arith, same, length-take (length a - length b) a)
 
 pub two_products-requires : goal.two_products-requires
 two_products-requires c =
-    let shift =
-    length c.args.a.now - length c.args.b.now
-    in
-    let front-size : length c.scale.new.out ≡ shift =
-    omega (arith, c.scale.auto, length-take (shift) c.args.a.now)
-    in
     let a = c.args in
-    let word = first_at a.a.now a.b.now c.scale.new.out 0 c.requires.prepared.5 (front-size) in
-    (c.requires.prepared.0, c.requires.prepared.1, omega (arith, word, c.requires.reduced.0 (shift)), c.requires.prepared.3, c.requires.reduced.1 0)
+    let word = first_at a.a.now a.b.now c.scale.new.out 0 c.requires.lt_p.4 (front_size _ _ _ c.scale.auto.out) in
+    (c.requires.lt_p.0, omega (arith, word, c.requires.reduced.0 (length a.a.now - length a.b.now)), c.requires.lt_p.2, c.requires.reduced.1 0)
 
 pub slice_bounds-combine-count : goal.slice_bounds-combine-count
 slice_bounds-combine-count c =
-    let shift =
-    length c.args.a.now - length c.args.b.now
-    in
-    let front-size : length c.scale.new.out ≡ shift =
-    omega (arith, c.scale.auto, length-take (shift) c.args.a.now)
-    in
-    let stored =
-    set (c.scale.new.out ++ drop (shift) c.args.a.now) (shift) c.two_products.result
-    in
-    let stored-size : length (stored) ≡ length c.args.a.now =
-    second_length c.args.a.now c.args.b.now c.scale.new.out c.two_products.result c.requires.prepared.5 (front-size)
-    in
-    omega (arith, stored-size)
+    omega (arith, second_length c.args.a.now c.args.b.now c.scale.new.out c.two_products.result c.requires.lt_p.4 (front_size _ _ _ c.scale.auto.out))
 
 pub slice_bounds-combine-start : goal.slice_bounds-combine-start
 slice_bounds-combine-start c =
-    let shift =
-    length c.args.a.now - length c.args.b.now
-    in
-    let front-size : length c.scale.new.out ≡ shift =
-    omega (arith, c.scale.auto, length-take (shift) c.args.a.now)
-    in
-    let stored =
-    set (c.scale.new.out ++ drop (shift) c.args.a.now) (shift) c.two_products.result
-    in
-    let stored-size : length (stored) ≡ length c.args.a.now =
-    second_length c.args.a.now c.args.b.now c.scale.new.out c.two_products.result c.requires.prepared.5 (front-size)
-    in
-    omega (arith, stored-size)
+    omega (arith, second_length c.args.a.now c.args.b.now c.scale.new.out c.two_products.result c.requires.lt_p.4 (front_size _ _ _ c.scale.auto.out))
 
 pub slice_bounds-combine-end-2 : goal.slice_bounds-combine-end-2
 slice_bounds-combine-end-2 c =
@@ -67,34 +41,24 @@ slice_bounds-combine-end-2 c =
 
 pub combine-requires : goal.combine-requires
 combine-requires c =
-    let shift =
-    length c.args.a.now - length c.args.b.now
-    in
-    let front-size : length c.scale.new.out ≡ shift =
-    omega (arith, c.scale.auto, length-take (shift) c.args.a.now)
-    in
-    let stored =
-    set (c.scale.new.out ++ drop (shift) c.args.a.now) (shift) c.two_products.result
-    in
-    let rear-size : let from = shift + 1 in
-    length (take (length (stored) - from) (drop from (stored))) ≡ length c.args.b.now - 1 =
-    rear_length c.args.a.now c.args.b.now c.scale.new.out c.two_products.result c.requires.prepared.5 (front-size)
-    in
     let a = c.args in
     let b = a.b.now in
-    let pos = prepared_positive c.requires.prepared.0 in
-    let from = shift + 1 in record {
-      prepared = (
-        c.requires.prepared.0,
-        c.requires.prepared.1,
-        c.requires.prepared.2,
-        c.requires.prepared.3,
-        omega (arith, rear-size, length-take (length b - 1) b),
-        omega (arith, rear-size, length-take (length b - 1) (drop 1 b), length-drop 1 b),
+    let front = c.scale.new.out in
+    let middle = c.two_products.result in
+    let pos = prepared_positive (prepared a.m) in
+    let from = length a.a.now - length b + 1 in
+    let stored = set (front ++ drop (length a.a.now - length b) a.a.now) (length a.a.now - length b) middle in
+    let rear_size = rear_length a.a.now b front middle c.requires.lt_p.4 (front_size _ _ _ c.scale.auto.out) in record {
+      lt_p = (
+        c.requires.lt_p.0,
+        c.requires.lt_p.1,
+        c.requires.lt_p.2,
+        omega (arith, rear_size, length-take (length b - 1) b),
+        omega (arith, rear_size, length-take (length b - 1) (drop 1 b), length-drop 1 b),
       );
       reduced = (
-        part_below (stored) from (length (stored) - from) a.m.p pos
-            (second_reduced a.a.now b c.scale.new.out c.two_products.result c.requires.prepared.5 (front-size) a.m.p c.requires.prepared.4
+        part_below stored from (length stored - from) a.m.p pos
+            (second_reduced a.a.now b front middle c.requires.lt_p.4 (front_size _ _ _ c.scale.auto.out) a.m.p c.requires.lt_p.3
             c.requires.reduced.0 c.scale.ensures.reduced c.two_products.ensures.below),
         reduced_take b pos (length b - 1) c.requires.reduced.1,
         part_below b 1 (length b - 1) a.m.p pos c.requires.reduced.1,
@@ -103,41 +67,17 @@ combine-requires c =
 
 pub shape_of-a : goal.shape_of-a
 shape_of-a c =
-    let shift =
-    length c.args.a.now - length c.args.b.now
-    in
-    let front-size : length c.scale.new.out ≡ shift =
-    omega (arith, c.scale.auto, length-take (shift) c.args.a.now)
-    in
-    let stored =
-    set (c.scale.new.out ++ drop (shift) c.args.a.now) (shift) c.two_products.result
-    in
-    let rear-size : let from = shift + 1 in
-    length (take (length (stored) - from) (drop from (stored))) ≡ length c.args.b.now - 1 =
-    rear_length c.args.a.now c.args.b.now c.scale.new.out c.two_products.result c.requires.prepared.5 (front-size)
-    in
-    let combine = c.combine in
     let a = c.args in
-    all_length a.a.now a.b.now c.scale.new.out c.two_products.result c.requires.prepared.5 (front-size) combine.new.out
-    (omega (arith, combine.auto, rear-size)) c.requires.prepared.4
+    let front = c.scale.new.out in
+    let middle = c.two_products.result in
+    all_length a.a.now a.b.now front middle c.requires.lt_p.4 (front_size _ _ _ c.scale.auto.out) c.combine.new.out
+    (omega (arith, c.combine.auto, rear_length a.a.now a.b.now front middle c.requires.lt_p.4 (front_size _ _ _ c.scale.auto.out))) c.requires.lt_p.3
 
 pub returns : goal.returns
 returns c =
-    let shift =
-    length c.args.a.now - length c.args.b.now
-    in
-    let front-size : length c.scale.new.out ≡ shift =
-    omega (arith, c.scale.auto, length-take (shift) c.args.a.now)
-    in
-    let stored =
-    set (c.scale.new.out ++ drop (shift) c.args.a.now) (shift) c.two_products.result
-    in
-    let rear-size : let from = shift + 1 in
-    length (take (length (stored) - from) (drop from (stored))) ≡ length c.args.b.now - 1 =
-    rear_length c.args.a.now c.args.b.now c.scale.new.out c.two_products.result c.requires.prepared.5 (front-size)
-    in
-    let combine = c.combine in
     let a = c.args in
-    added_residues a.a.now a.b.now c.scale.new.out c.two_products.result a.m.p a.c a.y a.z combine.new.out
-    (prepared_positive c.requires.prepared.0) c.requires.prepared.4 c.requires.prepared.5 (front-size) (omega (arith, combine.auto, rear-size)) c.scale.ensures
-    c.two_products.ensures combine.ensures
+    let front = c.scale.new.out in
+    let middle = c.two_products.result in
+    added_residues a.a.now a.b.now front middle a.m.p a.c a.y a.z c.combine.new.out (prepared_positive (prepared a.m)) c.requires.lt_p.3
+    c.requires.lt_p.4 (front_size _ _ _ c.scale.auto.out) (omega (arith, c.combine.auto, rear_length a.a.now a.b.now front middle c.requires.lt_p.4 (front_size _ _ _ c.scale.auto.out)))
+    c.scale.ensures c.two_products.ensures c.combine.ensures

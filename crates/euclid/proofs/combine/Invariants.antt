@@ -1,4 +1,3 @@
-use Rattle.std.proofs.Common.{length, ◌-◌}
 use Rattle.series.specs.Series.{sums, scaled}
 use Rattle.zmod.specs.Zmod.{Zmod, mk}
 use Rattle.zmod.specs.Residues.{poly}
@@ -10,6 +9,3 @@ abbrev pub invariant-loop-k : goal.invariant-loop-k
 invariant-loop-k l = Stored (Of l.m.p (sums (Zmod l.m.p)
     (sums (Zmod l.m.p) (scaled (Zmod l.m.p) (mk l.m.p l.c) (poly l.m.p l.initial.out)) (scaled (Zmod l.m.p) (mk l.m.p l.y) (poly l.m.p l.before)))
     (scaled (Zmod l.m.p) (mk l.m.p l.z) (poly l.m.p l.here)))) l.initial.out l.out l.k
-
-abbrev pub decreases-loop-k : goal.decreases-loop-k
-decreases-loop-k l = length l.initial.out - l.k

@@ -14,7 +14,7 @@ loop-y-init c =
       refl,
       search rules,
       next.1.fits,
-      rw (take-length a) (reached_first c.requires.2 next.1 next.2),
+      rw (take-length a) (reached_first c.requires.1 next.1 next.2),
     )
 
 pub slice_bounds-next-end-in-loop-y : goal.slice_bounds-next-end-in-loop-y
@@ -38,7 +38,7 @@ next-x-requires c =
     in
     let pre = c.requires in
     let reached = c.loop-y.invariant.4 in
-    (pre.0, pre.1, reached.right (omega (arith, left-y, c.loop-y-test)), reached.left.reduced)
+    (pre.0, reached.right (omega (arith, left-y, c.loop-y-test)), reached.left.reduced)
 
 pub shape_of-a-then-x-eq0 : goal.shape_of-a-then-x-eq0
 shape_of-a-then-x-eq0 c =
@@ -94,7 +94,6 @@ next-y-requires-in-loop-y c =
     let pre = c.requires in
     let next = c.next-x.ensures in (
       pre.0,
-      pre.1,
       subst (Leads _) (sym (back_a)) (trimmed_leads _ next.1 next.2.reduced (omega (arith, c.if-x-eq0.false))),
       c.loop-y.invariant.4.reduced,
     )

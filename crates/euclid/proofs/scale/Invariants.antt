@@ -1,4 +1,3 @@
-use Rattle.std.proofs.Common.{length, ◌-◌}
 use Rattle.series.specs.Series.{scaled}
 use Rattle.zmod.specs.Zmod.{Zmod, mk}
 use Rattle.zmod.specs.Residues.{poly}
@@ -6,8 +5,5 @@ use Rattle.slices.specs.Stored.{Stored}
 use Rattle.poly.specs.Stored.{Of}
 use Rattle.euclid.proofs.scale.Given as goal
 
-abbrev pub invariant-loop-k : goal.invariant-loop-k
-invariant-loop-k l = Stored (Of l.m.p (scaled (Zmod l.m.p) (mk l.m.p l.c) (poly l.m.p l.initial.out))) l.initial.out l.out l.k
-
-abbrev pub decreases-loop-k : goal.decreases-loop-k
-decreases-loop-k l = length l.initial.out - l.k
+abbrev pub invariant-loop-word : goal.invariant-loop-word
+invariant-loop-word l = Stored (Of l.m.p (scaled (Zmod l.m.p) (mk l.m.p l.c) (poly l.m.p l.initial.out))) l.initial.out l.out l.word-index

@@ -1,4 +1,4 @@
-use Rattle.std.proofs.Common.{length, ℕ, ◌*◌, ◌+◌, ◌-◌, ◌≡◌, ◌≤◌}
+use Rattle.std.proofs.Common.{ℕ, ◌*◌, ◌+◌, ◌≡◌, ◌≤◌}
 use Rattle.zmod.specs.Zmod.{Zmod, mk}
 use Rattle.zmod.specs.Residues.{poly}
 use Rattle.evaluation.specs.Tables.{weighed}
@@ -6,7 +6,4 @@ use Rattle.evaluation.proofs.dot.Given as goal
 
 abbrev pub invariant-loop-i : goal.invariant-loop-i
 invariant-loop-i l =
-    (l.i ≤ length l.a) × (2 * l.s ≤ l.i * (l.i + 1) * 72057593501057025) × ((p : ℕ) → mk p l.s ≡ weighed (Zmod p) (poly p l.a) (poly p l.b) l.i)
-
-abbrev pub decreases-loop-i : goal.decreases-loop-i
-decreases-loop-i l = length l.a - l.i
+    (2 * l.s ≤ l.i * (l.i + 1) * 72057593501057025) × ((p : ℕ) → mk p l.s ≡ weighed (Zmod p) (poly p l.a) (poly p l.b) l.i)

@@ -13,7 +13,7 @@ loop-i-init c =
 pub step-r-requires : goal.step-r-requires
 step-r-requires c =
     let a = c.args.a.now in
-    let s = c.below-start.result in
+    let s = c.saturating_sub-start.result in
     let i = c.loop-i.i in
     let lo : s ≤ i = omega arith in
     let hi : i ≤ length a = omega arith in
@@ -28,7 +28,7 @@ loop-i-preserved c =
     let a = c.args.a.now in
     let p = c.args.p in
     let loop = c.loop-i in
-    let s = c.below-start.result in
+    let s = c.saturating_sub-start.result in
     let i = loop.i in
     let lo : s ≤ i = omega arith in
     let hi : i ≤ length a = omega arith in

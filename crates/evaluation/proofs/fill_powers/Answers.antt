@@ -10,12 +10,12 @@ use Rattle.evaluation.proofs.fill_powers.Goals as goal
 pub loop-i-init : goal.loop-i-init
 loop-i-init c =
     let at = c.args in
-    (search rules, search rules, filled_none (Power at.p at.x) at.out.now)
+    (search rules, filled_none (Power at.p at.x) at.out.now)
 
 pub power-requires : goal.power-requires
 power-requires c = record {
   lt_p = search rules;
-  filled = c.loop-i.invariant.2;
+  filled = c.loop-i.invariant.1;
 }
 
 pub loop-i-preserved : goal.loop-i-preserved
@@ -24,12 +24,11 @@ loop-i-preserved c =
     let at = c.args in
     let inside : loop.i < length loop.out = omega arith in (
       simp length-set loop.invariant.0,
-      simp length-set (omega arith),
-      filled_more (Power at.p at.x) loop.out loop.i c.power.result inside loop.invariant.2 c.power.ensures,
+      filled_more (Power at.p at.x) loop.out loop.i c.power.result inside loop.invariant.1 c.power.ensures,
     )
 
 pub returns : goal.returns
 returns c =
     let loop = c.loop-i in
     let at = c.args in
-    residues_filled {a = pow (Zmod at.p) (mk at.p at.x)} (omega arith) (λ j l. loop.invariant.2 j (omega arith))
+    residues_filled {a = pow (Zmod at.p) (mk at.p at.x)} (omega arith) (λ j l. loop.invariant.1 j (omega arith))

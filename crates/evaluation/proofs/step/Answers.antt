@@ -1,55 +1,28 @@
 -- `evaluation::step` meets its contract. Assumes nothing.
-use Rattle.std.proofs.Common.{arith, get_or, length, sym, ◌*◌, ◌+◌, ◌≤◌}
+use Rattle.std.proofs.Common.{List, arith, get_or, length, sym, ℕ, ◌*◌, ◌+◌, ◌<◌, ◌^◌, ◌≡◌, ◌≤◌}
 use Rattle.zmod.specs.Residues.{poly_at, residue_same}
+use Rattle.evaluation.specs.Tables.{Low}
 use Rattle.evaluation.proofs.Words.{factor_low, product_more}
 use Rattle.evaluation.proofs.step.Goals as goal
 
+-- a product of a table's word with a residue
+low : (xs : List ℕ) (n m y : ℕ) → n ≡ get_or xs m 0 * y → m ≤ 16 → Low xs → y < 2 ^ 28 → n ≤ 17 * 72057593501057025
+low xs n m y e h table residue = omega (arith, e, factor_low m (get_or xs m 0) y h (table m) residue)
+
 pub overflow_add-value : goal.overflow_add-value
 overflow_add-value c =
-    let first : c.product.result ≤ 17 * 72057593501057025 =
-    let m = length c.args.a.now in
-    omega (
-      arith,
-      c.product.ensures,
-      factor_low m (get_or c.args.powers.now m 0) c.args.above.value c.requires.a_len_bound.0 (c.requires.reduced.1 m)
-          (omega (arith, c.requires.p_nonzero)),
-    )
-    in
+    let first = low _ _ _ _ c.product.ensures c.requires.a_len_bound.0 c.requires.reduced.1 (omega (arith, c.requires.p_nonzero)) in
     omega (arith, first, c.dot.ensures.upper_bound)
 
 pub overflow_add-slope : goal.overflow_add-slope
 overflow_add-slope c =
-    let second : c.product-2.result ≤ 17 * 72057593501057025 =
-    let m = length c.args.a.now in
-    omega (
-      arith,
-      c.product-2.ensures,
-      factor_low m (get_or c.args.powers.now m 0) c.args.above.slope c.requires.a_len_bound.0 (c.requires.reduced.1 m)
-          (omega (arith, c.requires.p_nonzero)),
-    )
-    in
+    let second = low _ _ _ _ c.product-2.ensures c.requires.a_len_bound.0 c.requires.reduced.1 (omega (arith, c.requires.p_nonzero)) in
     omega (arith, second, c.dot-2.ensures.upper_bound)
 
 pub overflow_add-slope-2 : goal.overflow_add-slope-2
 overflow_add-slope-2 c =
-    let second : c.product-2.result ≤ 17 * 72057593501057025 =
-    let m = length c.args.a.now in
-    omega (
-      arith,
-      c.product-2.ensures,
-      factor_low m (get_or c.args.powers.now m 0) c.args.above.slope c.requires.a_len_bound.0 (c.requires.reduced.1 m)
-          (omega (arith, c.requires.p_nonzero)),
-    )
-    in
-    let third : c.product-3.result ≤ 17 * 72057593501057025 =
-    let m = length c.args.a.now in
-    omega (
-      arith,
-      c.product-3.ensures,
-      factor_low m (get_or c.args.slopes.now m 0) c.args.above.value c.requires.a_len_bound.0 (c.requires.reduced.2 m)
-          (omega (arith, c.requires.p_nonzero)),
-    )
-    in
+    let second = low _ _ _ _ c.product-2.ensures c.requires.a_len_bound.0 c.requires.reduced.1 (omega (arith, c.requires.p_nonzero)) in
+    let third = low _ _ _ _ c.product-3.ensures c.requires.a_len_bound.0 c.requires.reduced.2 (omega (arith, c.requires.p_nonzero)) in
     omega (arith, third, second, c.dot-2.ensures.upper_bound)
 
 pub returns : goal.returns

@@ -1,4 +1,3 @@
-use Rattle.std.proofs.Common.{length, ◌-◌}
 use Rattle.series.specs.Series.{sums, scaled}
 use Rattle.zmod.specs.Zmod.{Zmod, mk}
 use Rattle.zmod.specs.Residues.{poly}
@@ -7,7 +6,5 @@ use Rattle.poly.specs.Stored.{Of}
 use Rattle.folding.proofs.add_reduced.Given as goal
 
 abbrev pub invariant-loop-k : goal.invariant-loop-k
-invariant-loop-k l = Stored (Of l.m.p (sums (Zmod l.m.p) (poly l.m.p l.initial.out) (scaled (Zmod l.m.p) (mk l.m.p l.c) (poly l.m.p l.a)))) l.initial.out l.out l.k
-
-abbrev pub decreases-loop-k : goal.decreases-loop-k
-decreases-loop-k l = length l.initial.out - l.k
+invariant-loop-k l =
+    Stored (Of l.m.p (sums (Zmod l.m.p) (poly l.m.p l.initial.out) (scaled (Zmod l.m.p) (mk l.m.p l.c) (poly l.m.p l.a)))) l.initial.out l.out l.k

@@ -1,6 +1,7 @@
 -- `folding::fill` meets its contract. Assumes nothing.
-use Rattle.std.proofs.Common.{ap, arith, drop, get_or, length, length-drop, length-take, rules, take, ℕ, ◌*◌, ◌-◌, ◌∙◌, ◌≡◌}
-use Rattle.barrett.specs.Modulus.{prepared_positive}
+use Rattle.std.proofs.Common.{ap, arith, drop, get_or, length, length-drop, length-take, rules, subst, sym, take, ℕ, ◌*◌, ◌-◌, ◌∙◌, ◌≡◌}
+use Rattle.zmod.specs.Residues.{poly, Residues, residues_self}
+use Rattle.barrett.specs.Modulus.{prepared, prepared_positive}
 use Rattle.rows.specs.Room.{zero_at}
 use Rattle.folding.specs.Table.{row_inside, cleared_behind, begins, begun_none, begun_all}
 use Rattle.folding.proofs.fill.Goals as goal
@@ -15,13 +16,13 @@ offset_bounds-t-d c =
     let d = length c.args.n.now in
     search (rules, row_inside d d (omega arith))
 
-pub slice_bounds-clear-count : goal.slice_bounds-clear-count
-slice_bounds-clear-count c =
+pub slice_bounds-fill-count : goal.slice_bounds-fill-count
+slice_bounds-fill-count c =
     let d = length c.args.n.now in
     search (rules, row_inside d d (omega arith))
 
-pub slice_bounds-clear-start : goal.slice_bounds-clear-start
-slice_bounds-clear-start c =
+pub slice_bounds-fill-start : goal.slice_bounds-fill-start
+slice_bounds-fill-start c =
     let d = length c.args.n.now in
     search (rules, row_inside d d (omega arith))
 
@@ -34,15 +35,14 @@ loop-i-init c =
     let t = a.t.now in
     let d = length n in
     let len = length t - d * d in
-    let part = c.clear.new.out in
+    let part = c.fill.new.self in
     let fits = row_inside d d (omega arith) in
-    let zeros : (j : ℕ) → get_or part j 0 ≡ 0 = λ j. ap (λ l. get_or l j 0) c.clear.ensures ∙ zero_at (length (take len (drop (d * d) t))) j in
-    let behind = cleared_behind t part (d * d) len (omega (arith, pre.2)) (omega (arith, length-take len (drop (d * d) t), length-drop (d * d) t)) zeros in (
-      omega (arith, pre.1),
+    let zeros : (j : ℕ) → get_or part j 0 ≡ 0 = λ j. ap (λ l. get_or l j 0) (c.fill.ensures.after (λ y h. h)) ∙ zero_at (length (take len (drop (d * d) t))) j in
+    let behind = cleared_behind t part (d * d) len (omega (arith, pre.1)) (omega (arith, length-take len (drop (d * d) t), length-drop (d * d) t)) zeros in (
+      omega (arith, pre.0),
       search rules,
-      omega arith,
-      begun_none p n _ (λ k l. omega (arith, behind k l, prepared_positive pre.0)),
-      begins n pre.3 (omega (arith, pre.1)) (c.copy.ensures p pre.3),
+      begun_none p n _ (λ k l. omega (arith, behind k l, prepared_positive (prepared a.m))),
+      begins n pre.2 (omega (arith, pre.0)) (subst (Residues p (poly p n)) (sym c.copy_from_slice.ensures.after) (residues_self pre.2)),
     )
 
 pub fill_row-requires : goal.fill_row-requires
@@ -50,17 +50,17 @@ fill_row-requires c =
     let pre = c.requires in
     let inv = c.loop-i.invariant in
     record {
-      prepared = (pre.0, omega arith, inv.0, omega (arith, pre.2, inv.1), pre.3);
-      begun_table = (inv.3, inv.4);
+      i_bound = (omega arith, inv.0, omega (arith, pre.1, inv.1), pre.2);
+      begun_table = (inv.2, inv.3);
     }
 
 pub loop-i-preserved : goal.loop-i-preserved
 loop-i-preserved c =
     let inv = c.loop-i.invariant in
     let filled = c.fill_row in
-    (omega (arith, inv.0), omega (arith, inv.1), omega arith, filled.ensures.0, filled.ensures.1)
+    (omega (arith, inv.0), omega (arith, inv.1), filled.ensures.0, filled.ensures.1)
 
 pub returns : goal.returns
 returns c =
     let loop = c.loop-i in
-    begun_all c.args.m.p c.args.n.now loop.t loop.i (omega arith) loop.invariant.3
+    begun_all c.args.m.p c.args.n.now loop.t loop.i (omega arith) loop.invariant.2

@@ -27,7 +27,7 @@ slice_bounds-widen-end c =
 
 pub times_x-requires : goal.times_x-requires
 times_x-requires c =
-    (c.requires.prepared.0, omega arith, c.requires.prepared.2, c.requires.begun_table.1.reduced, c.requires.prepared.4)
+    (omega arith, c.requires.i_bound.1, c.requires.begun_table.1.reduced, c.requires.i_bound.3)
 
 pub returns : goal.returns
 returns c =
@@ -41,7 +41,7 @@ returns c =
       length-drop at a.t.now,
       row_inside d a.i (omega arith),
     ) in (
-      begun_more a.m.p a.n.now a.t.now a.i (at + d - at) a.r.now widened.new.out c.requires.prepared.1 c.requires.prepared.3 (omega arith) same
+      begun_more a.m.p a.n.now a.t.now a.i (at + d - at) a.r.now widened.new.out c.requires.i_bound.0 c.requires.i_bound.2 (omega arith) same
           c.requires.begun_table.0 c.requires.begun_table.1 (λ k l. widened.ensures k (omega arith)),
       subst (λ e. RemainderOf a.m.p d (monic_of a.m.p a.n.now) (x_to a.m.p e) c.times_x.new.r) (omega arith)
           (next_power (d + a.i) c.requires.begun_table.1 c.times_x.ensures),

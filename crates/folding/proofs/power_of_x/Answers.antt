@@ -4,7 +4,7 @@ use Rattle.series.specs.Series.{conv}
 use Rattle.series.specs.Reversal.{shift}
 use Rattle.zmod.specs.Zmod.{Zmod}
 use Rattle.zmod.specs.Residues.{poly}
-use Rattle.barrett.specs.Modulus.{prepared_below}
+use Rattle.barrett.specs.Modulus.{prepared, prepared_below}
 use Rattle.modulo.specs.Modulo.{RemainderOf}
 use Rattle.modulo.specs.Power.{x_to, power_turn, power_ends}
 use Rattle.folding.specs.Table.{Table}
@@ -12,23 +12,22 @@ use Rattle.folding.proofs.power_of_x.Goals as goal
 
 pub prepare-requires : goal.prepare-requires
 prepare-requires c =
-    (c.requires.prepared.0, c.requires.prepared.2, c.requires.r_len.0, c.requires.r_len.1, c.requires.r_len.3)
+    (c.requires.p_bound.1, c.requires.r_len.0, c.requires.r_len.1, c.requires.r_len.3)
 
-pub begin-i-requires : goal.begin-i-requires
-begin-i-requires c =
-    (omega (arith, c.requires.prepared.3, c.requires.r_len.0), c.requires.prepared.1, prepared_below c.requires.prepared.0)
+pub begin-top-requires : goal.begin-top-requires
+begin-top-requires c =
+    (omega (arith, c.requires.p_bound.2, c.requires.r_len.0), c.requires.p_bound.0, prepared_below (prepared c.args.m))
 
 pub loop-i-init : goal.loop-i-init
 loop-i-init c =
     let a = c.args in
     let p = a.m.p in
-    let begin = c.begin-i in
+    let begin = c.begin-top in
     let same : length c.prepare.new.r ≡ length a.g.now - 1 = omega (arith, c.requires.r_len.0) in (
       omega (arith, same),
       refl,
       refl,
       refl,
-      begin.ensures.0,
       subst (λ k. RemainderOf p k (poly p a.g.now) (x_to p (p / 2 ^ begin.result)) begin.new.r) same (begin.ensures.1 (poly p a.g.now)),
     )
 
@@ -37,17 +36,16 @@ square_modulo-requires c =
     let a = c.args in
     let inv = c.loop-i.invariant in
     let same : length a.r.now ≡ length c.loop-i.r = omega (arith, c.requires.r_len.0, inv.0) in record {
-      prepared = (
-        c.requires.prepared.0,
+      bit_bound = (
         omega arith,
-        omega (arith, c.requires.prepared.3, inv.0),
-        omega (arith, c.requires.prepared.4, inv.0),
+        omega (arith, c.requires.p_bound.2, inv.0),
+        omega (arith, c.requires.p_bound.3, inv.0),
         omega (arith, c.requires.r_len.5, same, inv.3),
         omega (arith, c.requires.r_len.2, same, inv.1),
         omega (arith, c.requires.r_len.4, same, inv.2),
         subst (λ k. length c.prepare.new.t ≡ k * (k + 3)) same (omega (arith, c.requires.r_len.3)),
       );
-      reduced = (inv.5.reduced, c.prepare.ensures.0);
+      reduced = (inv.4.reduced, c.prepare.ensures.0);
     }
 
 pub loop-i-preserved : goal.loop-i-preserved
@@ -69,8 +67,7 @@ loop-i-preserved c =
       omega (arith, inv.1, square.auto),
       omega (arith, inv.2, square.auto),
       omega (arith, inv.3, square.auto),
-      omega (arith, inv.4),
-      power_turn p d g p loop.i loop.r s (omega (arith, c.loop-i-test)) inv.5 squared,
+      power_turn p d g p loop.i loop.r s (omega (arith, c.loop-i-test)) inv.4 squared,
     )
 
 pub returns : goal.returns
@@ -78,4 +75,4 @@ returns c =
     let a = c.args in
     let loop = c.loop-i in
     let p = a.m.p in
-    power_ends p (length a.g.now - 1) (poly p a.g.now) p loop.i loop.r (omega arith) loop.invariant.5
+    power_ends p (length a.g.now - 1) (poly p a.g.now) p loop.i loop.r (omega arith) loop.invariant.4

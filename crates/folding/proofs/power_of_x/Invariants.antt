@@ -1,4 +1,4 @@
-use Rattle.std.proofs.Common.{length, ◌-◌, ◌/◌, ◌^◌, ◌≡◌, ◌≤◌}
+use Rattle.std.proofs.Common.{length, ◌-◌, ◌/◌, ◌^◌, ◌≡◌}
 use Rattle.zmod.specs.Residues.{poly}
 use Rattle.modulo.specs.Modulo.{RemainderOf}
 use Rattle.modulo.specs.Power.{x_to}
@@ -6,8 +6,5 @@ use Rattle.folding.proofs.power_of_x.Given as goal
 
 abbrev pub invariant-loop-i : goal.invariant-loop-i
 invariant-loop-i l =
-    (length l.r ≡ length l.g - 1) × (length l.q ≡ length l.initial.q) × (length l.e ≡ length l.initial.e) × (length l.acc ≡ length l.initial.acc) × (l.i ≤ 28)
+    (length l.r ≡ length l.g - 1) × (length l.q ≡ length l.initial.q) × (length l.e ≡ length l.initial.e) × (length l.acc ≡ length l.initial.acc)
     × RemainderOf l.m.p (length l.g - 1) (poly l.m.p l.g) (x_to l.m.p (l.m.p / 2 ^ l.i)) l.r
-
-abbrev pub decreases-loop-i : goal.decreases-loop-i
-decreases-loop-i l = l.i

@@ -7,8 +7,8 @@ pub add_reduced-requires : goal.add_reduced-requires
 add_reduced-requires c =
     let a = c.args in
     let pre = c.requires in record {
-      prepared = (pre.0, omega (arith, pre.2), pre.3 _);
-      reduced = ((c.shift_up.ensures a.m.p pre.3).reduced, pre.4);
+      len_bound = (omega (arith, pre.1), pre.2 _);
+      reduced = ((c.shift_up.ensures a.m.p pre.2).reduced, pre.3);
     }
 
 pub returns : goal.returns
@@ -18,5 +18,5 @@ returns c =
     let p = a.m.p in
     let shifted = c.shift_up in
     let added = c.add_reduced in
-    times_x_is p _ a.n.now a.r.now shifted.new.r added.new.out pre.1 pre.2 (omega (arith, pre.2)) (omega (arith, pre.2)) refl
-    (shifted.ensures p pre.3) added.ensures
+    times_x_is p _ a.n.now a.r.now shifted.new.r added.new.out pre.0 pre.1 (omega (arith, pre.1)) (omega (arith, pre.1)) refl
+    (shifted.ensures p pre.2) added.ensures

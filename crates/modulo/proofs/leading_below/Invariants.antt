@@ -1,8 +1,5 @@
-use Rattle.std.proofs.Common.{◌/◌, ◌<◌, ◌^◌, ◌≤◌}
+use Rattle.std.proofs.Common.{◌/◌, ◌<◌, ◌^◌}
 use Rattle.modulo.proofs.leading_below.Given as goal
 
 abbrev pub invariant-loop-i : goal.invariant-loop-i
-invariant-loop-i l = (l.i ≤ 28) × (l.p / 2 ^ l.i < l.d)
-
-abbrev pub decreases-loop-i : goal.decreases-loop-i
-decreases-loop-i l = l.i
+invariant-loop-i l = l.p / 2 ^ l.i < l.d

@@ -1,5 +1,5 @@
 -- `modulo::negated` meets its contract. The invariant: the words before k are stored. Assumes nothing.
-use Rattle.std.proofs.Common.{ap, arith, length-set, refl, rules, sym}
+use Rattle.std.proofs.Common.{ap, arith, length-set, refl, sym}
 use Rattle.slices.specs.Filling.{filled_none, filled_more}
 use Rattle.series.specs.Series.{negs}
 use Rattle.zmod.specs.Zmod.{Zmod, minus}
@@ -10,11 +10,7 @@ use Rattle.modulo.proofs.negated.Goals as goal
 pub loop-k-init : goal.loop-k-init
 loop-k-init c =
     let a = c.args in
-    (refl, omega arith, filled_none (Of a.p (negs (Zmod a.p) (poly a.p a.a.now))) a.out.now)
-
-pub bounds-a-k : goal.bounds-a-k
-bounds-a-k c =
-    search (rules, c.loop-k.invariant.0, c.requires.0)
+    (refl, filled_none (Of a.p (negs (Zmod a.p) (poly a.p a.a.now))) a.out.now)
 
 pub negate-requires : goal.negate-requires
 negate-requires c =
@@ -25,8 +21,7 @@ loop-k-preserved c =
     let loop = c.loop-k in
     let a = c.args in (
       simp length-set loop.invariant.0,
-      omega arith,
-      filled_more (Of a.p (negs (Zmod a.p) (poly a.p a.a.now))) loop.out loop.k _ (omega (arith, loop.invariant.0)) loop.invariant.2
+      filled_more (Of a.p (negs (Zmod a.p) (poly a.p a.a.now))) loop.out loop.k _ (omega (arith, loop.invariant.0)) loop.invariant.1
           (residue_same (ap (minus a.p) (sym (poly_at a.p a.a.now loop.k))) c.negate.ensures),
     )
 
@@ -34,4 +29,4 @@ pub returns : goal.returns
 returns c =
     let loop = c.loop-k in
     let a = c.args in
-    residues_filled {a = negs (Zmod a.p) (poly a.p a.a.now)} (omega (arith, c.requires.1 0)) (λ j l. loop.invariant.2 j (omega (arith, loop.invariant.0)))
+    residues_filled {a = negs (Zmod a.p) (poly a.p a.a.now)} (omega (arith, c.requires.1 0)) (λ j l. loop.invariant.1 j (omega (arith, loop.invariant.0)))

@@ -1,4 +1,4 @@
-use Rattle.std.proofs.Common.{length, ◌-◌, ◌≡◌, ◌≤◌}
+use Rattle.std.proofs.Common.{length, ◌≡◌}
 use Rattle.slices.specs.Filling.{Filled}
 use Rattle.series.specs.Series.{negs}
 use Rattle.zmod.specs.Zmod.{Zmod}
@@ -7,7 +7,4 @@ use Rattle.poly.specs.Stored.{Of}
 use Rattle.modulo.proofs.negated.Given as goal
 
 abbrev pub invariant-loop-k : goal.invariant-loop-k
-invariant-loop-k l = (length l.out ≡ length l.initial.out) × (l.k ≤ length l.initial.out) × Filled (Of l.p (negs (Zmod l.p) (poly l.p l.a))) l.out l.k
-
-abbrev pub decreases-loop-k : goal.decreases-loop-k
-decreases-loop-k l = length l.initial.out - l.k
+invariant-loop-k l = (length l.out ≡ length l.initial.out) × Filled (Of l.p (negs (Zmod l.p) (poly l.p l.a))) l.out l.k

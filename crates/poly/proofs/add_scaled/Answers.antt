@@ -8,22 +8,19 @@ use Rattle.poly.proofs.Laws.{add_nothing, add_scaled_turn}
 use Rattle.poly.proofs.add_scaled.Goals as goal
 
 pub loop-k-init : goal.loop-k-init
-loop-k-init c = (search rules, search rules, stored_none _ _)
+loop-k-init c = stored_none _ _
 
 pub loop-k-preserved : goal.loop-k-preserved
 loop-k-preserved c =
     let loop = c.loop-k in
-    let at = c.args in (
-      search rules,
-      search rules,
-      stored_more _ at.out.now loop.out loop.k c.plus_multiple.result (search rules) loop.invariant.2
-          (add_scaled_turn at.p at.c (get_or loop.out loop.k 0) c.plus_multiple.result at.out.now at.a.now loop.k
-          (word_kept _ _ _ _ loop.invariant.2) c.plus_multiple.ensures),
-    )
+    let at = c.args in
+    stored_more _ at.out.now loop.out loop.k c.plus_multiple.result (search rules) loop.invariant
+    (add_scaled_turn at.p at.c (get_or loop.out loop.k 0) c.plus_multiple.result at.out.now at.a.now loop.k
+    (word_kept _ _ _ _ loop.invariant) c.plus_multiple.ensures)
 
 pub returns : goal.returns
 returns c =
     let at = c.args in
     let loop = c.loop-k in
     stored_front at.p _ at.out.now loop.out loop.k (search rules) c.requires.1
-    (λ j le lt. add_nothing at.p at.c at.out.now at.a.now j (omega arith)) loop.invariant.2
+    (λ j le lt. add_nothing at.p at.c at.out.now at.a.now j (omega arith)) loop.invariant

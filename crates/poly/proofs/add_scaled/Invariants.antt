@@ -1,4 +1,3 @@
-use Rattle.std.proofs.Common.{length, min, ◌-◌, ◌≡◌, ◌≤◌}
 use Rattle.series.specs.Series.{sums, scaled}
 use Rattle.zmod.specs.Zmod.{Zmod, mk}
 use Rattle.zmod.specs.Residues.{poly}
@@ -8,7 +7,4 @@ use Rattle.poly.proofs.add_scaled.Given as goal
 
 abbrev pub invariant-loop-k : goal.invariant-loop-k
 invariant-loop-k l =
-    (l.n ≡ min (length l.initial.out) (length l.a)) × (l.k ≤ l.n) × Stored (Of l.p (sums (Zmod l.p) (poly l.p l.initial.out) (scaled (Zmod l.p) (mk l.p l.c) (poly l.p l.a)))) l.initial.out l.out l.k
-
-abbrev pub decreases-loop-k : goal.decreases-loop-k
-decreases-loop-k l = l.n - l.k
+    Stored (Of l.p (sums (Zmod l.p) (poly l.p l.initial.out) (scaled (Zmod l.p) (mk l.p l.c) (poly l.p l.a)))) l.initial.out l.out l.k

@@ -14,7 +14,7 @@ span-requires c = record {
 pub returns : goal.returns
 returns c =
     let at = c.args in
-    let from = c.over-from in
-    coefficient_class at.p at.a.now at.b.now at.k (mk at.p at.start) from.result c.most-to.result c.reduce.result
+    let from = c.saturating_sub-from in
+    coefficient_class at.p at.a.now at.b.now at.k (mk at.p at.start) from.result c.max-to.result c.reduce.result
     c.span.result
     from.ensures (omega arith) c.span.ensures.result_value c.reduce.ensures

@@ -9,7 +9,7 @@ use Rattle.poly.proofs.dot.Goals.{After-product-s}
 use Rattle.poly.proofs.dot.Goals as goal
 
 pub loop-i-init : goal.loop-i-init
-loop-i-init c = (search rules, search rules, search rules, λ p. sym (plus_zero p _))
+loop-i-init c = (search rules, λ p. sym (plus_zero p _))
 
 -- the product of this turn
 small : (c : After-product-s) → c.product-s.result ≤ 72057593501057025
@@ -24,10 +24,8 @@ pub loop-i-preserved : goal.loop-i-preserved
 loop-i-preserved c =
     let at = c.args in
     let loop = c.loop-i in (
-      search rules,
-      search rules,
       omega (arith, small c),
-      λ p. partial_more p at.a.now at.b.now at.k at.from loop.i loop.s c.product-s.result c.product-s.ensures (loop.invariant.3 p),
+      λ p. partial_more p at.a.now at.b.now at.k at.from loop.i loop.s c.product-s.result c.product-s.ensures (loop.invariant.1 p),
     )
 
 pub returns : goal.returns
@@ -35,6 +33,6 @@ returns c =
     let at = c.args in
     let end : at.to ≡ c.loop-i.i = omega arith in
     record {
-      by_index = λ p. ap (partial p at.a.now at.b.now at.k) end ∙ c.loop-i.invariant.3 p;
+      by_index = λ p. ap (partial p at.a.now at.b.now at.k) end ∙ c.loop-i.invariant.1 p;
       upper_bound = omega arith;
     }

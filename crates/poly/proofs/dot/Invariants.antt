@@ -5,7 +5,4 @@ use Rattle.poly.proofs.dot.Given as goal
 
 abbrev pub invariant-loop-i : goal.invariant-loop-i
 invariant-loop-i l =
-    (l.from ≤ l.i) × (l.i ≤ l.to) × (l.s ≤ (l.i - l.from) * 72057593501057025) × ((p : ℕ) → partial p l.a l.b l.k l.i ≡ plus p (partial p l.a l.b l.k l.from) (mk p l.s))
-
-abbrev pub decreases-loop-i : goal.decreases-loop-i
-decreases-loop-i l = l.to - l.i
+    (l.s ≤ (l.i - l.from) * 72057593501057025) × ((p : ℕ) → partial p l.a l.b l.k l.i ≡ plus p (partial p l.a l.b l.k l.from) (mk p l.s))

@@ -30,7 +30,7 @@ loop-i-preserved c =
       c.reduce-s.ensures.below,
       span_turn at.p at.a.now at.b.now at.k (mk at.p at.start) at.from loop.i (loop.i + at.size) loop.s c.dot.result
           c.reduce-s.result
-          (c.reduce-s.ensures.class ∙ ap (λ n. mk at.p (n + c.dot.result)) c.wide.ensures) loop.invariant.3
+          (c.reduce-s.ensures.class ∙ ap (λ n. mk at.p (n + c.dot.result)) c.from.ensures) loop.invariant.3
           (c.dot.ensures.by_index at.p),
     )
 
@@ -51,7 +51,7 @@ returns c =
     let at = c.args in
     let loop = c.loop-i in record {
       result_value = span_turn at.p at.a.now at.b.now at.k (mk at.p at.start) at.from loop.i at.to loop.s c.dot-2.result
-          (c.wide-2.result + c.dot-2.result)
-          (ap (λ n. mk at.p (n + c.dot-2.result)) c.wide-2.ensures) loop.invariant.3 (c.dot-2.ensures.by_index at.p);
+          (c.from-2.result + c.dot-2.result)
+          (ap (λ n. mk at.p (n + c.dot-2.result)) c.from-2.ensures) loop.invariant.3 (c.dot-2.ensures.by_index at.p);
       upper_bound = omega arith;
     }

@@ -21,7 +21,7 @@ overflow_add-half-2 c =
 pub returns : goal.returns
 returns c =
     let at = c.args in
-    let from = c.over-from in
-    square_class at.p at.a.now at.k from.result c.most-to.result c.reduce.result c.span-half.result
+    let from = c.saturating_sub-from in
+    square_class at.p at.a.now at.k from.result c.max-to.result c.reduce.result c.span-half.result
     c.middle.result
     from.ensures (omega arith) c.middle.ensures c.span-half.ensures.result_value c.reduce.ensures

@@ -1,5 +1,5 @@
 -- `quotients::invert` meets its contract. The invariant: the words before k are those of the inverse, and zeros follow. Assumes nothing.
-use Rattle.std.proofs.Common.{ap, arith, length, length-set, refl, rules, subst, sym, ◌-◌, ◌∙◌}
+use Rattle.std.proofs.Common.{ap, arith, length, length-set, refl, rules, subst, sym, ◌∙◌}
 use Rattle.ring.specs.Ring
 use Rattle.zmod.specs.Zmod.{Zmod, mk}
 use Rattle.zmod.specs.Residues.{poly, poly_at, residue_same}
@@ -12,8 +12,6 @@ loop-k-init c =
     let pre = c.requires in
     let p = a.p in (
       refl,
-      omega arith,
-      omega (arith, pre.4, c.put_one.auto),
       subst (Inverted p (poly p a.c.now) 1) (sym c.put_one.ensures)
           (inverted_first p (poly p a.c.now) (poly_at p a.c.now 0 ∙ ap (mk p) pre.3) (length a.t.now) pre.0 pre.4),
     )
@@ -24,7 +22,7 @@ coefficient-s-requires c =
     let loop = c.loop-k in
     record {
       start_lt_p = (omega (arith, pre.0), pre.1, omega (arith, pre.5, loop.invariant.0, c.put_one.auto, c.loop-k-test));
-      reduced = (pre.2, loop.invariant.3.reduced);
+      reduced = (pre.2, loop.invariant.1.reduced);
     }
 
 pub negate-requires : goal.negate-requires
@@ -37,11 +35,9 @@ loop-k-preserved c =
     let p = a.p in
     let loop = c.loop-k in (
       simp length-set loop.invariant.0,
-      omega arith,
-      omega (arith, loop.invariant.0),
       inverted_more p (poly p a.c.now) (poly_at p a.c.now 0 ∙ ap (mk p) c.requires.3) loop.k c.negate.result
           c.coefficient-s.result loop.t
-          loop.invariant.1 (search rules) loop.invariant.3 (residue_same (Ring.zero-add (Zmod p) _) c.coefficient-s.ensures)
+          (omega arith) (search rules) loop.invariant.1 (residue_same (Ring.zero-add (Zmod p) _) c.coefficient-s.ensures)
           c.negate.ensures,
     )
 
@@ -52,4 +48,4 @@ shape_of-t c =
 pub returns : goal.returns
 returns c =
     let loop = c.loop-k in
-    (loop.invariant.3.reduced, λ k l. loop.invariant.3.inverse k (omega (arith, loop.invariant.0, c.put_one.auto)))
+    (loop.invariant.1.reduced, λ k l. loop.invariant.1.inverse k (omega (arith, loop.invariant.0, c.put_one.auto)))

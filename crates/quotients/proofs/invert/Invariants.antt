@@ -1,11 +1,7 @@
-use Rattle.std.proofs.Common.{length, ◌-◌, ◌≡◌, ◌≤◌}
-use Rattle.ring.specs.Ring
+use Rattle.std.proofs.Common.{length, ◌≡◌}
 use Rattle.zmod.specs.Residues.{poly}
 use Rattle.quotients.specs.Quotient.{Inverted}
 use Rattle.quotients.proofs.invert.Given as goal
 
 abbrev pub invariant-loop-k : goal.invariant-loop-k
-invariant-loop-k l = (length l.t ≡ length l.initial.t) × (1 ≤ l.k) × (l.k ≤ length l.initial.t) × Inverted l.p (poly l.p l.c) l.k l.t
-
-abbrev pub decreases-loop-k : goal.decreases-loop-k
-decreases-loop-k l = length l.initial.t - l.k
+invariant-loop-k l = (length l.t ≡ length l.initial.t) × Inverted l.p (poly l.p l.c) l.k l.t

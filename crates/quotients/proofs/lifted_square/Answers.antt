@@ -3,7 +3,7 @@ use Rattle.std.proofs.Common.{arith, drop, length, length-drop, length-set, leng
 use Rattle.series.specs.Series.{conv}
 use Rattle.zmod.specs.Zmod.{Zmod}
 use Rattle.zmod.specs.Residues.{poly}
-use Rattle.barrett.specs.Modulus.{prepared_positive, prepared_below}
+use Rattle.barrett.specs.Modulus.{prepared, prepared_positive, prepared_below}
 use Rattle.rows.specs.Room.{turns_fit}
 use Rattle.quotients.specs.Lifted.{lifted}
 use Rattle.quotients.proofs.lifted_square.Goals as goal
@@ -14,14 +14,14 @@ slice_bounds-square-count-2 c =
 
 pub slice_bounds-square-start-2 : goal.slice_bounds-square-start-2
 slice_bounds-square-start-2 c =
-    search (rules, length-set c.args.out.now 0 0, c.requires.prepared.2, c.requires.out_nonzero.0)
+    search (rules, length-set c.args.out.now 0 0, c.requires.reduced.1, c.requires.out_nonzero.0)
 
 pub square-requires : goal.square-requires
 square-requires c =
     let a = c.args in
     let size = length-set a.out.now 0 0 in record {
-      prepared = (c.requires.prepared.0, c.requires.prepared.1, turns_fit _ _ a.m.p (omega (arith, prepared_below c.requires.prepared.0)) (omega (arith, c.requires.prepared.3)));
-      acc_len = (simp (length-take, length-drop) (omega (arith, size, c.requires.out_nonzero.1)), c.requires.out_nonzero.2, omega (arith, c.requires.prepared.3));
+      reduced = (c.requires.reduced.0, turns_fit _ _ a.m.p (omega (arith, prepared_below (prepared c.args.m))) (omega (arith, c.requires.reduced.2)));
+      acc_len = (simp (length-take, length-drop) (omega (arith, size, c.requires.out_nonzero.1)), c.requires.out_nonzero.2, omega (arith, c.requires.reduced.2));
     }
 
 pub shape_of-out : goal.shape_of-out
@@ -42,4 +42,4 @@ returns c =
       length-drop a.bit (set a.out.now 0 0),
     ) in
     lifted p a.bit (length (set a.out.now 0 0) - a.bit) (conv (Zmod p) (poly p a.a.now) (poly p a.a.now)) a.out.now part
-    (prepared_positive c.requires.prepared.0) c.requires.prepared.2 c.requires.out_nonzero.0 (omega (arith, size)) long c.square.ensures
+    (prepared_positive (prepared c.args.m)) c.requires.reduced.1 c.requires.out_nonzero.0 (omega (arith, size)) long c.square.ensures

@@ -4,4 +4,4 @@ use Rattle.quotients.proofs.put_one.Goals as goal
 
 pub returns : goal.returns
 returns c =
-    ap (λ l. set l 0 1) c.clear.ensures
+    ap (λ l. set l 0 1) (c.fill.ensures.after (λ y h. h))

@@ -12,31 +12,31 @@ pub lifted_square-requires : goal.lifted_square-requires
 lifted_square-requires c =
     let long = c.requires.g_len_bound in
     record {
-      prepared = (c.requires.prepared.0, c.requires.prepared.5, c.requires.prepared.6, omega (arith, c.requires.prepared.4, long.0));
-      out_nonzero = (omega (arith, long.2, long.6), long.3, omega (arith, c.requires.prepared.4, long.1));
+      reduced = (c.requires.p_bound.4, c.requires.p_bound.5, omega (arith, c.requires.p_bound.3, long.0));
+      out_nonzero = (omega (arith, long.2, long.6), long.3, omega (arith, c.requires.p_bound.3, long.1));
     }
 
 pub slice_bounds-divide-end : goal.slice_bounds-divide-end
 slice_bounds-divide-end c =
-    search (rules, c.requires.g_len_bound.2, c.requires.g_len_bound.3, c.requires.prepared.2.some)
+    search (rules, c.requires.g_len_bound.2, c.requires.g_len_bound.3, c.requires.p_bound.1.some)
 
 pub slice_bounds-divide-end-2 : goal.slice_bounds-divide-end-2
 slice_bounds-divide-end-2 c =
     let square = c.lifted_square in
-    simp length-take (omega (arith, square.auto, c.requires.g_len_bound.2, c.requires.g_len_bound.3, c.requires.prepared.2.some))
+    simp length-take (omega (arith, square.auto, c.requires.g_len_bound.2, c.requires.g_len_bound.3, c.requires.p_bound.1.some))
 
 pub divide-requires : goal.divide-requires
 divide-requires c =
     let a = c.args in
     let square = c.lifted_square in record {
-      prepared = (c.requires.prepared.0, c.requires.prepared.1, square.ensures.reduced, c.requires.prepared.2, c.requires.prepared.3);
+      p_bound = (c.requires.p_bound.0, square.ensures.reduced, c.requires.p_bound.1, c.requires.p_bound.2);
       g_len_bound = (
         omega (arith, c.requires.g_len_bound.0),
         omega (arith, square.auto, c.requires.g_len_bound.2),
-        omega (arith, square.auto, c.requires.g_len_bound.2, c.requires.g_len_bound.3, c.requires.prepared.2.some, length-take (length a.g.now) square.new.acc),
+        omega (arith, square.auto, c.requires.g_len_bound.2, c.requires.g_len_bound.3, c.requires.p_bound.1.some, length-take (length a.g.now) square.new.acc),
         c.requires.g_len_bound.4,
         c.requires.g_len_bound.5,
-        c.requires.prepared.4,
+        c.requires.p_bound.3,
       );
     }
 
@@ -46,9 +46,9 @@ returns c =
     let p = a.m.p in
     let square = c.lifted_square in
     let d = length a.g.now - 1 in
-    let few : Below (Zmod p) (suc (d - 1)) (poly p a.r.now) = poly_below p a.r.now (suc (d - 1)) (omega (arith, c.requires.prepared.4)) in
+    let few : Below (Zmod p) (suc (d - 1)) (poly p a.r.now) = poly_below p a.r.now (suc (d - 1)) (omega (arith, c.requires.p_bound.3)) in
     let product = degree_mul (Zmod p) (d - 1) (d - 1) (poly p a.r.now) (poly p a.r.now) few few in
     remainder_filled square.ensures
-    (below_mono (Zmod p) (a.bit + suc (d - 1 + (d - 1))) _ _ (omega (arith, c.requires.prepared.6, c.requires.g_len_bound.2, c.requires.g_len_bound.6, square.auto))
+    (below_mono (Zmod p) (a.bit + suc (d - 1 + (d - 1))) _ _ (omega (arith, c.requires.p_bound.5, c.requires.g_len_bound.2, c.requires.g_len_bound.6, square.auto))
     (lifted_below p a.bit (suc (d - 1 + (d - 1))) (conv (Zmod p) (poly p a.r.now) (poly p a.r.now)) product))
     c.divide.ensures

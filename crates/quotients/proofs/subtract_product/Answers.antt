@@ -1,6 +1,6 @@
 -- `quotients::subtract_product` meets its contract. Assumes nothing.
 use Rattle.std.proofs.Common.{arith, rules}
-use Rattle.barrett.specs.Modulus.{prepared_below}
+use Rattle.barrett.specs.Modulus.{prepared, prepared_below}
 use Rattle.rows.specs.Product.{reduced_fits}
 use Rattle.quotients.specs.Division.{filled_reduced, subtracted}
 use Rattle.quotients.proofs.subtract_product.Goals as goal
@@ -9,19 +9,19 @@ pub add_product-requires : goal.add_product-requires
 add_product-requires c =
     let a = c.args in
     let wide = c.widen in record {
-      a_in_bounds = (omega (arith, wide.auto, c.requires.q_len_bound.1), omega (arith, wide.auto, c.requires.q_len_bound.1, c.requires.q_len_bound.3), c.requires.q_len_bound.0, c.requires.prepared.1, omega (arith, prepared_below c.requires.prepared.0));
+      a_in_bounds = (omega (arith, wide.auto, c.requires.q_len_bound.1), omega (arith, wide.auto, c.requires.q_len_bound.1, c.requires.q_len_bound.3), c.requires.q_len_bound.0, c.requires.p_bound.0, omega (arith, prepared_below (prepared c.args.m)));
       by_index = (
-        reduced_fits wide.new.out c.requires.prepared.1 (filled_reduced a.m.p a.a.now wide.new.out c.requires.prepared.2 wide.ensures),
-        c.requires.prepared.3,
-        c.requires.prepared.4,
-        c.requires.prepared.5,
+        reduced_fits wide.new.out c.requires.p_bound.0 (filled_reduced a.m.p a.a.now wide.new.out c.requires.p_bound.1 wide.ensures),
+        c.requires.p_bound.2,
+        c.requires.p_bound.3,
+        c.requires.p_bound.4,
       );
     }
 
 pub remainders-requires : goal.remainders-requires
 remainders-requires c =
     record {
-      prepared = (c.requires.prepared.0, omega (arith, c.widen.auto, c.add_product.auto, c.requires.q_len_bound.1, c.requires.q_len_bound.2));
+      len_bound = omega (arith, c.widen.auto, c.add_product.auto, c.requires.q_len_bound.1, c.requires.q_len_bound.2);
       by_index = c.add_product.ensures.bounded;
     }
 

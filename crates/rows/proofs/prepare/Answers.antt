@@ -6,8 +6,8 @@ use Rattle.rows.proofs.prepare.Goals as goal
 pub returns : goal.returns
 returns c =
     let double = c.double in
-    let clear = c.clear in
+    let fill = c.fill in
     let a = c.args in
-    above_none a.a.now clear.new.out double.new.out (length a.e.now) (length clear.new.out - 3) clear.ensures (search rules) (search
+    above_none a.a.now fill.new.self double.new.out (length a.e.now) (length fill.new.self - 3) (fill.ensures.after (λ y e. e)) (search rules) (search
     rules) (search rules)
     double.ensures

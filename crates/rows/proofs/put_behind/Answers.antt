@@ -7,18 +7,17 @@ use Rattle.rows.proofs.put_behind.Goals as goal
 
 pub loop-k-init : goal.loop-k-init
 loop-k-init c =
-    (refl, omega arith, filled_none (Behind c.args.a.now) c.args.e.now)
+    (refl, filled_none (Behind c.args.a.now) c.args.e.now)
 
 pub loop-k-preserved : goal.loop-k-preserved
 loop-k-preserved c =
     let loop = c.loop-k in (
       simp length-set loop.invariant.0,
-      omega arith,
       filled_more (Behind c.args.a.now) loop.e loop.k _ (omega (arith, loop.invariant.0))
-          loop.invariant.2 c.behind.ensures,
+          loop.invariant.1 c.behind.ensures,
     )
 
 pub returns : goal.returns
 returns c =
     let loop = c.loop-k in
-    behind_all c.args.a.now loop.e (omega (arith, c.requires, loop.invariant.0)) (λ j l. loop.invariant.2 j (omega (arith, loop.invariant.0)))
+    behind_all c.args.a.now loop.e (omega (arith, c.requires, loop.invariant.0)) (λ j l. loop.invariant.1 j (omega (arith, loop.invariant.0)))

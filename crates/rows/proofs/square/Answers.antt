@@ -14,17 +14,17 @@ prepare-requires c =
 pub square_turns-requires : goal.square_turns-requires
 square_turns-requires c =
     let a = c.args in
-    let clear = c.clear in
-    let same : length a.acc.now ≡ length clear.new.out = omega arith in record {
+    let fill = c.fill in
+    let same : length a.acc.now ≡ length fill.new.self = omega arith in record {
       a_in_bounds = (omega arith, search rules);
       p_nonzero = (c.requires.p_nonzero.0, c.requires.p_nonzero.1, c.requires.p_nonzero.2, subst (λ n. 8 * turns (length a.a.now) n * a.p ≤ 2 ^ 36) same c.requires.p_nonzero.3);
-      above = (c.prepare.ensures, clear.ensures ∙ ap (λ n. replicate n 0) same);
+      above = (c.prepare.ensures, (fill.ensures.after (λ y e. e)) ∙ ap (λ n. replicate n 0) same);
     }
 
 pub returns : goal.returns
 returns c =
     let a = c.args in
     let turned = c.square_turns in
-    let same : length c.clear.new.out ≡ length a.acc.now = omega arith in
+    let same : length c.fill.new.self ≡ length a.acc.now = omega arith in
     subst (λ n. ProductSums (8 * turns (length a.a.now) n) a.p (conv (Zmod a.p) (poly a.p a.a.now) (poly a.p a.a.now))
     turned.new.acc) same turned.ensures

@@ -20,7 +20,7 @@ add_rows-requires c =
     in
     let a = c.args in
     let i = a.i in
-    let size = c.least-len.ensures in
+    let size = c.min-len.ensures in
     let low = c.requires.p_nonzero.2 in record {
       len_in_bounds = (
         omega (arith, size),
@@ -39,7 +39,7 @@ add_rows-requires c =
           (λ w x y z. row_more (get_or a.acc.now (i + i + j) 0) (take (length c.put.new.out - i) (drop i c.put.new.out)) j w x y z < 2 ^ 64)
           (omega (
             arith,
-            turn_fits a.p a.a.now c.put.new.out a.acc.now i c.least-len.result c.requires.i_in_bounds.0 (room) low
+            turn_fits a.p a.a.now c.put.new.out a.acc.now i c.min-len.result c.requires.i_in_bounds.0 (room) low
                 (get_or a.acc.now (i + i + j) 0) j,
             c.requires.above.1 (i + i + j),
           ));
@@ -59,10 +59,10 @@ returns c =
     in
     let a = c.args in
     let low = c.requires.p_nonzero.2 in
-    let size = c.least-len.ensures in (
+    let size = c.min-len.ensures in (
       above_more a.a.now c.put.new.out c.put-2.new.out a.i (room) c.put-2.ensures,
-      turned a.p a.a.now c.put.new.out a.acc.now a.i c.least-len.result c.requires.i_in_bounds.0 (room) low c.add_rows.new.acc
+      turned a.p a.a.now c.put.new.out a.acc.now a.i c.min-len.result c.requires.i_in_bounds.0 (room) low c.add_rows.new.acc
           (omega (arith, size)) size
-          (words (λ w x y z. RowsAdded a.acc.now (take (length c.put.new.out - a.i) (drop a.i c.put.new.out)) (a.i + a.i) c.least-len.result w x y z
+          (words (λ w x y z. RowsAdded a.acc.now (take (length c.put.new.out - a.i) (drop a.i c.put.new.out)) (a.i + a.i) c.min-len.result w x y z
           c.add_rows.new.acc) c.add_rows.ensures),
     )

@@ -1,5 +1,5 @@
 -- `rows::square_turns` meets its contract. Assumes nothing.
-use Rattle.std.proofs.Common.{arith, length, refl, rules}
+use Rattle.std.proofs.Common.{arith, length, refl, rules, ◌+◌}
 use Rattle.rows.specs.Square.{added_none, added_more, added_end, added_all, turn_counts, turn_room, turn_below}
 use Rattle.rows.proofs.square_turns.Goals as goal
 
@@ -47,3 +47,11 @@ returns c =
     let a = c.args in
     let loop = c.loop-i in
     added_all a.p a.a.now loop.i _ loop.acc loop.invariant.3 (omega arith) loop.invariant.5
+
+pub returns-else-acc-i : goal.returns-else-acc-i
+returns-else-acc-i c =
+    let a = c.args in
+    let loop = c.loop-i in
+    let more = turn_counts a.p a.a.now loop.i (length a.a.now) (length a.acc.now) loop.invariant.2 (omega arith) (omega arith) in
+    added_all a.p a.a.now (loop.i + 4) _ c.square_turn.new.acc more (omega arith)
+    (added_more a.p a.a.now loop.i loop.acc _ (search rules) loop.invariant.5 c.square_turn.ensures.1)

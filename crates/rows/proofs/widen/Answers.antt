@@ -6,18 +6,17 @@ use Rattle.rows.proofs.widen.Goals as goal
 
 pub loop-k-init : goal.loop-k-init
 loop-k-init c =
-    (refl, omega arith, filled_none (Same c.args.a.now) c.args.out.now)
+    (refl, filled_none (Same c.args.a.now) c.args.out.now)
 
 pub loop-k-preserved : goal.loop-k-preserved
 loop-k-preserved c =
     let loop = c.loop-k in (
       simp length-set loop.invariant.0,
-      omega arith,
       filled_more (Same c.args.a.now) loop.out loop.k _ (omega (arith, loop.invariant.0))
-          loop.invariant.2 c.word.ensures,
+          loop.invariant.1 c.word.ensures,
     )
 
 pub returns : goal.returns
 returns c =
     let loop = c.loop-k in
-    λ j l. loop.invariant.2 j (omega (arith, loop.invariant.0))
+    λ j l. loop.invariant.1 j (omega (arith, loop.invariant.0))

@@ -1,5 +1,5 @@
 -- `substitution::multiply_add` meets its contract. Assumes nothing.
-use Rattle.std.proofs.Common.{arith, take}
+use Rattle.std.proofs.Common.{arith}
 use Rattle.series.specs.Series.{conv}
 use Rattle.zmod.specs.Zmod.{Zmod}
 use Rattle.zmod.specs.Residues.{poly}
@@ -9,15 +9,15 @@ use Rattle.substitution.proofs.multiply_add.Goals as goal
 pub add_times-requires : goal.add_times-requires
 add_times-requires c =
     let a = c.args in
+    let pre = c.requires in
     record {
-      prepared = (
-        c.requires.prepared.0,
-        c.requires.prepared.1,
-        c.requires.prepared.2,
-        c.requires.prepared.3,
-        multiple_low a.m.p a.c a.b.now c.scale.new.out c.scale.ensures c.requires.prepared.5 c.requires.prepared.4,
+      reduced = (
+        pre.reduced.0,
+        pre.reduced.1,
+        pre.reduced.2,
+        multiple_low a.m.p a.c a.b.now c.scale.new.out c.scale.ensures pre.reduced.4 pre.reduced.3,
       );
-      from_in_bounds = (c.requires.from_in_bounds.0, c.requires.from_in_bounds.1, c.requires.from_in_bounds.2, omega (arith, c.requires.from_in_bounds.3, c.scale.auto), c.requires.from_in_bounds.4);
+      lengths = (pre.lengths.0, pre.lengths.1, omega (arith, pre.lengths.2, c.scale.auto), pre.lengths.3);
     }
 
 pub returns : goal.returns
@@ -25,5 +25,5 @@ returns c =
     let scale = c.scale in
     let a = c.args in
     let p = a.m.p in
-    multiple_add p a.c a.b.now scale.new.out scale.ensures (conv (Zmod p) (poly p a.a.now) (poly p (take a.from a.h.now)))
-    c.add_times.new.h (omega (arith, c.requires.from_in_bounds.3, scale.auto, c.add_times.auto)) c.add_times.ensures
+    multiple_add p a.c a.b.now scale.new.out scale.ensures (conv (Zmod p) (poly p a.a.now) (poly p a.h.now)) c.add_times.new.h
+    (omega (arith, c.requires.lengths.2, scale.auto, c.add_times.auto)) c.add_times.ensures

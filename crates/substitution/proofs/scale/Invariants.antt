@@ -1,4 +1,4 @@
-use Rattle.std.proofs.Common.{List, get_or, length, ℕ, ◌*◌, ◌-◌, ◌≡◌, ◌≤◌}
+use Rattle.std.proofs.Common.{List, get_or, length, ℕ, ◌*◌, ◌≡◌}
 use Rattle.slices.specs.Filling.{Filled}
 use Rattle.substitution.proofs.scale.Given as goal
 
@@ -6,7 +6,4 @@ abbrev pub Multiple : ℕ → List ℕ → ℕ → ℕ → Type 0
 Multiple c a j v = v ≡ c * get_or a j 0
 
 abbrev pub invariant-loop-k : goal.invariant-loop-k
-invariant-loop-k l = (length l.out ≡ length l.initial.out) × (l.k ≤ length l.initial.out) × Filled (Multiple l.c l.a) l.out l.k
-
-abbrev pub decreases-loop-k : goal.decreases-loop-k
-decreases-loop-k l = length l.initial.out - l.k
+invariant-loop-k l = (length l.out ≡ length l.initial.out) × Filled (Multiple l.c l.a) l.out l.k
