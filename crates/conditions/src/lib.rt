@@ -48,7 +48,7 @@ fn conditions(
         return false;
     }
     let k = squares.len();
-    let from = poly::most(3, known);
+    let from = known.max(3);
     expansion::recurs(v, m, h, from, e, &mut acc[..k], squares)
 }
 

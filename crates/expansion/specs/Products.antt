@@ -2,7 +2,6 @@
 -- Assumes nothing.
 use Rattle.std.specs.Prelude.{◌≡◌, refl, ℕ, zero, suc, ◌+◌, ◌-◌, ◌≤◌, ◌<◌, List, length, get_or, take, drop}
 use Rattle.std.proofs.Common.{◌∙◌, ap, ap₂, arith}
-use Rattle.ring.specs.Ring
 use Rattle.ring.specs.Ring.{CRing}
 use Rattle.series.specs.Series.{Seq, conv, sum, conv_sum, sum_same}
 use Rattle.zmod.specs.Zmod.{Zmod, times}

@@ -10,7 +10,6 @@ ghost use Rattle.sheet.specs.Values.{question};
 ghost use Rattle.sheet.specs.Ready.{Ready};
 ghost use Rattle.expansion.specs.Products.{Squares};
 ghost use Rattle.expansion.specs.Multiple.{Multiple};
-ghost use Rattle.barrett.specs.Modulus.{Prepared};
 ghost use Rattle.expansion.specs.Equations.{ReducedTo};
 
 use barrett::Modulus;
@@ -30,10 +29,8 @@ pub fn reverse(a: &[u32], out: &mut [u32])
     ensures { Filled (λ i w. w ≡ get_or a.now (length a.now - 1 - i) 0) out.new (length a.now) }
 {
     let n = a.len();
-    let mut i = 0;
-    while i < n {
+    for i in 0..n {
         out[i] = a[n - 1 - i];
-        i += 1;
     }
 }
 
@@ -53,7 +50,7 @@ fn expansion_at(v: Values, s: &[u32], i: usize, y: u32, z: u32) -> u32
         y,
         s[i - 1],
         z,
-        s[poly::over(i, 2)],
+        s[i.saturating_sub(2)],
         v.p,
     )
 }
@@ -71,15 +68,14 @@ pub fn expansion(v: Values, s: &[u32], h: &mut [u32], known: usize)
     let a = field::add(v.a, v.a, p);
     let b = field::add(v.b, v.b, p);
     h[0] = 0;
-    let mut i = poly::most(1, known);
-    let n = i as u32;
+    let first = known.max(1);
+    let n = first as u32;
     let mut y = field::multiply(2 * n - 1, v.a, p);
     let mut z = field::multiply(2 * n - 2, v.b, p);
-    while i < h.len() {
+    for i in first..h.len() {
         h[i] = expansion_at(v, s, i, y, z);
         y = field::add(y, a, p);
         z = field::add(z, b, p);
-        i += 1;
     }
 }
 
@@ -121,17 +117,15 @@ fn recurs_by(v: Values, h: &[u32], squares: &[u32], from: usize) -> bool
     let p = v.p;
     let a = field::add(v.a, v.a, p);
     let b = field::add(v.b, v.b, p);
-    let mut k = from;
-    let n = k as u32;
+    let n = from as u32;
     let mut y = field::multiply(2 * n - 3, v.a, p);
     let mut z = field::multiply(2 * n - 6, v.b, p);
-    while k < h.len() {
+    for k in from..h.len() {
         if !recurs_at(v, h, squares, k, y, z) {
             return false;
         }
         y = field::add(y, a, p);
         z = field::add(z, b, p);
-        k += 1;
     }
     true
 }
@@ -146,7 +140,7 @@ pub fn recurs(
     acc: &mut [u64],
     squares: &mut [u32],
 ) -> bool
-    requires ready { (Ready v) × (Prepared m) × (m.p ≡ v.p) }
+    requires ready { (Ready v) × (m.p ≡ v.p) }
     requires h_len_bound { (length h.now ≤ 256) × Reduced v.p h.now × (3 ≤ from) × (from ≤ length h.now) }
     requires squares_len { (length squares.old ≡ length h.now - 3) × (length acc.old ≡ length squares.old) × (length h.now + 5 ≤ length e.old) }
     ensures { (result ≡ true) ↔ ((k : ℕ) → from ≤ k → k < length h.now →

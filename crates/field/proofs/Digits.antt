@@ -2,11 +2,10 @@
 -- the power of the digits from place i up, e / 2ⁱ.
 -- Assumes nothing.
 use mathlib.Core.Path.{◌≡◌, sym, ap, ◌∙◌}
-use Prim.Native.Nat.{ℕ, suc, ◌+◌, ◌-◌, ◌*◌, ◌/◌, ◌%◌, ◌^◌, ◌≤◌, ◌<◌}
+use Prim.Native.Nat.{ℕ, ◌+◌, ◌-◌, ◌*◌, ◌/◌, ◌%◌, ◌^◌, ◌≤◌, ◌<◌}
 use native.Mathlib.Nat as N
 use native.Mathlib.Numerals.{add-one}
 use native.Mathlib.Omega.{arith}
-use lib.Count.{count_leading_zeros, leading_top}
 use lib.Pow.{pow-add}
 use Rattle.ring.specs.Ring.{pow, pow-zero}
 use Rattle.zmod.specs.Zmod.{Zmod, mk, times, mk_mul, mk_pow}
@@ -15,21 +14,11 @@ use Rattle.zmod.specs.Residues.{Residue, residue_same}
 pub to_zero : (a e p : ℕ) → e ≡ 0 → 1 < p → Residue p (pow (Zmod p) (mk p a) e) 1
 to_zero a e p z h = record { below = h; class = sym (ap (pow (Zmod p) (mk p a)) z ∙ pow-zero (Zmod p) (mk p a)) }
 
--- the place of the topmost digit of a number of 32 bits, and that above it there is just this digit
-pub topmost : (e : ℕ) → (e ≡ 0 → ⊥) → e < 2 ^ 32 → (count_leading_zeros 32 e ≤ 31) × (e / 2 ^ (31 - count_leading_zeros 32 e) ≡ 1)
-topmost e pos fits =
-    let t = leading_top 32 e (omega arith) fits in
-    let j : ℕ = t.0 in
-    let lo : 2 ^ j ≤ e = t.2 in
-    let hi : e < 2 ^ suc j = t.3 in
-    let place : 31 - count_leading_zeros 32 e ≡ j = omega (arith, t.1) in
-    (omega (arith, t.1), ap (λ n. e / 2 ^ n) place ∙ N.div-eq_of_lt-le (2 ^ j) (omega arith) (omega (arith, N.pow-suc 2 j)))
-
-pub start : (a e p : ℕ) → (e ≡ 0 → ⊥) → e < 2 ^ 32 → a < p → Residue p (mk p (a ^ (e / 2 ^ (31 - count_leading_zeros 32 e)))) a
-start a e p pos fits h = record {
-  below = h;
-  class = sym (ap (λ n. mk p (a ^ n)) (topmost e pos fits).1 ∙ ap (mk p) (N.pow-suc a 0 ∙ ap (λ n. n * a) (N.pow-zero a) ∙ N.one-mul a));
-}
+-- above the topmost digit there is just this digit
+pub start : (a e p j : ℕ) → 2 ^ j ≤ e → e < 2 * 2 ^ j → a < p → Residue p (mk p (a ^ (e / 2 ^ j))) a
+start a e p j lo hi h =
+    let one : e / 2 ^ j ≡ 1 = N.div-eq_of_lt-le (2 ^ j) (omega arith) (omega arith) in
+    record { below = h; class = sym (ap (λ n. mk p (a ^ n)) one ∙ ap (mk p) (N.pow-suc a 0 ∙ ap (λ n. n * a) (N.pow-zero a) ∙ N.one-mul a)) }
 
 pub finish : (a e p i : ℕ) {r : ℕ} → i ≡ 0 → Residue p (mk p (a ^ (e / 2 ^ i))) r → Residue p (pow (Zmod p) (mk p a) e) r
 finish a e p i z = residue_same (ap (λ n. mk p (a ^ (e / 2 ^ n))) z ∙ ap (λ n. mk p (a ^ n)) (N.div-one e) ∙ mk_pow p a e)

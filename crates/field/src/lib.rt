@@ -14,14 +14,14 @@ ghost use Rattle.field.specs.Inverse.{InverseOf, Inverses, Entry};
 pub fn wide(x: u32) -> u64
     ensures { result ≡ x }
 {
-    x as u64
+    u64::from(x)
 }
 
 // The whole product of two words.
 pub fn product(a: u32, b: u32) -> u64
     ensures { result ≡ a * b }
 {
-    (a as u64) * (b as u64)
+    u64::from(a) * u64::from(b)
 }
 
 // l x + m y + n z, before any remainder.
@@ -37,7 +37,7 @@ pub fn reduce(x: u64, p: u32) -> u32
     requires { 0 < p }
     ensures { Residue p (mk p x) result }
 {
-    (x % (p as u64)) as u32
+    (x % u64::from(p)) as u32
 }
 
 pub fn add(a: u32, b: u32, p: u32) -> u32
@@ -77,10 +77,8 @@ pub fn power(a: u32, e: u32, p: u32) -> u32
     if e == 0 {
         return 1;
     }
-    let mut i = 31 - u32::leading_zeros(e);
     let mut r = a;
-    while 0 < i {
-        i -= 1;
+    for i in (0..e.ilog2()).rev() {
         r = multiply(r, r, p);
         if (e >> i) % 2 == 1 {
             r = multiply(r, a, p);
@@ -157,11 +155,7 @@ pub fn inverses(out: &mut [u32], p: u32)
     requires out_len_bound { length out.old ≤ p }
     ensures { Inverses p out.new }
 {
-    let n = out.len() as u32;
-    let mut k: u32 = 0;
-    while k < n {
-        let i = k as usize;
-        out[i] = entry(out, k, p);
-        k += 1;
+    for k in 0..out.len() {
+        out[k] = entry(out, k as u32, p);
     }
 }

@@ -20,12 +20,10 @@ fn negated(g: &[u32], e: &mut [u64], p: u32)
     requires { (1 ≤ length g.now) × (length g.now ≤ length e.old + 1) × Reduced p g.now }
     ensures { Backwards p g.now e.new }
 {
-    rows::clear(e);
+    e.fill(0);
     let d = g.len() - 1;
-    let mut t = 0;
-    while t < d {
-        e[t] = field::wide(field::negate(g[d - 1 - t], p));
-        t += 1;
+    for t in 0..d {
+        e[t] = u64::from(field::negate(g[d - 1 - t], p));
     }
 }
 
@@ -35,12 +33,9 @@ fn weights(e: &[u64], d: usize, acc: &mut [u64])
     requires d_bound { (d ≤ 127) × (d ≤ length e.now) × Reduced (2 ^ 28) e.now × ((t : ℕ) → d ≤ t → get_or e.now t 0 ≡ 0) }
     ensures { Weights e.now acc.new }
 {
-    rows::clear(acc);
-    let n = rows::least(d + 1, acc.len());
-    let mut k = 1;
-    while k < n {
+    acc.fill(0);
+    for k in 1..acc.len().min(d + 1) {
         acc[k] = barrett::product(2 * (k as u64), e[k - 1]);
-        k += 1;
     }
 }
 
@@ -49,17 +44,7 @@ fn residue(s: u64, w: u32, a: u64, x: u32, b: u64, y: u32, c: u64, p: u32) -> u3
     requires { (0 < p) × (a < 2 ^ 28) × (b < 2 ^ 28) × (c < 2 ^ 28) × (s + w * a + x * b + y * c < 2 ^ 64) }
     ensures { Residue p (mk p (s + w * a + x * b + y * c)) result }
 {
-    let sum = rows::sum_more(
-        s,
-        field::wide(w),
-        a,
-        field::wide(x),
-        b,
-        field::wide(y),
-        c,
-        0,
-        0,
-    );
+    let sum = rows::sum_more(s, u64::from(w), a, u64::from(x), b, u64::from(y), c, 0, 0);
     field::reduce(sum, p)
 }
 
@@ -68,10 +53,7 @@ fn put(out: &mut [u32], at: usize, w: u32, x: u32, y: u32, z: u32)
     requires { at + 4 ≤ length out.old }
     ensures { Four out.old at w x y z out.new }
 {
-    out[at] = w;
-    out[at + 1] = x;
-    out[at + 2] = y;
-    out[at + 3] = z;
+    out[at..at + 4].copy_from_slice(&[w, x, y, z]);
 }
 
 // The rows of the four power sums from i on, for those from `from` on. (The factors are read back from s: of remainders the compiler knows too much, and
@@ -85,7 +67,7 @@ fn sums_rows(e: &[u64], d: usize, acc: &mut [u64], s: &[u32], i: usize, from: us
         → Due p d g acc.new s.now from (i + 4) }
 {
     let skip = from - (i + 4);
-    let len = rows::least(d - skip, acc.len() - from);
+    let len = (d - skip).min(acc.len() - from);
     rows::add_rows(
         acc,
         from,
@@ -124,10 +106,8 @@ fn known_rows(e: &[u64], d: usize, acc: &mut [u64], s: &[u32], from: usize, p: u
     ensures due { (g : Seq (Zmod p)) → Negated p d g e.now → Due p d g acc.old s.now from 1
         → Due p d g acc.new s.now from from }
 {
-    let mut i = 1;
-    while i < from {
+    for i in (1..from).step_by(4) {
         sums_rows(e, d, acc, s, i, from, p);
-        i += 4;
     }
 }
 
@@ -139,10 +119,8 @@ fn sums_turns(e: &[u64], d: usize, acc: &mut [u64], s: &mut [u32], from: usize, 
     ensures { (g : Seq (Zmod p)) → Negated p d g e.now → Known p d g acc.old s.old from
         → Known p d g acc.new s.new (length s.old) }
 {
-    let mut i = from;
-    while i < acc.len() {
+    for i in (from..acc.len()).step_by(4) {
         sums_turn(e, d, acc, s, i, p);
-        i += 4;
     }
 }
 
@@ -157,7 +135,7 @@ pub fn power_sums(v: Values, g: &[u32], e: &mut [u64], acc: &mut [u64], s: &mut 
     let p = v.p;
     negated(g, e, p);
     weights(e, d, acc);
-    s[0] = field::reduce(field::wide(v.degree - 1), p);
+    s[0] = field::reduce(u64::from(v.degree - 1), p);
     let from = known / 4 * 4 + 1;
     known_rows(e, d, acc, s, from, p);
     sums_turns(e, d, acc, s, from, p);

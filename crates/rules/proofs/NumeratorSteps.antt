@@ -11,7 +11,7 @@ use Rattle.ring.specs.Identity.{solve2}
 use Rattle.ring.specs.Identity.Ex.{:0, ◌:-◌, ◌:*◌, :-◌}
 use Rattle.series.specs.Series.{Seq, conv, ∂, ∂-at}
 use Rattle.zmod.specs.Zmod.{Zmod, mk, plus, minus, times, mk_add, mk_mul, mk_combination, cast_mk}
-use Rattle.zmod.specs.Residues.{Residue, Reduced, poly, poly_at, residue_same}
+use Rattle.zmod.specs.Residues.{Residue, poly, poly_at, residue_same}
 use Rattle.isogeny.specs.Rules.{N, f, linear_part_of, first_logarithmic_part_of, second_logarithmic_part_of, N_parts}
 use Rattle.isogeny.specs.Source.{line, quadratic}
 use Rattle.sheet.specs.declared.Values.{Values}
@@ -72,13 +72,6 @@ module _ (p : ℕ) where
         go : Dec (k < j) → mk p r ≡ shifted (Zmod p) j (poly p a) k
         go (yes l) = ap (mk p) (low l) ∙ sym (shifted_low (Zmod p) j k (poly p a) l)
         go (no l) = ap (mk p) (high (omega arith)) ∙ sym (poly_at p a (k - j)) ∙ sym (shifted_high (Zmod p) j k (poly p a) (omega arith))
-
-    pub back_below : 0 < p → Reduced p a → r < p
-    back_below pos h = go (dec_lt k j)
-      where
-        go : Dec (k < j) → r < p
-        go (yes l) = omega (arith, low l)
-        go (no l) = omega (arith, high (omega arith), h (k - j))
 
 -- ── the parts
 

@@ -59,10 +59,8 @@ pub fn slope_of(s: &[u32], out: &mut [u32], p: u32)
     requires { (0 < p) × (p ≤ 2 ^ 28) × (Reduced p s.now) × (length out.old ≤ 255) }
     ensures { Residues p (negs (Zmod p) (∂ (Zmod p) (poly p s.now))) out.new }
 {
-    let mut i = 0;
-    while i < out.len() {
+    for i in 0..out.len() {
         out[i] = slope_coefficient(s, i, p);
-        i += 1;
     }
 }
 
@@ -84,10 +82,8 @@ pub fn bend_of(s: &[u32], t: &[u32], out: &mut [u32], p: u32)
     requires { (0 < p) × (p ≤ 2 ^ 28) × (Reduced p s.now) × (Reduced p t.now) × (length out.old ≤ 255) }
     ensures { Residues p (bend_from (Zmod p) (poly p s.now) (poly p t.now)) out.new }
 {
-    let mut i = 0;
-    while i < out.len() {
+    for i in 0..out.len() {
         out[i] = bend_coefficient(s, t, i, p);
-        i += 1;
     }
 }
 
@@ -161,9 +157,7 @@ pub fn sum_of_parts(v: Values, square: &[u32], slope: &[u32], bend: &[u32], out:
     ensures { (g : Seq (Zmod v.p)) → Products v.p g square.now slope.now bend.now
         → Residues v.p (N (Zmod v.p) (question v) g) out.new }
 {
-    let mut k = 0;
-    while k < out.len() {
+    for k in 0..out.len() {
         out[k] = coefficient(v, square, slope, bend, k);
-        k += 1;
     }
 }

@@ -13,6 +13,9 @@ ghost use Rattle.sides.specs.Sides.{factor, crossed};
 
 use sheet::Values;
 
+// The most coefficients that either side has: 3ℓ + 1, where ℓ is 255.
+const ROOM: usize = 766;
+
 // f = x³ + Ax + B
 fn cubic_words(v: Values) -> [u32; 4]
     requires { Ready v }
@@ -21,36 +24,32 @@ fn cubic_words(v: Values) -> [u32; 4]
     [v.b, v.a, 0, 1]
 }
 
-fn blank766() -> [u32; 766] {
-    [0; 766]
-}
-
 // The first n coefficients of a².
-fn square766(a: &[u32], n: usize, p: u32) -> [u32; 766]
-    requires { (0 < p) × (p ≤ 2 ^ 28) × (Reduced p a.now) × (n ≤ 766) }
+fn square(a: &[u32], n: usize, p: u32) -> [u32; ROOM]
+    requires { (0 < p) × (p ≤ 2 ^ 28) × (Reduced p a.now) × (n ≤ ROOM) }
     ensures { Residues p (conv (Zmod p) (poly p a.now) (poly p a.now)) (take n result) }
 {
-    let mut r = blank766();
+    let mut r = [0; ROOM];
     poly::square_by_coefficients(a, &mut r[..n], p);
     r
 }
 
 // The first n coefficients of a'.
-fn derivative766(a: &[u32], n: usize, p: u32) -> [u32; 766]
-    requires { (0 < p) × (length a.now ≤ 2 ^ 32) × (n ≤ 766) }
+fn derivative(a: &[u32], n: usize, p: u32) -> [u32; ROOM]
+    requires { (0 < p) × (length a.now ≤ 2 ^ 32) × (n ≤ ROOM) }
     ensures { Residues p (∂ (Zmod p) (poly p a.now)) (take n result) }
 {
-    let mut r = blank766();
+    let mut r = [0; ROOM];
     poly::derivative(a, &mut r[..n], p);
     r
 }
 
 // The k coefficients of n² + a h.
-fn square_and(n: &[u32], h: &[u32], k: usize, a: u32, p: u32) -> [u32; 766]
-    requires { (0 < p) × (p ≤ 2 ^ 28) × (Reduced p n.now) × (k ≤ 766) × (k + 1 ≡ 2 * length n.now) × (length h.now ≤ k) }
+fn square_and(n: &[u32], h: &[u32], k: usize, a: u32, p: u32) -> [u32; ROOM]
+    requires { (0 < p) × (p ≤ 2 ^ 28) × (Reduced p n.now) × (k ≤ ROOM) × (k + 1 ≡ 2 * length n.now) × (length h.now ≤ k) }
     ensures { Whole p (factor (Zmod p) (mk p a) (poly p n.now) (poly p h.now)) (take k result) }
 {
-    let mut r = square766(n, k, p);
+    let mut r = square(n, k, p);
     poly::add_scaled(&mut r[..k], h, a, p);
     r
 }
@@ -76,8 +75,8 @@ fn right_side(v: Values, g: &[u32], n: &[u32], out: &mut [u32])
     let i = 2 * d + 1;
     let j = 4 * d + 1;
     let k = 4 * d + 3;
-    let s = square766(g, i, v.p);
-    let h = square766(&s[..i], j, v.p);
+    let s = square(g, i, v.p);
+    let h = square(&s[..i], j, v.p);
     let t = square_and(n, &h[..j], k, v.atilde, v.p);
     add_terms(n, &s[..i], &h[..j], &t[..k], v.btilde, out, v.p);
 }
@@ -93,17 +92,6 @@ fn cross(g: &[u32], n: &[u32], dg: &[u32], dn: &[u32], w: &mut [u32], p: u32)
     poly::add_product(dn, g, w, p);
 }
 
-// The k coefficients of the same.
-fn cross766(g: &[u32], n: &[u32], dg: &[u32], dn: &[u32], k: usize, p: u32) -> [u32; 766]
-    requires { (11 ≤ p) × (p ≤ 2 ^ 28) × (Reduced p g.now) × (Reduced p n.now) × (Reduced p dg.now) × (Reduced p dn.now) × (k ≤ 766) }
-    ensures { Residues p (crossed (Zmod p) (poly p g.now) (poly p n.now)
-        (poly p dg.now) (poly p dn.now)) (take k result) }
-{
-    let mut r = blank766();
-    cross(g, n, dg, dn, &mut r[..k], p);
-    r
-}
-
 // The left side of R3.
 fn left_side(v: Values, g: &[u32], n: &[u32], out: &mut [u32])
     requires ready { (Ready v) × HoldsG v g.now }
@@ -114,10 +102,11 @@ fn left_side(v: Values, g: &[u32], n: &[u32], out: &mut [u32])
     let i = 2 * d + 1;
     let j = 3 * d + 1;
     let k = 6 * d + 1;
-    let dg = derivative766(g, d, v.p);
-    let dn = derivative766(n, i, v.p);
-    let w = cross766(g, n, &dg[..d], &dn[..i], j, v.p);
-    let ww = square766(&w[..j], k, v.p);
+    let dg = derivative(g, d, v.p);
+    let dn = derivative(n, i, v.p);
+    let mut w = [0; ROOM];
+    cross(g, n, &dg[..d], &dn[..i], &mut w[..j], v.p);
+    let ww = square(&w[..j], k, v.p);
     let cubic = cubic_words(v);
     poly::product(&cubic, &ww[..k], out, v.p);
 }
@@ -142,7 +131,7 @@ pub fn compare(v: Values, g: &[u32], n: &[u32]) -> bool
 {
     let d = g.len() - 1;
     let k = 6 * d + 4;
-    let mut l = blank766();
-    let mut r = blank766();
+    let mut l = [0; ROOM];
+    let mut r = [0; ROOM];
     sides_agree(v, g, n, &mut l[..k], &mut r[..k])
 }

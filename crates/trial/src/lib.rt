@@ -12,7 +12,7 @@ fn divides(n: u32, q: u16) -> u32
     requires { (0 < n) × (0 < q) }
     ensures { Told (Proper q n) result }
 {
-    let d = q as u32;
+    let d = u32::from(q);
     if n == d {
         return 0;
     }
@@ -24,10 +24,8 @@ pub fn by_remainders(n: u32, primes: &[u16]) -> u32
     ensures { Found n primes.now 0 (length primes.now) result }
 {
     let mut found: u32 = 0;
-    let mut j = 0;
-    while j < primes.len() {
-        found += divides(n, primes[j]);
-        j += 1;
+    for q in primes {
+        found += divides(n, *q);
     }
     found
 }
@@ -37,7 +35,7 @@ fn divides_by_product(n: u32, q: u16, inverse: u32) -> u32
     requires { (1024 ≤ n) × (n < 2 ^ 28) × Pair (2 ^ 32) 64 1024 q inverse }
     ensures { Told (Proper q n) result }
 {
-    if ((n as u64) * (inverse as u64)) % 4294967296 < 4194304 {
+    if (u64::from(n) * u64::from(inverse)) % 4294967296 < 4194304 {
         1
     } else {
         0
@@ -50,10 +48,8 @@ pub fn by_products(n: u32, primes: &[u16], inverses: &[u32], from: usize) -> u32
     ensures { Found n primes.now from (length primes.now) result }
 {
     let mut found: u32 = 0;
-    let mut j = from;
-    while j < primes.len() {
+    for j in from..primes.len() {
         found += divides_by_product(n, primes[j], inverses[j]);
-        j += 1;
     }
     found
 }
@@ -62,19 +58,19 @@ pub fn by_products(n: u32, primes: &[u16], inverses: &[u32], from: usize) -> u32
 fn low_half(a: u16, b: u16) -> u16
     ensures { result ≡ (a * b) % 2 ^ 16 }
 {
-    ((a as u32) * (b as u32) % 65536) as u16
+    (u32::from(a) * u32::from(b) % 65536) as u16
 }
 
 fn high_half(a: u16, b: u16) -> u16
     ensures { result ≡ (a * b) / 2 ^ 16 }
 {
-    ((a as u32) * (b as u32) / 65536) as u16
+    (u32::from(a) * u32::from(b) / 65536) as u16
 }
 
 fn difference(a: u16, b: u16) -> u16
     ensures { result ≡ (2 ^ 16 + a - b) % 2 ^ 16 }
 {
-    ((65536 + (a as u32) - (b as u32)) % 65536) as u16
+    ((65536 + u32::from(a) - u32::from(b)) % 65536) as u16
 }
 
 // By the inverse of q modulo 2^16, in halves. The lower half of the quotient times q has the lower half of n; what is left of the upper half is divided in
@@ -95,10 +91,8 @@ pub fn by_half_products(n: u32, primes: &[u16], inverses: &[u16], from: usize, t
     ensures { Found n primes.now from to result }
 {
     let mut found: u16 = 0;
-    let mut j = from;
-    while j < to {
+    for j in from..to {
         found += divides_by_halves(n, primes[j], inverses[j]);
-        j += 1;
     }
     found
 }
@@ -109,17 +103,14 @@ pub fn by_blocks(n: u32, primes: &[u16], inverses: &[u16]) -> bool
     requires whole { Whole primes.now inverses.now }
     ensures { (result ≡ true) ↔ Prime n }
 {
-    let mut i: usize = 171;
-    while i < 1899 {
-        let q = primes[i] as u32;
+    for i in (171..1899).step_by(432) {
+        let q = u32::from(primes[i]);
         if n < q * q {
             return true;
         }
-        let e = i + 432;
-        if by_half_products(n, primes, inverses, i, e) != 0 {
+        if by_half_products(n, primes, inverses, i, i + 432) != 0 {
             return false;
         }
-        i = e;
     }
     true
 }

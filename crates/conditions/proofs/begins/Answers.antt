@@ -1,11 +1,6 @@
 -- `conditions::begins` meets its contract. Assumes nothing.
-use Rattle.conditions.proofs.Decided.{begins_known, first_no, second}
+use Rattle.conditions.proofs.Decided.{first_no, second}
 use Rattle.conditions.proofs.begins.Goals as goal
-
-pub returns-then-known-ge3 : goal.returns-then-known-ge3
-returns-then-known-ge3 c =
-    let a = c.args in
-    begins_known a.v a.h.now a.known c.if-known-ge3.true c.requires.2
 
 pub returns-then-multiply-subtract : goal.returns-then-multiply-subtract
 returns-then-multiply-subtract c =

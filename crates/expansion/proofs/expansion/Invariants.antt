@@ -1,4 +1,4 @@
-use Rattle.std.proofs.Common.{List, length, ℕ, ◌*◌, ◌-◌, ◌≡◌, ◌≤◌}
+use Rattle.std.proofs.Common.{List, length, ℕ, ◌*◌, ◌-◌, ◌≡◌}
 use Rattle.sheet.specs.declared.Values.{Values}
 use Rattle.slices.specs.Filling.{Filled}
 use Rattle.sheet.specs.Values.{question}
@@ -8,16 +8,11 @@ use Rattle.zmod.specs.Zmod.{Zmod}
 use Rattle.expansion.specs.Multiple.{Multiple}
 use Rattle.expansion.proofs.expansion.Given as goal
 
--- multiples of A and B for i. Assumes nothing.
 -- w is the residue of the coefficient j
 abbrev pub F : Values → List ℕ → ℕ → ℕ → Type 0
 F v s j w = Residue v.p (expansion (Zmod v.p) (question v).A (question v).B (poly v.p s) j) w
 
 abbrev pub invariant-loop-i : goal.invariant-loop-i
 invariant-loop-i l =
-    (length l.h ≡ length l.initial.h) × (1 ≤ l.i) × (l.i ≤ length l.h)
-    × (Filled (F l.v l.s) l.h l.i)
+    (length l.h ≡ length l.initial.h) × (Filled (F l.v l.s) l.h l.i)
     × (Multiple l.v.p (2 * l.i - 1) (question l.v).A l.y) × Multiple l.v.p (2 * l.i - 2) (question l.v).B l.z
-
-abbrev pub decreases-loop-i : goal.decreases-loop-i
-decreases-loop-i l = length l.initial.h - l.i

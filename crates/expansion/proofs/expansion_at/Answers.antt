@@ -6,11 +6,6 @@ use Rattle.zmod.specs.Zmod.{mk, plus, times}
 use Rattle.expansion.proofs.Turns.{expands}
 use Rattle.expansion.proofs.expansion_at.Goals as goal
 
-pub weighted-requires : goal.weighted-requires
-weighted-requires c =
-    let a = c.args in
-    omega (arith, c.requires.le_i.3 (a.i + 1), c.requires.le_i.3 (a.i - 1), c.requires.le_i.3 c.over.result)
-
 pub returns : goal.returns
 returns c =
     let a = c.args in
@@ -19,4 +14,4 @@ returns c =
     c.requires.multiple.1
     (residue_same (ap (λ n. plus p (plus p (times p (mk p (2 * a.i + 1)) (mk p (get_or a.s.now (a.i + 1) 0)))
     (times p (mk p a.y) (mk p (get_or a.s.now (a.i - 1) 0)))) (times p (mk p a.z) (mk p (get_or a.s.now n 0))))
-    c.over.ensures) c.weighted.ensures)
+    c.saturating_sub.ensures) c.weighted.ensures)

@@ -4,19 +4,6 @@ use Rattle.sheet.specs.Values.{question}
 use Rattle.expansion.proofs.Turns.{recurs_is}
 use Rattle.expansion.proofs.recurs_at.Goals as goal
 
-pub weighted-u-requires : goal.weighted-u-requires
-weighted-u-requires c =
-    let low = c.requires.le_k.3 in
-    let k = c.args.k in
-    omega (arith, low k, low (k - 2), low (k - 3))
-
-pub negate-x-requires : goal.negate-x-requires
-negate-x-requires c =
-    (c.requires.h_in_bounds.1 c.args.k c.requires.le_k.0 c.requires.le_k.1).below
-
-pub weighted-requires : goal.weighted-requires
-weighted-requires c = omega (arith, c.weighted-u.ensures.below, c.negate-x.ensures.below)
-
 pub returns : goal.returns
 returns c =
     let a = c.args in

@@ -1,4 +1,4 @@
-use Rattle.std.proofs.Common.{length, ℕ, ◌*◌, ◌-◌, ◌<◌, ◌≤◌}
+use Rattle.std.proofs.Common.{ℕ, ◌*◌, ◌-◌, ◌<◌, ◌≤◌}
 use Rattle.zmod.specs.Zmod.{Zmod}
 use Rattle.sheet.specs.Values.{question}
 use Rattle.zmod.specs.Residues.{poly}
@@ -8,8 +8,5 @@ use Rattle.expansion.proofs.recurs_by.Given as goal
 
 abbrev pub invariant-loop-k : goal.invariant-loop-k
 invariant-loop-k l =
-    (l.from ≤ l.k) × ((j : ℕ) → j < l.k → l.from ≤ j → Recurs (Zmod l.v.p) (question l.v).A (question l.v).B (poly l.v.p l.h) j)
+    ((j : ℕ) → j < l.k → l.from ≤ j → Recurs (Zmod l.v.p) (question l.v).A (question l.v).B (poly l.v.p l.h) j)
     × (Multiple l.v.p (2 * l.k - 3) (question l.v).A l.y) × Multiple l.v.p (2 * l.k - 6) (question l.v).B l.z
-
-abbrev pub decreases-loop-k : goal.decreases-loop-k
-decreases-loop-k l = length l.h - l.k

@@ -1,9 +1,6 @@
-use Rattle.std.proofs.Common.{get_or, length, ◌-◌, ◌≡◌, ◌≤◌}
+use Rattle.std.proofs.Common.{get_or, length, ◌-◌, ◌≡◌}
 use Rattle.slices.specs.Filling.{Filled}
 use Rattle.expansion.proofs.reverse.Given as goal
 
 abbrev pub invariant-loop-i : goal.invariant-loop-i
-invariant-loop-i l = (length l.out ≡ length l.initial.out) × (l.i ≤ l.n) × (l.n ≡ length l.a) × Filled (λ j w. w ≡ get_or l.a (length l.a - 1 - j) 0) l.out l.i
-
-abbrev pub decreases-loop-i : goal.decreases-loop-i
-decreases-loop-i l = l.n - l.i
+invariant-loop-i l = (length l.out ≡ length l.initial.out) × Filled (λ j w. w ≡ get_or l.a (length l.a - 1 - j) 0) l.out l.i

@@ -1,10 +1,7 @@
-use Rattle.std.proofs.Common.{length, ◌-◌, ◌≡◌, ◌≤◌}
+use Rattle.std.proofs.Common.{length, ◌≡◌}
 use Rattle.slices.specs.Filling.{Filled}
 use Rattle.field.specs.Inverse.{Entry}
 use Rattle.field.proofs.inverses.Given as goal
 
 abbrev pub invariant-loop-k : goal.invariant-loop-k
-invariant-loop-k l = (length l.out ≡ length l.initial.out) × (l.k ≤ l.n) × Filled (Entry l.p) l.out l.k
-
-abbrev pub decreases-loop-k : goal.decreases-loop-k
-decreases-loop-k l = l.n - l.k
+invariant-loop-k l = (length l.out ≡ length l.initial.out) × Filled (Entry l.p) l.out l.k

@@ -1,7 +1,6 @@
--- `field::power` meets its contract. The invariant: r is the residue of a to the power of the exponent's digits from place i up. The measure is i.
--- Assumes nothing.
+-- `field::power` meets its contract. The invariant: r is the residue of a to the power of the exponent's digits from place i up. Assumes nothing.
 use Rattle.std.proofs.Common.{arith, rules}
-use Rattle.field.proofs.Digits.{to_zero, topmost, start, finish, digit_0, digit_1}
+use Rattle.field.proofs.Digits.{to_zero, start, finish, digit_0, digit_1}
 use Rattle.field.proofs.power.Goals as goal
 
 pub returns-then-e-eq0 : goal.returns-then-e-eq0
@@ -9,13 +8,11 @@ returns-then-e-eq0 c =
     let at = c.args in
     to_zero at.a at.e at.p c.if-e-eq0.true (search rules)
 
-pub overflow_sub-i : goal.overflow_sub-i
-overflow_sub-i c = omega (arith, (topmost c.args.e c.if-e-eq0.false c.ranges.e.fits).0)
-
 pub loop-i-init : goal.loop-i-init
 loop-i-init c =
     let at = c.args in
-    (search rules, start at.a at.e at.p c.if-e-eq0.false c.ranges.e.fits (search rules))
+    let log = c.ilog2-i.ensures in
+    (omega arith, start at.a at.e at.p c.ilog2-i.result log.power_le log.next_power_gt (search rules))
 
 pub loop-i-preserved-then-e-i-eq1 : goal.loop-i-preserved-then-e-i-eq1
 loop-i-preserved-then-e-i-eq1 c =

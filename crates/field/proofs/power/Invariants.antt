@@ -5,6 +5,3 @@ use Rattle.field.proofs.power.Given as goal
 
 abbrev pub invariant-loop-i : goal.invariant-loop-i
 invariant-loop-i l = (l.i ≤ 31) × Residue l.p (mk l.p (l.a ^ (l.e / 2 ^ l.i))) l.r
-
-abbrev pub decreases-loop-i : goal.decreases-loop-i
-decreases-loop-i l = l.i

@@ -1,5 +1,28 @@
 -- `power_sums::power_sums` meets its contract. Assumes nothing.
-use Rattle.std.proofs.Common.{List, ap, arith, get_or, get_or-set_other, get_or-set_same, length, length-set, rules, set, subst, suc, sym, zero, ℕ, ◌*◌, ◌+◌, ◌-◌, ◌/◌, ◌<◌, ◌∙◌, ◌≡◌, ◌≤◌}
+use Rattle.std.proofs.Common.{
+  List,
+  ap,
+  arith,
+  get_or,
+  get_or-set_other,
+  get_or-set_same,
+  length,
+  rules,
+  set,
+  subst,
+  suc,
+  sym,
+  zero,
+  ℕ,
+  ◌*◌,
+  ◌+◌,
+  ◌-◌,
+  ◌/◌,
+  ◌<◌,
+  ◌∙◌,
+  ◌≡◌,
+  ◌≤◌,
+}
 use Rattle.series.specs.Series.{Seq}
 use Rattle.zmod.specs.Zmod.{Zmod, mk, cast_mk}
 use Rattle.zmod.specs.Residues.{Residue, poly, residue_same}
@@ -20,81 +43,13 @@ front p d g s r known from long small first told zero l =
 front p d g s r known from long small first told (suc k) l =
     subst (Residue p (power_sums_of (Zmod p) d g (suc k))) (sym (get_or-set_other s 0 (suc k) r 0 (omega arith))) (told (omega arith) (suc k) (omega arith))
 
-pub weights-requires : goal.weights-requires
-weights-requires c =
+pub known_rows-requires-clause-by_index : goal.known_rows-requires-clause-by_index
+known_rows-requires-clause-by_index c =
     let a = c.args in
-    let back = c.negated in record {
-      in_bounds = omega (arith, c.requires.s_len_bound, c.requires.known_bound);
-      d_bound = (
-        omega (arith, c.requires.ready.1.count, c.requires.ready.0.degree),
-        omega (arith, c.requires.ready.1.count, c.requires.s_len_bound, c.requires.known_bound),
-        λ t. omega (
-          arith,
-          c.requires.ready.0.prime,
-          backwards_reduced a.v.p (half a.v) a.g.now back.new.e (search rules) c.requires.ready.1.count back.ensures t,
-        ),
-        λ t l. back.ensures.past t (omega (arith, c.requires.ready.1.count)),
-      );
-    }
-
-pub known_rows-requires : goal.known_rows-requires
-known_rows-requires c =
-    let a = c.args in
-    let p = a.v.p in
     let back = c.negated in
-    let d = length a.g.now - 1 in
-    let low = backwards_reduced p (half a.v) a.g.now back.new.e (search rules) c.requires.ready.1.count back.ensures in
-    let r = c.reduce in
-    let degree : c.wide.result ≡ 2 * half a.v = omega (arith, c.wide.ensures, c.requires.ready.0.degree) in
-    let first : Residue p (mk p (2 * half a.v)) r.result = subst (λ n. Residue p (mk p n) r.result) degree r.ensures in
-    let known = front p (half a.v) (poly p a.g.now) a.s.now r.result a.known (a.known / 4 * 4 + 1) (omega (arith, c.requires.s_len_bound, c.requires.known_bound)) (omega arith) first
-    c.requires.known_bound.2
-    in record {
-      from_value = (
-        omega arith,
-        omega (arith, c.requires.s_len_bound, c.requires.known_bound, c.requires.ready.1.count),
-        omega (arith, c.requires.s_len_bound, c.requires.known_bound, c.weights.auto),
-        omega (arith, c.requires.s_len_bound, c.requires.known_bound, c.weights.auto),
-        omega (arith, c.requires.s_len_bound, c.requires.known_bound, c.requires.ready.1.count),
-      );
-      p_nonzero = (search rules, omega (arith, c.requires.ready.0.prime), low, λ t l. back.ensures.past t (omega (arith, c.requires.ready.1.count)), λ k l. (known k l).below);
-      by_index = weights_low back.new.e c.weights.new.acc d (omega (arith, c.requires.ready.1.count, c.requires.ready.0.degree)) c.weights.ensures
-          (λ t. omega (arith, c.requires.ready.0.prime, low t)) (λ t l. back.ensures.past t (omega (arith, c.requires.ready.1.count)));
-    }
-
-pub sums_turns-requires : goal.sums_turns-requires
-sums_turns-requires c =
-    let a = c.args in
-    let p = a.v.p in
-    let back = c.negated in
-    let low = backwards_reduced p (half a.v) a.g.now back.new.e (search rules) c.requires.ready.1.count back.ensures in
-    let r = c.reduce in
-    let size = length-set a.s.now 0 r.result in
-    let degree : c.wide.result ≡ 2 * half a.v = omega (arith, c.wide.ensures, c.requires.ready.0.degree) in
-    let first : Residue p (mk p (2 * half a.v)) r.result = subst (λ n. Residue p (mk p n) r.result) degree r.ensures in
-    let known = front p (half a.v) (poly p a.g.now) a.s.now r.result a.known (a.known / 4 * 4 + 1) (omega (arith, c.requires.s_len_bound, c.requires.known_bound)) (omega arith) first
-    c.requires.known_bound.2
-    in record {
-      from_value = (
-        omega arith,
-        omega (arith, c.requires.s_len_bound, c.requires.known_bound, size),
-        omega (arith, c.requires.s_len_bound, c.requires.known_bound, size),
-        simp length-set c.requires.s_len_bound.1,
-        omega (arith, c.requires.s_len_bound, c.requires.known_bound, size, c.weights.auto, c.known_rows.auto),
-      );
-      d_in_bounds = (
-        omega (arith, c.requires.s_len_bound, c.requires.known_bound, c.requires.ready.1.count),
-        search rules,
-        omega (arith, c.requires.ready.0.prime),
-        low,
-        λ t l. back.ensures.past t (omega (arith, c.requires.ready.1.count)),
-      );
-      by_index = (c.known_rows.ensures.by_index_2, λ k l. (known k l).below);
-    }
-
-pub shape_of-s : goal.shape_of-s
-shape_of-s c =
-    c.sums_turns.auto.s ∙ length-set c.args.s.now 0 c.reduce.result
+    let low = backwards_reduced a.v.p (half a.v) a.g.now back.new.e (search rules) c.requires.ready.1.count back.ensures in
+    weights_low back.new.e c.weights.new.acc (length a.g.now - 1) (omega (arith, c.requires.ready.1.count, c.requires.ready.0.degree)) c.weights.ensures
+    (λ t. omega (arith, c.requires.ready.0.prime, low t)) (λ t l. back.ensures.past t (omega (arith, c.requires.ready.1.count)))
 
 pub returns : goal.returns
 returns c =
@@ -107,9 +62,11 @@ returns c =
     let n = backwards_negated p d a.g.now back.new.e (search rules) (omega (arith, c.requires.ready.1.count)) back.ensures in
     let s = c.sums_turns.new.s in
     let r = c.reduce in
-    let degree : c.wide.result ≡ 2 * d = omega (arith, c.wide.ensures, c.requires.ready.1.count, c.requires.ready.0.degree) in
+    let degree : c.from.result ≡ 2 * d = omega (arith, c.from.ensures, c.requires.ready.1.count, c.requires.ready.0.degree) in
     let first : Residue p (mk p (2 * d)) r.result = subst (λ n. Residue p (mk p n) r.result) degree r.ensures in
-    let told = subst (λ m. 1 ≤ a.known → (k : ℕ) → k ≤ a.known → Residue p (power_sums_of (Zmod p) m G k) (get_or a.s.now k 0)) half_is c.requires.known_bound.2 in
+    let told = subst (λ m. 1 ≤ a.known → (k : ℕ) → k ≤ a.known → Residue p (power_sums_of (Zmod p) m G k) (get_or a.s.now k 0)) half_is
+    c.requires.known_bound.2
+    in
     let from = a.known / 4 * 4 + 1 in
     let known-front = front p d G a.s.now r.result a.known from (omega (arith, c.requires.s_len_bound, c.requires.known_bound)) (omega arith) first told in
     let due = (known_first p d G back.new.e c.weights.new.acc a.s.now r.result (omega (arith, c.requires.s_len_bound, c.requires.known_bound)) n

@@ -1,11 +1,7 @@
 -- `rules::bend_coefficient` meets its contract. Assumes nothing.
-use Rattle.std.proofs.Common.{ap₂, arith, ◌*◌, ◌+◌, ◌∙◌}
+use Rattle.std.proofs.Common.{ap₂, ◌*◌, ◌+◌, ◌∙◌}
 use Rattle.rules.proofs.NumeratorSteps.{bend_at}
 use Rattle.rules.proofs.bend_coefficient.Goals as goal
-
-pub combination-requires : goal.combination-requires
-combination-requires c =
-    omega (arith, c.word-above.ensures, c.word.ensures, c.requires.2 (c.args.i + 1), c.requires.3 c.args.i)
 
 pub returns : goal.returns
 returns c =

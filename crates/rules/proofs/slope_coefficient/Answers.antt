@@ -1,12 +1,9 @@
 -- `rules::slope_coefficient` meets its contract. Assumes nothing.
-use Rattle.std.proofs.Common.{ap, arith, ◌+◌}
+use Rattle.std.proofs.Common.{ap}
 use Rattle.zmod.specs.Zmod.{mk, plus, minus}
 use Rattle.zmod.specs.Residues.{residue_same}
 use Rattle.rules.proofs.NumeratorSteps.{slope_at}
 use Rattle.rules.proofs.slope_coefficient.Goals as goal
-
-pub subtract-less-requires : goal.subtract-less-requires
-subtract-less-requires c = omega (arith, c.word.ensures, c.requires.2 (c.args.i + 1))
 
 pub returns : goal.returns
 returns c =

@@ -1,14 +1,8 @@
 -- `rules::sum_of_parts` meets its contract. The invariant: the coefficients before k are stored, whatever g has these products. Assumes nothing.
-use Rattle.std.proofs.Common.{arith, length-set, refl, rules, ◌-◌, ◌∙◌}
-use Rattle.slices.specs.Stored.{stored_none, stored_more}
+use Rattle.std.proofs.Common.{arith, length-set, rules, ◌∙◌}
+use Rattle.slices.specs.Stored.{stored_more}
 use Rattle.poly.specs.Stored.{stored_all}
 use Rattle.rules.proofs.sum_of_parts.Goals as goal
-
-pub loop-k-init : goal.loop-k-init
-loop-k-init c = (refl, λ g products. stored_none _ _)
-
-pub loop-k-smaller : goal.loop-k-smaller
-loop-k-smaller c = omega (arith, c.loop-k.invariant.0)
 
 pub loop-k-preserved : goal.loop-k-preserved
 loop-k-preserved c =

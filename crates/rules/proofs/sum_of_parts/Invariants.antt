@@ -1,4 +1,4 @@
-use Rattle.std.proofs.Common.{length, ◌-◌, ◌≡◌}
+use Rattle.std.proofs.Common.{length, ◌≡◌}
 use Rattle.series.specs.Series.{Seq}
 use Rattle.zmod.specs.Zmod.{Zmod}
 use Rattle.isogeny.specs.Rules.{N}
@@ -12,6 +12,3 @@ abbrev pub invariant-loop-k : goal.invariant-loop-k
 invariant-loop-k l =
     (length l.out ≡ length l.initial.out)
     × ((g : Seq (Zmod l.v.p)) → Products l.v.p g l.square l.slope l.bend → Stored (Of l.v.p (N (Zmod l.v.p) (question l.v) g)) l.initial.out l.out l.k)
-
-abbrev pub decreases-loop-k : goal.decreases-loop-k
-decreases-loop-k l = length l.initial.out - l.k

@@ -10,5 +10,5 @@ returns c =
     let r = c.right_side in
     let e = c.equal in
     three at.v c.requires.ready.0 at.g.now c.requires.ready.1.count c.requires.ready.1.reduced at.n.now l.new.out r.new.out e.result
-    c.requires.holds_n.count (omega (arith, c.requires.ready, c.requires.holds_n, c.requires.l_len, l.auto)) (omega (arith, c.requires.ready, c.requires.holds_n, c.requires.l_len, r.auto)) l.ensures r.ensures
+    c.requires.holds_n.count (omega (arith, c.requires.l_len, l.auto)) (omega (arith, c.requires.l_len, r.auto)) l.ensures r.ensures
     (e.ensures at.v.p l.ensures.reduced r.ensures.reduced)

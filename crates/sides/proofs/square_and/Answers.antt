@@ -3,15 +3,12 @@ use Rattle.std.proofs.Common.{arith, drop, length, length-take, take, ◌≡◌}
 use Rattle.sides.proofs.SideSteps.{front_whole, factor_steps}
 use Rattle.sides.proofs.square_and.Goals as goal
 
-pub slice_bounds-add_scaled-end : goal.slice_bounds-add_scaled-end
-slice_bounds-add_scaled-end c = simp length-take (omega arith)
-
 pub returns : goal.returns
 returns c =
     let at = c.args in
     let pre = c.requires in
     let k = at.k in
-    let t = c.square766-r in
+    let t = c.square-r in
     let e = c.add_scaled in
     let l-t : length (take k t.result) ≡ k = simp length-take (omega (arith, pre)) in
     let l-e : length e.new.out ≡ k = omega (arith, e.auto) in

@@ -12,34 +12,18 @@ use Rattle.trial.proofs.by_blocks.Goals as goal
 
 pub loop-i-init : goal.loop-i-init
 loop-i-init c =
-    (omega arith, omega arith, omega arith, undivided_missed c.requires.whole.primes 171 (omega arith) c.requires.whole.first c.requires.odd.3)
-
-pub offset_bounds-primes-i : goal.offset_bounds-primes-i
-offset_bounds-primes-i c = omega arith
-
-pub bounds-primes-i : goal.bounds-primes-i
-bounds-primes-i c = omega arith
-
-pub overflow_cast-q : goal.overflow_cast-q
-overflow_cast-q c =
-    let below : get_or c.args.primes.now c.loop-i.i 0 < 16384 =
-    c.requires.whole.primes.below c.loop-i.i (omega arith)
-    in
-    omega (arith, below)
+    (omega arith, omega arith, undivided_missed c.requires.whole.primes 171 (omega arith) c.requires.whole.first c.requires.odd.3)
 
 pub overflow_mul-q : goal.overflow_mul-q
 overflow_mul-q c =
     let below : get_or c.args.primes.now c.loop-i.i 0 < 16384 =
     c.requires.whole.primes.below c.loop-i.i (omega arith)
     in
-    record { fits = N.lt_of_lt_of_le (product_below 14 (below) (below)) (omega arith) }
+    rw c.from-q.ensures (record { fits = N.lt_of_lt_of_le (product_below 14 below below) (omega arith) })
 
 pub returns-then-n-q : goal.returns-then-n-q
 returns-then-n-q c =
-    says_yes (missed_prime c.requires.whole.primes c.requires.odd.0 (omega arith) c.loop-i.i (omega arith) c.if-n-q.true c.loop-i.invariant.3)
-
-pub overflow_add-e : goal.overflow_add-e
-overflow_add-e c = omega arith
+    says_yes (missed_prime c.requires.whole.primes c.requires.odd.0 (omega arith) c.loop-i.i (omega arith) (rw c.from-q.ensures at c.if-n-q.true) c.loop-i.invariant.2)
 
 pub by_half_products-requires : goal.by_half_products-requires
 by_half_products-requires c =
@@ -52,15 +36,12 @@ pub returns-then-by_half_products-ne0 : goal.returns-then-by_half_products-ne0
 returns-then-by_half_products-ne0 c =
     says_no (found_composite c.requires.whole.primes (omega arith) c.by_half_products.ensures c.if-by_half_products-ne0.true)
 
-pub loop-i-smaller : goal.loop-i-smaller
-loop-i-smaller c = omega arith
-
 pub loop-i-preserved : goal.loop-i-preserved
 loop-i-preserved c =
     let table = c.requires.whole.primes in
-    (omega arith, omega arith, omega arith, missed_more table c.loop-i.invariant.3 c.by_half_products.ensures c.if-by_half_products-ne0.false)
+    (omega arith, omega arith, missed_more table c.loop-i.invariant.2 c.by_half_products.ensures c.if-by_half_products-ne0.false)
 
 pub returns : goal.returns
 returns c =
     let n = c.args.n in
-    says_yes (undivided_prime 16384 n c.requires.odd.0 (omega arith) (omega arith) (missed_undivided c.requires.whole.primes (λ j l. c.loop-i.invariant.3 j (omega arith))))
+    says_yes (undivided_prime 16384 n c.requires.odd.0 (omega arith) (omega arith) (missed_undivided c.requires.whole.primes (λ j l. c.loop-i.invariant.2 j (omega arith))))

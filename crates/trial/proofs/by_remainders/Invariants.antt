@@ -1,9 +1,5 @@
-use Rattle.std.proofs.Common.{length, ◌-◌, ◌≤◌}
 use Rattle.trial.specs.Divisors.{Found}
 use Rattle.trial.proofs.by_remainders.Given as goal
 
-abbrev pub invariant-loop-j : goal.invariant-loop-j
-invariant-loop-j l = (l.j ≤ length l.primes) × Found l.n l.primes 0 l.j l.found
-
-abbrev pub decreases-loop-j : goal.decreases-loop-j
-decreases-loop-j l = length l.primes - l.j
+abbrev pub invariant-loop-q : goal.invariant-loop-q
+invariant-loop-q l = Found l.n l.primes 0 l.q-index l.found

@@ -5,4 +5,4 @@ use Rattle.zmod.specs.Remainder.{product_below}
 use Rattle.trial.proofs.low_half.Goals as goal
 
 pub overflow_mul-result : goal.overflow_mul-result
-overflow_mul-result c = record { fits = product_below 16 (search rules) (search rules) }
+overflow_mul-result c = rw (c.from.ensures, c.from-2.ensures) (record { fits = product_below 16 (search rules) (search rules) })
