@@ -1,6 +1,6 @@
 -- Values that are ready, and residues, are values of words.
 -- Assumes nothing.
-use Rattle.std.specs.Prelude.{List, [], ◌∷◌, ℕ, zero, suc, ◌^◌, ◌<◌, get_or}
+use Rattle.std.specs.Prelude.{List, ℕ, ◌^◌, ◌<◌}
 use Rattle.std.proofs.Common.{arith}
 use Rattle.zmod.specs.Residues.{Reduced}
 use Rattle.sheet.specs.declared.Values.{Values}

@@ -1,27 +1,52 @@
 -- The reader's way from the end of a sheet down to its header: the count, then the words of N, then those of g.
 -- Assumes nothing.
-use Rattle.std.proofs.Common.{◌≡◌, ℕ, suc, ◌+◌, ◌*◌, ◌^◌, ◌<◌, ◌≤◌, ◌↔◌, List, length, get_or, sym, refl, ap, ◌∙◌, subst, arith, length-append}
+use Rattle.std.proofs.Common.{◌≡◌, ℕ, suc, ◌+◌, ◌*◌, ◌-◌, ◌^◌, ◌<◌, ◌≤◌, ◌↔◌, List, Option, Some, unwrap_or, length, get_or, take, drop, sym, refl, ap, ◌∙◌, subst, arith, length-append, length-drop, length-take-le, get_or-take, get_or-drop}
 use native.Mathlib.Decide.{dec_lt}
 use Rattle.sheet.specs.declared.Form.{Form}
 use Rattle.sheet.specs.Word.{kind_of, value_of}
 use Rattle.sheet.specs.declared.Values.{Values}
 use Rattle.sheet.specs.Form.{header, body, kinds_of}
-use Rattle.sheet.specs.Place.{place_of}
+use Rattle.sheet.specs.Place.{place_of, placed, placed_or, at_place}
 use Rattle.sheet.specs.Kinds.{below, below_mono, kind_at, kinds_rise, header_first, place_from}
 use Rattle.sheet.specs.Values.{values_of, half, coefficient_in}
 use Rattle.sheet.specs.Asked.{Asked6}
 use Rattle.sheet.specs.Lengths.{last}
 use Rattle.sheet.specs.Places.{end_place, count_last}
-use Rattle.reading.specs.Leaf.{Section, Sections, Bounds}
+use Rattle.reading.specs.Leaf.{Fits, EachFits, Section, Sections, Bounds}
 use Rattle.reading.specs.Body.{last_after, body_some, asked6_words, words_asked6}
+
+-- ── a part of the words
+
+abbrev part : List ℕ → ℕ → ℕ → List ℕ
+part ws from to = take (to - from) (drop from ws)
+
+module _ (ws : List ℕ) (from to k bound : ℕ) (order : from ≤ to) (inside : to ≤ length ws) where
+  count : length (part ws from to) ≡ to - from
+  count = length-take-le (to - from) (drop from ws) (omega (arith, length-drop from ws))
+
+  word : (i : ℕ) → i < to - from → get_or (part ws from to) i 0 ≡ get_or ws (from + i) 0
+  word i l = get_or-take (to - from) (drop from ws) i 0 l ∙ get_or-drop from ws i 0
+
+  part_fits : EachFits k bound (part ws from to) ↔ Section ws from to k bound
+  unfolding EachFits Section
+  part_fits = (
+    λ h i l m.
+        let at : from + (i - from) ≡ i = omega arith in
+        subst (Fits k bound) (word (i - from) (omega arith) ∙ ap (λ n. get_or ws n 0) at) (h (i - from) (omega (arith, count))),
+    λ h i l. let few : i < to - from = omega (arith, count) in subst (Fits k bound) (sym (word i few)) (h (from + i) (omega arith) (omega arith)),
+  )
+
+-- ── the three sections
 
 -- the words between the header and the end by their kinds, where the count stands at c, and the words of N and g begin at n and g
 pub record ByKinds (form : Form) (d p end : ℕ) (ws : List ℕ) (bound c n g : ℕ) : Type 0 where
+  pub g_before : g ≤ n
   pub n_before : n ≤ c
   pub c_before : c ≤ end
-  pub sections : Sections form d (length (header form)) end p ws ↔ (Section ws g n 8 bound × Section ws n c 9 bound × Section ws c end 10 (2 ^ 28))
+  pub sections : Sections form d (length (header form)) end p ws
+      ↔ (EachFits 8 bound (part ws g n) × EachFits 9 bound (part ws n c) × EachFits 10 (2 ^ 28) (part ws c end))
 
-module _ (form : Form) (d p end : ℕ) (ws : List ℕ) (is_last : end ≡ last form d) where
+module _ (form : Form) (d p end : ℕ) (ws : List ℕ) (is_last : end ≡ last form d) (enough : end < length ws) where
   abbrev kinds : List ℕ
   kinds = kinds_of form d
 
@@ -49,9 +74,9 @@ module _ (form : Form) (d p end : ℕ) (ws : List ℕ) (is_last : end ≡ last f
               ((here i l n).0 ∙ sym own, λ small. (bounds (get_or ws i 0)).0 (here i l n).1 (subst (λ k. k < 10) own small))
           go (no n) = later i (omega arith) m
 
-      part : 8 ≤ k → Sections form d (length (header form)) end p ws → Section ws from to k bound
+      one : 8 ≤ k → Sections form d (length (header form)) end p ws → Section ws from to k bound
       unfolding Section Sections
-      part l all i m n =
+      one l all i m n =
           let after : length (header form) ≤ i = omega (arith, from_is, header_first form d, below_mono 8 k kinds l) in
           let inside : i < end = omega (arith, to_is, from_end, below_mono (suc k) 15 kinds (omega arith)) in
           let h = all i after inside in
@@ -67,18 +92,26 @@ module _ (form : Form) (d p end : ℕ) (ws : List ℕ) (is_last : end ≡ last f
     any_value : (w : ℕ) → (value_of w < 2 ^ 28) ↔ (10 < 10 → coefficient_in form p w < p)
     any_value w = (λ _ few. absurd (omega arith), λ _. omega arith)
 
-    module _ (c n g : ℕ) (c_is : c ≡ place_of form 10 d end) (n_is : n ≡ place_of form 9 d c) (g_is : g ≡ place_of form 8 d n) where
+    -- from the places that were asked for
+    module _ {c n g : ℕ} {c_at n_at g_at : Option ℕ} (c_found : c_at ≡ placed form 10 d) (c_is : c ≡ unwrap_or c_at end)
+        (n_found : n_at ≡ placed form 9 d) (n_is : n ≡ unwrap_or n_at c) (g_found : g_at ≡ placed form 8 d) (g_is : g ≡ unwrap_or g_at n) where
+      from : (kind none : ℕ) {at : Option ℕ} {place : ℕ} → at ≡ placed form kind d → place ≡ unwrap_or at none → place ≡ place_of form kind d none
+      from kind none found is = is ∙ ap (λ (o : Option ℕ). unwrap_or o none) found ∙ placed_or form kind d none
+
       after_c : end ≡ below 11 kinds
       after_c = from_end ∙ count_last form d
 
       from_c : c ≡ below 10 kinds
-      from_c = c_is ∙ place_from form d 10 end after_c
+      from_c = from 10 end c_found c_is ∙ place_from form d 10 end after_c
 
       from_n : n ≡ below 9 kinds
-      from_n = n_is ∙ place_from form d 9 c from_c
+      from_n = from 9 c n_found n_is ∙ place_from form d 9 c from_c
 
       from_g : g ≡ below 8 kinds
-      from_g = g_is ∙ place_from form d 8 n from_n
+      from_g = from 8 n g_found g_is ∙ place_from form d 8 n from_n
+
+      g_inside : g ≤ n
+      g_inside = omega (arith, from_g, from_n, below_mono 8 9 kinds (omega arith))
 
       n_inside : n ≤ c
       n_inside = omega (arith, from_n, from_c, below_mono 9 10 kinds (omega arith))
@@ -88,23 +121,26 @@ module _ (form : Form) (d p end : ℕ) (ws : List ℕ) (is_last : end ≡ last f
 
       -- all words between the header and the end, by kinds
       three_sections : Sections form d (length (header form)) end p ws
-          ↔ (Section ws g n 8 bound × Section ws n c 9 bound × Section ws c end 10 (2 ^ 28))
+          ↔ (EachFits 8 bound (part ws g n) × EachFits 9 bound (part ws n c) × EachFits 10 (2 ^ 28) (part ws c end))
       three_sections =
           let g_bound = word_bound 8 (omega arith) in
-          let n_bound = word_bound 9 (omega arith) in (
+          let n_bound = word_bound 9 (omega arith) in
+          let of_g = part_fits ws g n 8 bound g_inside (omega (arith, n_inside, c_inside)) in
+          let of_n = part_fits ws n c 9 bound n_inside (omega (arith, c_inside)) in
+          let of_c = part_fits ws c end 10 (2 ^ 28) c_inside (omega arith) in (
             λ all. (
-              part 8 n g (omega arith) from_n from_g bound g_bound (omega arith) all,
-              part 9 c n (omega arith) from_c from_n bound n_bound (omega arith) all,
-              part 10 end c (omega arith) after_c from_c (2 ^ 28) any_value (omega arith) all,
+              of_g.1 (one 8 n g (omega arith) from_n from_g bound g_bound (omega arith) all),
+              of_n.1 (one 9 c n (omega arith) from_c from_n bound n_bound (omega arith) all),
+              of_c.1 (one 10 end c (omega arith) after_c from_c (2 ^ 28) any_value (omega arith) all),
             ),
             λ h. subst (λ i. Sections form d i end p ws) (from_g ∙ header_first form d)
-                (more 8 n g (omega arith) from_n from_g bound g_bound h.0
-                (more 9 c n (omega arith) from_c from_n bound n_bound h.1
-                (more 10 end c (omega arith) after_c from_c (2 ^ 28) any_value h.2 none_yet))),
+                (more 8 n g (omega arith) from_n from_g bound g_bound (of_g.0 h.0)
+                (more 9 c n (omega arith) from_c from_n bound n_bound (of_n.0 h.1)
+                (more 10 end c (omega arith) after_c from_c (2 ^ 28) any_value (of_c.0 h.2) none_yet))),
           )
 
       pub by_kinds : ByKinds form d p end ws bound c n g
-      by_kinds = record { n_before = n_inside; c_before = c_inside; sections = three_sections }
+      by_kinds = record { g_before = g_inside; n_before = n_inside; c_before = c_inside; sections = three_sections }
 
 -- ── question 6 as the reader asks it
 
@@ -126,9 +162,9 @@ module _ (form : Form) (ws : List ℕ) where
         λ r. words_asked6 form ws (record { count = omega (arith, r.count); end = r.end_word; sections = r.sections }),
       )
 
-  module _ {w : Values} (d end : ℕ) (w_is : w ≡ v) (d_is : d ≡ half w) (end_is : end ≡ place_of form 15 d 0) where
+  module _ {w : Values} {d end : ℕ} {end_at : Option ℕ} (w_is : w ≡ v) (d_is : d ≡ half w) (end_found : end_at ≡ placed form 15 d) (end_is : end_at ≡ Some end) where
     pub end_last : end ≡ last form d
-    end_last = end_is ∙ end_place d 0 form
+    end_last = at_place form 15 d 0 end_found end_is ∙ end_place d 0 form
 
     pub rest : Asked6 form ws ↔ Rest form ws w.p d end
     rest =

@@ -19,6 +19,10 @@ Sections form d from to p ws = (i : ℕ) → from ≤ i → i < to
 abbrev pub Fits : ℕ → ℕ → ℕ → Type 0
 Fits k bound w = (kind_of w ≡ k) × (value_of w < bound)
 
+-- so is each of a list
+unfoldable pub EachFits : ℕ → ℕ → List ℕ → Type 0
+EachFits k bound ws = (i : ℕ) → i < length ws → Fits k bound (slice_index ws i)
+
 -- so are the words from `from` up to `to`
 unfoldable pub Section : List ℕ → ℕ → ℕ → ℕ → ℕ → Type 0
 Section ws from to k bound = (i : ℕ) → from ≤ i → i < to → Fits k bound (slice_index ws i)

@@ -5,37 +5,27 @@ ghost use Rattle.std.specs.Prelude.{◌≡◌, ◌^◌, ◌<◌, ◌≤◌, true
 ghost use Rattle.zmod.specs.Zmod.{Zmod, mk};
 ghost use Rattle.zmod.specs.Residues.{Residue};
 ghost use Rattle.isogeny.specs.Curve.{discriminant, Nonsingular};
+ghost use Rattle.sheet.specs.Code.{code};
 ghost use Rattle.sheet.specs.Form.{header};
 ghost use Rattle.sheet.specs.Values.{values_of};
 ghost use Rattle.sheet.specs.Lengths.{last};
 ghost use Rattle.sheet.specs.Asked.{PrimeAllowed, DegreeAllowed, ValuesBelow, Curves, Asked2, Asked6};
 ghost use Rattle.reading.specs.Reading.{Right};
-ghost use Rattle.reading.specs.Leaf.{Stands, Fits, Section, Sections, Bounds};
+ghost use Rattle.reading.specs.Leaf.{Fits, EachFits, Sections, Bounds};
 
 use questions::Refusal;
-use sheet::{Form, Values};
-
-// Whether the word of a kind is there, if the form has one.
-fn has_kind(form: Form, k: usize, ws: &[u32]) -> bool
-    requires { k < 8 }
-    ensures { (result ≡ true) ↔ Stands form k ws.now }
-{
-    let at = sheet::place(form, k, 0, 255);
-    if at == 255 {
-        return true;
-    }
-    if ws.len() <= at {
-        return false;
-    }
-    sheet::kind(ws[at]) == k
-}
+use sheet::{Form, Kind, Values};
 
 // Question 2.
 pub fn headed(form: Form, ws: &[u32]) -> bool
     ensures { (result ≡ true) ↔ Asked2 form ws.now }
 {
-    for k in 1..8 {
-        if !has_kind(form, k, ws) {
+    let kinds = sheet::header(form);
+    if ws.len() < kinds.len() {
+        return false;
+    }
+    for (i, kind) in kinds.iter().enumerate() {
+        if sheet::kind_of(ws[i]) != u32::from(*kind) {
             return false;
         }
     }
@@ -102,22 +92,22 @@ fn coefficient_bound(form: Form, p: u32) -> u32
     }
 }
 
-// Whether a word is of kind k, with a value below the bound. Where the kind is less the difference wraps to 2^28 or more, so one test does for both.
-fn fits(w: u32, k: u32, bound: u32) -> bool
-    requires { (k < 16) × (bound ≤ 2 ^ 28) }
-    ensures { (result ≡ true) ↔ Fits k bound w }
+// Whether a word is of a kind, with a value below the bound. Where the kind is less the difference wraps to 2^28 or more, so one test does for both.
+fn fits(w: u32, kind: Kind, bound: u32) -> bool
+    requires { bound ≤ 2 ^ 28 }
+    ensures { (result ≡ true) ↔ Fits (code kind) bound w }
 {
-    std::num::wrapping_sub_u32(w, 268435456 * k) < bound
+    w.wrapping_sub(268435456 * u32::from(kind)) < bound
 }
 
-// Whether the words from `from` up to `to` are of kind k, with values below the bound. No word ends the loop, so that the compiler takes several at a time.
-fn section(ws: &[u32], from: usize, to: usize, k: u32, bound: u32) -> bool
-    requires { (to ≤ length ws.now) × (k < 16) × (bound ≤ 2 ^ 28) }
-    ensures { (result ≡ true) ↔ Section ws.now from to k bound }
+// Whether words are of a kind, with values below the bound. No word ends the loop, so that the compiler takes several at a time.
+fn section(words: &[u32], kind: Kind, bound: u32) -> bool
+    requires { bound ≤ 2 ^ 28 }
+    ensures { (result ≡ true) ↔ EachFits (code kind) bound words.now }
 {
     let mut all = true;
-    for i in from..to {
-        all = all & fits(ws[i], k, bound);
+    for w in words {
+        all = all & fits(*w, kind, bound);
     }
     all
 }
@@ -129,16 +119,16 @@ fn sections(form: Form, ws: &[u32], d: usize, end: usize, p: u32) -> bool
     ensures { (result ≡ true) ↔ Sections form d (length (header form)) end p ws.now }
 {
     let bound = coefficient_bound(form, p);
-    let count = sheet::place(form, 10, d, end);
-    let n = sheet::place(form, 9, d, count);
-    let g = sheet::place(form, 8, d, n);
-    if !section(ws, g, n, 8, bound) {
+    let count = sheet::place(form, Kind::Abscissas, d).unwrap_or(end);
+    let n = sheet::place(form, Kind::N, d).unwrap_or(count);
+    let g = sheet::place(form, Kind::G, d).unwrap_or(n);
+    if !section(&ws[g..n], Kind::G, bound) {
         return false;
     }
-    if !section(ws, n, count, 9, bound) {
+    if !section(&ws[n..count], Kind::N, bound) {
         return false;
     }
-    section(ws, count, end, 10, 268435456)
+    section(&ws[count..end], Kind::Abscissas, 268435456)
 }
 
 // Question 6.
@@ -147,7 +137,7 @@ fn exact(form: Form, v: Values, ws: &[u32]) -> bool
     ensures { (result ≡ true) ↔ Asked6 form ws.now }
 {
     let d = sheet::half_degree(v);
-    let end = sheet::place(form, 15, d, 0);
+    let end = sheet::place(form, Kind::End, d).unwrap();
     if ws.len() != end + 1 {
         return false;
     }
@@ -182,7 +172,7 @@ fn curves(form: Form, v: Values) -> bool
     if !nonsingular(v.a, v.b, v.p) {
         return false;
     }
-    if sheet::place(form, 4, 0, 255) == 255 {
+    if sheet::place(form, Kind::Atilde, 0).is_none() {
         return true;
     }
     nonsingular(v.atilde, v.btilde, v.p)
@@ -195,11 +185,11 @@ pub fn read(form: Form, ws: &[u32]) -> Result<Values, Refusal>
     if !headed(form, ws) {
         return Err(Refusal::Header);
     }
-    let p = sheet::entry_of(form, 1, ws);
+    let p = sheet::entry_of(form, Kind::P, ws);
     if !prime_allowed(p) {
         return Err(Refusal::Prime);
     }
-    let degree = sheet::entry_of(form, 6, ws);
+    let degree = sheet::entry_of(form, Kind::Degree, ws);
     if !degree_allowed(degree, p) {
         return Err(Refusal::Degree);
     }

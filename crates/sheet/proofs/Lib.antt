@@ -1,2 +1,2 @@
-pub mod PlaceTable
+pub mod Starts
 pub mod Copies

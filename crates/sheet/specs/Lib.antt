@@ -1,5 +1,6 @@
 pub mod Word
 pub mod Form
+pub mod Code
 pub mod Place
 pub mod Table
 pub mod Kinds

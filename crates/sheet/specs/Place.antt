@@ -1,14 +1,25 @@
--- Where the words of a kind stand in a sheet of a form: what the table of places holds.
+-- Where the words of a kind stand in a sheet of a form.
 -- Assumes nothing.
-use Rattle.std.specs.Prelude.{◌≡◌, cond, List, [], ℕ, ◌-◌, ◌<◌, get_or}
+use Rattle.std.specs.Prelude.{◌≡◌, refl, Bool, true, false, cond, ℕ, Option, Some, None, unwrap_or}
+use Rattle.std.proofs.Common.{sym, ◌∙◌, ap}
 use Rattle.sheet.specs.declared.Form.{Form}
 use Rattle.sheet.specs.Form.{kinds_of, position, holds}
 
--- the place of the first word of a kind; `none` where the form has no such word
+-- the place of the first word of a kind, if the form has such a word
+abbrev pub placed : Form → ℕ → ℕ → Option ℕ
+placed form kind d = cond (holds kind (kinds_of form d)) (Some (position kind (kinds_of form d))) None
+
+-- the same, with `none` for nowhere
 abbrev pub place_of : Form → ℕ → ℕ → ℕ → ℕ
 place_of form kind d none = cond (holds kind (kinds_of form d)) (position kind (kinds_of form d)) none
 
--- a form's part of the table: the place of each kind at d = 0, 255 for nowhere, and how far it rises from d = 0 to d = 1
-pub record PlacesOf (form : Form) (table : List (List ℕ)) : Type 0 where
-  pub start : (kind : ℕ) → kind < 16 → get_or (get_or table 0 []) kind 0 ≡ place_of form kind 0 255
-  pub rise : (kind : ℕ) → kind < 16 → get_or (get_or table 1 []) kind 0 ≡ place_of form kind 1 255 - place_of form kind 0 255
+pub placed_or : (form : Form) (kind d none : ℕ) → unwrap_or (placed form kind d) none ≡ place_of form kind d none
+placed_or form kind d none = go (holds kind (kinds_of form d))
+  where
+    go : (t : Bool) → unwrap_or (cond t (Some (position kind (kinds_of form d))) None) none ≡ cond t (position kind (kinds_of form d)) none
+    go true = refl
+    go false = refl
+
+-- a word that is there has its place whatever stands for nowhere
+pub at_place : (form : Form) (kind d none : ℕ) {place : Option ℕ} {at : ℕ} → place ≡ placed form kind d → place ≡ Some at → at ≡ place_of form kind d none
+at_place form kind d none e is = sym (ap (λ (o : Option ℕ). unwrap_or o none) (sym e ∙ is)) ∙ placed_or form kind d none

@@ -1,11 +1,11 @@
 -- The places of the kinds in the forms: each is linear in d, so it is told by the place at d = 0 and by how far it rises to d = 1.
 -- Assumes nothing.
-use Rattle.std.specs.Prelude.{◌≡◌, refl, Bool, true, false, cond, List, [], ◌∷◌, ℕ, suc, ◌+◌, ◌*◌, ◌-◌, ◌<◌, length}
+use Rattle.std.specs.Prelude.{◌≡◌, refl, Bool, true, false, cond, List, [], ◌∷◌, ℕ, suc, ◌+◌, ◌*◌, ◌-◌, ◌<◌, length, Some, None}
 use Rattle.std.proofs.Common.{sym, ◌∙◌, ap, ap₂, arith}
 use Rattle.sheet.specs.declared.Form.{Form}
 use Rattle.sheet.specs.declared.Form.TheVariants.{Question, Certificate, Kernel}
 use Rattle.sheet.specs.Form.{header, kinds_of, certificate_words, position, holds}
-use Rattle.sheet.specs.Place.{place_of}
+use Rattle.sheet.specs.Place.{place_of, placed}
 use Rattle.sheet.specs.Kinds.{below, absent as absent_kind, place_from}
 use Rattle.sheet.specs.Lengths.{last, certificate_words_lem, kernel_words}
 use Rattle.sheet.specs.Linear.{Section, section, expand, has, base, slope, holds_sections, position_sections, base_most}
@@ -54,6 +54,12 @@ module _ (form : Form) (d : ℕ) where
 
 -- a number + a number · d
 module _ (form : Form) (k : ℕ) where
+  pub placed_is : (d : ℕ) → placed form k d ≡ cond (has k (sections form)) (Some (base k (sections form) + slope k (sections form) * d)) None
+  placed_is d =
+      ap₂ (λ (t : Bool) (n : ℕ). cond t (Some n) None)
+      (ap (holds k) (in_sections form d) ∙ holds_sections k d (sections form))
+      (ap (position k) (in_sections form d) ∙ position_sections k d (sections form))
+
   pub place_is : (d none : ℕ) → place_of form k d none ≡ cond (has k (sections form)) (base k (sections form) + slope k (sections form) * d) none
   place_is d none =
       ap₂ (λ (t : Bool) (n : ℕ). cond t n none)
@@ -115,6 +121,18 @@ module _ (d none : ℕ) where
 
   pub count_place : place_of Certificate 10 d none + 2 ≡ certificate_words d
   count_place = omega (arith, place_is Certificate 10 d none)
+
+-- each form has an end, and a certificate has all kinds
+pub end_placed : (form : Form) (d : ℕ) → placed form 15 d ≡ Some (last form d)
+end_placed Question d = placed_is Question 15 d ∙ ap Some (omega arith)
+end_placed Certificate d = placed_is Certificate 15 d ∙ ap Some (omega (arith, certificate_words_lem d))
+end_placed Kernel d = placed_is Kernel 15 d ∙ ap Some (omega (arith, kernel_words d))
+
+pub n_placed : (d : ℕ) → placed Certificate 9 d ≡ Some (d + 8)
+n_placed d = placed_is Certificate 9 d ∙ ap Some (omega arith)
+
+pub count_placed : (d : ℕ) → placed Certificate 10 d ≡ Some (3 * d + 10)
+count_placed d = placed_is Certificate 10 d ∙ ap Some (omega arith)
 
 pub end_small : (d : ℕ) (form : Form) → last form d < certificate_words d
 end_small d Question = omega arith

@@ -1,11 +1,12 @@
-// Sheets: words, kinds and values; the three forms, the table of places, and what a sheet says by them.
+// Sheets: words, kinds and values; the three forms, where their words stand, and what a sheet says by them.
 #![tactic(auto)]
 
 ghost use Rattle.std.specs.Prelude.{◌≡◌, ◌+◌, ◌-◌, ◌*◌, ◌^◌, ◌<◌, ◌≤◌, map, length, get_or, take, drop};
 ghost use Rattle.sheet.specs.declared.Form.TheVariants.{Certificate};
 ghost use Rattle.sheet.specs.Word.{kind_of, value_of, word_at, words_of};
 ghost use Rattle.sheet.specs.Form.{header, entry, value_in, certificate_words};
-ghost use Rattle.sheet.specs.Place.{place_of, PlacesOf};
+ghost use Rattle.sheet.specs.Code.{code};
+ghost use Rattle.sheet.specs.Place.{place_of, placed};
 ghost use Rattle.sheet.specs.Values.{values_of, half, coefficient_in};
 
 // The words of the largest certificate, that of degree 255.
@@ -31,60 +32,105 @@ pub struct Values {
     pub sigma: u32,
 }
 
-// Nowhere, in the table of places.
-const NO: u8 = 255;
-
-// In each of the forms question, certificate, kernel sheet: the place of each kind's first word at d = 0, and how far each step of d moves it. The forms come
-// first, so that the part of one form, once it is known, dissolves into constants wherever a place is asked for.
-const PLACES: [[[u8; 16]; 2]; 3] = [
-    [
-        [NO, 0, 1, 2, 3, 4, 5, 6, NO, NO, NO, NO, NO, NO, NO, 7],
-        [0, 0, 0, 0, 0, 0, 0, 0, 0, 0, 0, 0, 0, 0, 0, 0],
-    ],
-    [
-        [NO, 0, 1, 2, 3, 4, 5, 6, 7, 8, 10, NO, NO, NO, NO, 11],
-        [0, 0, 0, 0, 0, 0, 0, 0, 0, 1, 3, 0, 0, 0, 0, 3],
-    ],
-    [
-        [NO, 0, 1, 2, NO, NO, 3, NO, 4, NO, NO, NO, NO, NO, NO, 5],
-        [0, 0, 0, 0, 0, 0, 0, 0, 0, 0, 0, 0, 0, 0, 0, 1],
-    ],
-];
-
-fn size(x: u8) -> usize
-    ensures { (result ≡ x) × (result < 256) }
-{
-    x as usize
+// What a word holds. The top four of its bits are the kind's number.
+#[derive(Clone, Copy, Debug, PartialEq, Eq)]
+pub enum Kind {
+    P = 1,
+    A = 2,
+    B = 3,
+    Atilde = 4,
+    Btilde = 5,
+    // The degree ℓ.
+    Degree = 6,
+    Sigma = 7,
+    // A coefficient of the kernel polynomial.
+    G = 8,
+    // A coefficient of the numerator.
+    N = 9,
+    // The count of rational abscissas.
+    Abscissas = 10,
+    End = 15,
 }
 
-// A form's part of the table.
-fn places_of(form: Form) -> [[u8; 16]; 2]
-    ensures { PlacesOf form result }
+impl From<Kind> for u32 {
+    ghost from_gives = { λ kind n. n ≡ code kind };
+
+    fn from(kind: Kind) -> u32 {
+        kind as u32
+    }
+}
+
+// The kinds of a form's header, in order.
+pub fn header(form: Form) -> &'static [Kind]
+    ensures { map code result.now ≡ header form }
 {
     match form {
-        Form::Question => PLACES[0],
-        Form::Certificate => PLACES[1],
-        Form::Kernel => PLACES[2],
+        Form::Question | Form::Certificate => &[
+            Kind::P,
+            Kind::A,
+            Kind::B,
+            Kind::Atilde,
+            Kind::Btilde,
+            Kind::Degree,
+            Kind::Sigma,
+        ],
+        Form::Kernel => &[Kind::P, Kind::A, Kind::B, Kind::Degree],
     }
 }
 
-// The place of the first word of a kind in a sheet of degree 2 d + 1, or `none` where the form has no such word.
-pub fn place(form: Form, kind: usize, d: usize, none: usize) -> usize
-    requires { (kind < 16) × (d ≤ 2 ^ 28) }
-    ensures { result ≡ place_of form kind d none }
+// The place of the first word of a kind in a sheet of degree 2 d + 1, if the form has such a word.
+pub fn place(form: Form, kind: Kind, d: usize) -> Option<usize>
+    requires { d ≤ 2 ^ 28 }
+    ensures { result ≡ placed form (code kind) d }
 {
-    let places = places_of(form);
-    let at = size(places[0][kind]);
-    if at == 255 {
-        return none;
+    match kind {
+        Kind::P => Some(0),
+        Kind::A => Some(1),
+        Kind::B => Some(2),
+        Kind::Atilde => match form {
+            Form::Question | Form::Certificate => Some(3),
+            Form::Kernel => None,
+        },
+        Kind::Btilde => match form {
+            Form::Question | Form::Certificate => Some(4),
+            Form::Kernel => None,
+        },
+        Kind::Degree => match form {
+            Form::Question | Form::Certificate => Some(5),
+            Form::Kernel => Some(3),
+        },
+        Kind::Sigma => match form {
+            Form::Question | Form::Certificate => Some(6),
+            Form::Kernel => None,
+        },
+        Kind::G => match form {
+            Form::Question => None,
+            Form::Certificate => Some(7),
+            Form::Kernel => Some(4),
+        },
+        Kind::N => match form {
+            Form::Question => None,
+            Form::Certificate => Some(d + 8),
+            Form::Kernel => None,
+        },
+        Kind::Abscissas => match form {
+            Form::Question => None,
+            Form::Certificate => Some(3 * d + 10),
+            Form::Kernel => None,
+        },
+        Kind::End => match form {
+            Form::Question => Some(7),
+            Form::Certificate => Some(3 * d + 11),
+            Form::Kernel => Some(d + 5),
+        },
     }
-    at + size(places[1][kind]) * d
 }
 
-pub fn kind(w: u32) -> usize
+// The kind of a word, as a number: on a sheet it may be that of no kind.
+pub fn kind_of(w: u32) -> u32
     ensures { result ≡ kind_of w }
 {
-    (w >> 28) as usize
+    w >> 28
 }
 
 pub fn value(w: u32) -> u32
@@ -109,26 +155,27 @@ fn value_in(form: Form, p: u32, x: u32) -> u32
 }
 
 // The number in the header's word of a kind; 0 where the form has no such word, or the sheet ends before it.
-pub fn entry_of(form: Form, kind: usize, ws: &[u32]) -> u32
-    requires { kind < 8 }
-    ensures { (result ≡ entry form kind ws.now) × (result < 2 ^ 28) }
+pub fn entry_of(form: Form, kind: Kind, ws: &[u32]) -> u32
+    requires { code kind < 8 }
+    ensures { (result ≡ entry form (code kind) ws.now) × (result < 2 ^ 28) }
 {
-    let at = place(form, kind, 0, ws.len());
-    if at < ws.len() { value(ws[at]) } else { 0 }
+    match place(form, kind, 0) {
+        Some(at) if at < ws.len() => value(ws[at]),
+        _ => 0,
+    }
 }
 
 // d = (ℓ − 1)/2
 pub fn half_degree(v: Values) -> usize
     ensures { (result ≡ half v) × (result < 2 ^ 31) }
 {
-    let l = v.degree;
-    if l == 0 { 0 } else { ((l - 1) / 2) as usize }
+    (v.degree.saturating_sub(1) / 2) as usize
 }
 
 // The value of a kind on a sheet over p.
-fn value_of(form: Form, p: u32, kind: usize, ws: &[u32]) -> u32
-    requires { (0 < p) × (kind < 8) }
-    ensures { result ≡ value_in form p (entry form kind ws.now) }
+fn value_of(form: Form, p: u32, kind: Kind, ws: &[u32]) -> u32
+    requires { (0 < p) × (code kind < 8) }
+    ensures { result ≡ value_in form p (entry form (code kind) ws.now) }
 {
     value_in(form, p, entry_of(form, kind, ws))
 }
@@ -140,12 +187,12 @@ pub fn values_of(form: Form, p: u32, degree: u32, ws: &[u32]) -> Values
 {
     Values {
         p,
-        a: value_of(form, p, 2, ws),
-        b: value_of(form, p, 3, ws),
-        atilde: value_of(form, p, 4, ws),
-        btilde: value_of(form, p, 5, ws),
+        a: value_of(form, p, Kind::A, ws),
+        b: value_of(form, p, Kind::B, ws),
+        atilde: value_of(form, p, Kind::Atilde, ws),
+        btilde: value_of(form, p, Kind::Btilde, ws),
         degree,
-        sigma: value_of(form, p, 7, ws),
+        sigma: value_of(form, p, Kind::Sigma, ws),
     }
 }
 
@@ -164,8 +211,8 @@ pub fn g_coefficients(form: Form, p: u32, ws: &[u32], d: usize, out: &mut [u32])
     requires { (0 < p) × (d ≤ 2 ^ 28) × (length (header form) + length out.old ≤ length ws.now) }
     ensures { out.new ≡ map (coefficient_in form p) (take (length out.old) (drop (length (header form)) ws.now)) }
 {
-    let end = place(form, 15, d, 0);
-    let from = place(form, 8, d, end);
+    let end = place(form, Kind::End, d).unwrap();
+    let from = place(form, Kind::G, d).unwrap_or(end);
     coefficients(form, p, ws, from, out);
 }
 
@@ -174,7 +221,7 @@ pub fn n_coefficients(p: u32, ws: &[u32], d: usize, out: &mut [u32])
     requires { (0 < p) × (d ≤ 2 ^ 28) × (d + 8 + length out.old ≤ length ws.now) }
     ensures { out.new ≡ map (coefficient_in Certificate p) (take (length out.old) (drop (d + 8) ws.now)) }
 {
-    let from = place(Form::Certificate, 9, d, 0);
+    let from = place(Form::Certificate, Kind::N, d).unwrap();
     coefficients(Form::Certificate, p, ws, from, out);
 }
 
@@ -183,13 +230,7 @@ pub fn rational_abscissas(ws: &[u32], d: usize) -> u32
     requires { (d ≤ 2 ^ 28) × (length ws.now ≡ certificate_words d) }
     ensures { (result ≡ value_of (get_or ws.now (place_of Certificate 10 d 0) 0)) × (result < 2 ^ 28) }
 {
-    value(ws[place(Form::Certificate, 10, d, 0)])
-}
-
-fn byte(x: u8) -> u32
-    ensures { (result ≡ x) × (result < 256) }
-{
-    x as u32
+    value(ws[place(Form::Certificate, Kind::Abscissas, d).unwrap()])
 }
 
 // A word from its four bytes, the lowest first.
@@ -198,10 +239,7 @@ fn word_at(bytes: &[u8], i: usize) -> u32
     ensures { result ≡ word_at bytes.now i }
 {
     let at = 4 * i;
-    byte(bytes[at])
-        + 256 * byte(bytes[at + 1])
-        + 65536 * byte(bytes[at + 2])
-        + 16777216 * byte(bytes[at + 3])
+    u32::from_le_bytes([bytes[at], bytes[at + 1], bytes[at + 2], bytes[at + 3]])
 }
 
 // The first words of a run of bytes, as many as `out` has room for.

@@ -1,28 +1,21 @@
--- `reading::headed` meets its contract. The invariant: the kinds before k stand where they belong.
+-- `reading::headed` meets its contract. The invariant: the words before i are of the header's kinds.
 -- Assumes nothing.
-use Rattle.std.proofs.Common.{ap, arith, not, rules}
-use Rattle.reading.specs.Leaf.{Stands}
-use Rattle.questions.specs.Tests.{says_no, says_yes, refuted, shown, more_from}
-use Rattle.reading.specs.Header.{asked2_stands, stands_asked2}
+use Rattle.std.proofs.Common.{arith}
+use Rattle.questions.specs.Tests.{says_no, says_yes}
+use Rattle.reading.proofs.InOrder.{by_words}
 use Rattle.reading.proofs.headed.Goals as goal
 
-pub loop-k-init : goal.loop-k-init
-loop-k-init c = (search rules, search rules, λ j l h. absurd (omega arith))
+pub returns-then-ws-kinds : goal.returns-then-ws-kinds
+returns-then-ws-kinds c =
+    let two = by_words c.args.form c.args.ws.now c.header-kinds.ensures in
+    says_no (λ h. omega (arith, c.if-ws-kinds.true, (two.0 h).long))
 
-pub returns-then-not-has_kind : goal.returns-then-not-has_kind
-returns-then-not-has_kind c = says_no (λ h. refuted c.has_kind.ensures (ap not c.if-not-has_kind.true)
-    (asked2_stands c.args.form c.args.ws.now h
-    c.loop-k.k))
-
-pub loop-k-preserved : goal.loop-k-preserved
-loop-k-preserved c =
-    let at = c.args in (
-      omega arith,
-      omega arith,
-      more_from (λ j. Stands at.form j at.ws.now) 1 c.loop-k.k
-          c.loop-k.invariant.2 (shown c.has_kind.ensures (ap not c.if-not-has_kind.false)),
-    )
+pub returns-then-kind_of-from : goal.returns-then-kind_of-from
+returns-then-kind_of-from c =
+    let two = by_words c.args.form c.args.ws.now c.header-kinds.ensures in
+    says_no (λ h. omega (arith, c.if-kind_of-from.true, c.kind_of.ensures, c.from.ensures, (two.0 h).same c.loop-i.i c.loop-i-test.true))
 
 pub returns : goal.returns
-returns c = says_yes (stands_asked2 c.args.form c.args.ws.now
-    (λ j l h. c.loop-k.invariant.2 j l (omega arith)))
+returns c =
+    let two = by_words c.args.form c.args.ws.now c.header-kinds.ensures in
+    says_yes (two.1 (record { long = c.if-ws-kinds.false; same = λ i l. c.loop-i.invariant i (omega (arith, c.loop-i-test.false, l)) }))

@@ -1,9 +1,8 @@
-use Rattle.std.proofs.Common.{ℕ, ◌-◌, ◌<◌, ◌≤◌}
-use Rattle.reading.specs.Leaf.{Stands}
+use Rattle.std.proofs.Common.{get_or, slice_index, ℕ, ◌<◌, ◌≡◌}
+use Rattle.sheet.specs.declared.Kind.TheVariants.{P}
+use Rattle.sheet.specs.Code.{code}
+use Rattle.sheet.specs.Word.{kind_of}
 use Rattle.reading.proofs.headed.Given as goal
 
-abbrev pub invariant-loop-k : goal.invariant-loop-k
-invariant-loop-k l = (1 ≤ l.k) × (l.k ≤ 8) × ((j : ℕ) → 1 ≤ j → j < l.k → Stands l.form j l.ws)
-
-abbrev pub decreases-loop-k : goal.decreases-loop-k
-decreases-loop-k l = 8 - l.k
+abbrev pub invariant-loop-i : goal.invariant-loop-i
+invariant-loop-i l = (j : ℕ) → j < l.i → kind_of (slice_index l.ws j) ≡ code (get_or l.kinds j P)

@@ -1,325 +1,101 @@
 -- `reading::read` meets its contract: after each test, what it has shown of the sheet.
 -- Assumes nothing.
-use Rattle.std.proofs.Common.{not, not, ap, ap₂, arith, subst, sym, ◌≡◌}
+use Rattle.std.proofs.Common.{true, ap, ap₂, arith, subst, ◌↔◌, ◌≡◌}
 use Rattle.questions.specs.Numbered.{first_no}
+use Rattle.questions.specs.Tests.{was_no, was_yes}
+use Rattle.sheet.specs.declared.Values.{Values}
 use Rattle.sheet.specs.Values.{values_of}
-use Rattle.sheet.specs.Ready.{Ready}
-use Rattle.sheet.specs.Asked.{Asked2, Asked6, PrimeAllowed, DegreeAllowed, ValuesBelow, Curves, asked}
-use Rattle.questions.specs.Tests.{refuted, shown}
+use Rattle.sheet.specs.Asked.{PrimeAllowed, DegreeAllowed, ValuesBelow, Curves, asked}
+use Rattle.reading.proofs.read.Goals.{After-prime_allowed, After-degree_allowed, After-values_below, After-curves}
 use Rattle.reading.proofs.read.Goals as goal
 
+-- what the tests decide of the sheet's own values
+
+three : (c : After-prime_allowed) → (c.prime_allowed.result ≡ true) ↔ PrimeAllowed (values_of c.args.form c.args.ws.now).p
+three c = subst (λ p. (c.prime_allowed.result ≡ true) ↔ PrimeAllowed p) c.entry_of-p.ensures.0 c.prime_allowed.ensures
+
+four : (c : After-degree_allowed)
+    → (c.degree_allowed.result ≡ true) ↔ DegreeAllowed (values_of c.args.form c.args.ws.now).degree (values_of c.args.form c.args.ws.now).p
+four c =
+    subst (λ (Allowed : Type 0). (c.degree_allowed.result ≡ true) ↔ Allowed) (ap₂ DegreeAllowed c.entry_of-degree.ensures.0 c.entry_of-p.ensures.0)
+    c.degree_allowed.ensures
+
+five : (c : After-values_below) → (c.values_below.result ≡ true) ↔ ValuesBelow (values_of c.args.form c.args.ws.now)
+five c = subst (λ v. (c.values_below.result ≡ true) ↔ ValuesBelow v) c.values_of-v.ensures c.values_below.ensures
+
+seven : (c : After-curves) → (c.curves.result ≡ true) ↔ Curves c.args.form (values_of c.args.form c.args.ws.now)
+seven c = subst (λ v. (c.curves.result ≡ true) ↔ Curves c.args.form v) c.values_of-v.ensures c.curves.ensures
+
 pub returns-then-not-headed : goal.returns-then-not-headed
-returns-then-not-headed c =
-    let form =
-    c.args.form
-    in
-    let words =
-    c.args.ws.now
-    in
-    first_no (asked (form) (words)) 2 tt tt (refuted c.headed.ensures (ap not c.if-not-headed.true))
+returns-then-not-headed c = first_no (asked c.args.form c.args.ws.now) 2 tt tt (was_no c.headed.ensures c.if-not-headed.true)
 
 pub returns-then-not-prime_allowed : goal.returns-then-not-prime_allowed
 returns-then-not-prime_allowed c =
-    let form =
-    c.args.form
-    in
-    let words =
-    c.args.ws.now
-    in
-    let values =
-    values_of (form) (words)
-    in
-    let prime-is : c.entry_of-p.result ≡ values.p =
-    c.entry_of-p.ensures.0
-    in
-    let two : Asked2 (form) (words) =
-    shown c.headed.ensures (ap not c.if-not-headed.false)
-    in
-    first_no (asked (form) (words)) 3 tt (two, tt)
-    (λ h. refuted c.prime_allowed.ensures (ap not c.if-not-prime_allowed.true) (subst PrimeAllowed (sym (prime-is)) h))
+    let at = goal.at.returns-then-not-prime_allowed c in
+    first_no (asked c.args.form c.args.ws.now) 3 tt (was_yes c.headed.ensures c.if-not-headed.false, tt)
+    (was_no (three at.After-prime_allowed) c.if-not-prime_allowed.true)
 
 pub returns-then-not-degree_allowed : goal.returns-then-not-degree_allowed
 returns-then-not-degree_allowed c =
-    let form =
-    c.args.form
-    in
-    let words =
-    c.args.ws.now
-    in
-    let values =
-    values_of (form) (words)
-    in
-    let prime-is : c.entry_of-p.result ≡ values.p =
-    c.entry_of-p.ensures.0
-    in
-    let three : PrimeAllowed values.p =
-    subst PrimeAllowed (prime-is) (shown c.prime_allowed.ensures (ap not c.if-not-prime_allowed.false))
-    in
-    let two : Asked2 (form) (words) =
-    shown c.headed.ensures (ap not c.if-not-headed.false)
-    in
-    let degree_is : c.entry_of-degree.result ≡ values.degree =
-    c.entry_of-degree.ensures.0
-    in
-    let fourth : DegreeAllowed c.entry_of-degree.result c.entry_of-p.result
-    ≡ DegreeAllowed values.degree values.p =
-    ap₂ DegreeAllowed (degree_is) (prime-is)
-    in
-    first_no (asked (form) (words)) 4 tt (two, (three, tt))
-    (λ h. refuted c.degree_allowed.ensures (ap not c.if-not-degree_allowed.true) (subst (λ T. T) (sym (fourth)) h))
+    let at = goal.at.returns-then-not-degree_allowed c in
+    let two = was_yes c.headed.ensures c.if-not-headed.false in
+    let prime = was_yes (three at.After-prime_allowed) c.if-not-prime_allowed.false in
+    first_no (asked c.args.form c.args.ws.now) 4 tt (two, (prime, tt)) (was_no (four at.After-degree_allowed) c.if-not-degree_allowed.true)
 
 pub values_of-v-requires : goal.values_of-v-requires
 values_of-v-requires c =
-    let form =
-    c.args.form
-    in
-    let words =
-    c.args.ws.now
-    in
-    let values =
-    values_of (form) (words)
-    in
-    let prime-is : c.entry_of-p.result ≡ values.p =
-    c.entry_of-p.ensures.0
-    in
-    let degree_is : c.entry_of-degree.result ≡ values.degree =
-    c.entry_of-degree.ensures.0
-    in
-    let p = shown c.prime_allowed.ensures (ap not c.if-not-prime_allowed.false) in
-    (omega (arith, p.least), prime-is, degree_is)
+    let p = was_yes c.prime_allowed.ensures c.if-not-prime_allowed.false in
+    (omega (arith, p.least), c.entry_of-p.ensures.0, c.entry_of-degree.ensures.0)
 
 pub returns-then-not-values_below : goal.returns-then-not-values_below
 returns-then-not-values_below c =
-    let form =
-    c.args.form
-    in
-    let words =
-    c.args.ws.now
-    in
-    let values =
-    values_of (form) (words)
-    in
-    let prime-is : c.entry_of-p.result ≡ values.p =
-    c.entry_of-p.ensures.0
-    in
-    let three : PrimeAllowed values.p =
-    subst PrimeAllowed (prime-is) (shown c.prime_allowed.ensures (ap not c.if-not-prime_allowed.false))
-    in
-    let two : Asked2 (form) (words) =
-    shown c.headed.ensures (ap not c.if-not-headed.false)
-    in
-    let degree_is : c.entry_of-degree.result ≡ values.degree =
-    c.entry_of-degree.ensures.0
-    in
-    let fourth : DegreeAllowed c.entry_of-degree.result c.entry_of-p.result
-    ≡ DegreeAllowed values.degree values.p =
-    ap₂ DegreeAllowed (degree_is) (prime-is)
-    in
-    let four : DegreeAllowed values.degree values.p =
-    subst (λ T. T) (fourth) (shown c.degree_allowed.ensures (ap not c.if-not-degree_allowed.false))
-    in
-    let values_are : c.values_of-v.result ≡ values =
-    c.values_of-v.ensures
-    in
-    first_no (asked (form) (words)) 5 tt (two, (three, (four, tt)))
-    (λ h. refuted c.values_below.ensures (ap not c.if-not-values_below.true) (subst ValuesBelow (sym (values_are)) h))
+    let at = goal.at.returns-then-not-values_below c in
+    let two = was_yes c.headed.ensures c.if-not-headed.false in
+    let prime = was_yes (three at.After-prime_allowed) c.if-not-prime_allowed.false in
+    let degree = was_yes (four at.After-degree_allowed) c.if-not-degree_allowed.false in
+    first_no (asked c.args.form c.args.ws.now) 5 tt (two, (prime, (degree, tt))) (was_no (five at.After-values_below) c.if-not-values_below.true)
 
 pub exact-requires : goal.exact-requires
 exact-requires c =
-    let form =
-    c.args.form
-    in
-    let words =
-    c.args.ws.now
-    in
-    let values =
-    values_of (form) (words)
-    in
-    let prime-is : c.entry_of-p.result ≡ values.p =
-    c.entry_of-p.ensures.0
-    in
-    let three : PrimeAllowed values.p =
-    subst PrimeAllowed (prime-is) (shown c.prime_allowed.ensures (ap not c.if-not-prime_allowed.false))
-    in
-    let degree_is : c.entry_of-degree.result ≡ values.degree =
-    c.entry_of-degree.ensures.0
-    in
-    let fourth : DegreeAllowed c.entry_of-degree.result c.entry_of-p.result
-    ≡ DegreeAllowed values.degree values.p =
-    ap₂ DegreeAllowed (degree_is) (prime-is)
-    in
-    let four : DegreeAllowed values.degree values.p =
-    subst (λ T. T) (fourth) (shown c.degree_allowed.ensures (ap not c.if-not-degree_allowed.false))
-    in
-    let values_are : c.values_of-v.result ≡ values =
-    c.values_of-v.ensures
-    in
-    let five : ValuesBelow (values) =
-    subst ValuesBelow (values_are) (shown c.values_below.ensures (ap not c.if-not-values_below.false))
-    in
-    let known : Ready c.values_of-v.result =
-    subst Ready (sym (values_are)) (record { prime = three; degree = four; below = five })
-    in
-    let known = known in
-    (values_are, omega (arith, known.degree.most), omega (arith, known.prime.least), omega (arith, known.prime.most))
+    let at = goal.at.exact-requires c in
+    let v = c.values_of-v.ensures in
+    let prime = was_yes (three at.After-prime_allowed) c.if-not-prime_allowed.false in
+    let degree = was_yes (four at.After-degree_allowed) c.if-not-degree_allowed.false in
+    let p_is = ap (λ (v : Values). v.p) v in
+    (v, omega (arith, ap (λ (v : Values). v.degree) v, degree.most), omega (arith, p_is, prime.least), omega (arith, p_is, prime.most))
 
 pub returns-then-not-exact : goal.returns-then-not-exact
 returns-then-not-exact c =
-    let form =
-    c.args.form
-    in
-    let words =
-    c.args.ws.now
-    in
-    let values =
-    values_of (form) (words)
-    in
-    let prime-is : c.entry_of-p.result ≡ values.p =
-    c.entry_of-p.ensures.0
-    in
-    let three : PrimeAllowed values.p =
-    subst PrimeAllowed (prime-is) (shown c.prime_allowed.ensures (ap not c.if-not-prime_allowed.false))
-    in
-    let two : Asked2 (form) (words) =
-    shown c.headed.ensures (ap not c.if-not-headed.false)
-    in
-    let degree_is : c.entry_of-degree.result ≡ values.degree =
-    c.entry_of-degree.ensures.0
-    in
-    let fourth : DegreeAllowed c.entry_of-degree.result c.entry_of-p.result
-    ≡ DegreeAllowed values.degree values.p =
-    ap₂ DegreeAllowed (degree_is) (prime-is)
-    in
-    let four : DegreeAllowed values.degree values.p =
-    subst (λ T. T) (fourth) (shown c.degree_allowed.ensures (ap not c.if-not-degree_allowed.false))
-    in
-    let values_are : c.values_of-v.result ≡ values =
-    c.values_of-v.ensures
-    in
-    let five : ValuesBelow (values) =
-    subst ValuesBelow (values_are) (shown c.values_below.ensures (ap not c.if-not-values_below.false))
-    in
-    first_no (asked (form) (words)) 6 tt (two, (three, (four, (five, tt))))
-    (refuted c.exact.ensures (ap not c.if-not-exact.true))
+    let at = goal.at.returns-then-not-exact c in
+    let two = was_yes c.headed.ensures c.if-not-headed.false in
+    let prime = was_yes (three at.After-prime_allowed) c.if-not-prime_allowed.false in
+    let degree = was_yes (four at.After-degree_allowed) c.if-not-degree_allowed.false in
+    let below = was_yes (five at.After-values_below) c.if-not-values_below.false in
+    first_no (asked c.args.form c.args.ws.now) 6 tt (two, (prime, (degree, (below, tt)))) (was_no c.exact.ensures c.if-not-exact.true)
 
 pub curves-requires : goal.curves-requires
 curves-requires c =
-    let form =
-    c.args.form
-    in
-    let words =
-    c.args.ws.now
-    in
-    let values =
-    values_of (form) (words)
-    in
-    let prime-is : c.entry_of-p.result ≡ values.p =
-    c.entry_of-p.ensures.0
-    in
-    let three : PrimeAllowed values.p =
-    subst PrimeAllowed (prime-is) (shown c.prime_allowed.ensures (ap not c.if-not-prime_allowed.false))
-    in
-    let degree_is : c.entry_of-degree.result ≡ values.degree =
-    c.entry_of-degree.ensures.0
-    in
-    let fourth : DegreeAllowed c.entry_of-degree.result c.entry_of-p.result
-    ≡ DegreeAllowed values.degree values.p =
-    ap₂ DegreeAllowed (degree_is) (prime-is)
-    in
-    let four : DegreeAllowed values.degree values.p =
-    subst (λ T. T) (fourth) (shown c.degree_allowed.ensures (ap not c.if-not-degree_allowed.false))
-    in
-    let values_are : c.values_of-v.result ≡ values =
-    c.values_of-v.ensures
-    in
-    let five : ValuesBelow (values) =
-    subst ValuesBelow (values_are) (shown c.values_below.ensures (ap not c.if-not-values_below.false))
-    in
-    let known : Ready c.values_of-v.result =
-    subst Ready (sym (values_are)) (record { prime = three; degree = four; below = five })
-    in
-    let known = known in (omega (arith, known.prime.least), omega (arith, known.prime.most))
+    let prime = was_yes (three (goal.at.curves-requires c).After-prime_allowed) c.if-not-prime_allowed.false in
+    let p_is = ap (λ (v : Values). v.p) c.values_of-v.ensures in
+    (omega (arith, p_is, prime.least), omega (arith, p_is, prime.most))
 
 pub returns-then-not-curves : goal.returns-then-not-curves
 returns-then-not-curves c =
-    let form =
-    c.args.form
-    in
-    let words =
-    c.args.ws.now
-    in
-    let values =
-    values_of (form) (words)
-    in
-    let prime-is : c.entry_of-p.result ≡ values.p =
-    c.entry_of-p.ensures.0
-    in
-    let three : PrimeAllowed values.p =
-    subst PrimeAllowed (prime-is) (shown c.prime_allowed.ensures (ap not c.if-not-prime_allowed.false))
-    in
-    let six : Asked6 (form) (words) =
-    shown c.exact.ensures (ap not c.if-not-exact.false)
-    in
-    let two : Asked2 (form) (words) =
-    shown c.headed.ensures (ap not c.if-not-headed.false)
-    in
-    let degree_is : c.entry_of-degree.result ≡ values.degree =
-    c.entry_of-degree.ensures.0
-    in
-    let fourth : DegreeAllowed c.entry_of-degree.result c.entry_of-p.result
-    ≡ DegreeAllowed values.degree values.p =
-    ap₂ DegreeAllowed (degree_is) (prime-is)
-    in
-    let four : DegreeAllowed values.degree values.p =
-    subst (λ T. T) (fourth) (shown c.degree_allowed.ensures (ap not c.if-not-degree_allowed.false))
-    in
-    let values_are : c.values_of-v.result ≡ values =
-    c.values_of-v.ensures
-    in
-    let five : ValuesBelow (values) =
-    subst ValuesBelow (values_are) (shown c.values_below.ensures (ap not c.if-not-values_below.false))
-    in
-    first_no (asked (form) (words)) 7 tt (two, (three, (four, (five, (six, tt)))))
-    (λ h. refuted c.curves.ensures (ap not c.if-not-curves.true) (subst (Curves (form)) (sym (values_are)) h))
+    let at = goal.at.returns-then-not-curves c in
+    let two = was_yes c.headed.ensures c.if-not-headed.false in
+    let prime = was_yes (three at.After-prime_allowed) c.if-not-prime_allowed.false in
+    let degree = was_yes (four at.After-degree_allowed) c.if-not-degree_allowed.false in
+    let below = was_yes (five at.After-values_below) c.if-not-values_below.false in
+    let six = was_yes c.exact.ensures c.if-not-exact.false in
+    first_no (asked c.args.form c.args.ws.now) 7 tt (two, (prime, (degree, (below, (six, tt))))) (was_no (seven at.After-curves) c.if-not-curves.true)
 
 pub returns : goal.returns
 returns c =
-    let form =
-    c.args.form
-    in
-    let words =
-    c.args.ws.now
-    in
-    let values =
-    values_of (form) (words)
-    in
-    let prime-is : c.entry_of-p.result ≡ values.p =
-    c.entry_of-p.ensures.0
-    in
-    let three : PrimeAllowed values.p =
-    subst PrimeAllowed (prime-is) (shown c.prime_allowed.ensures (ap not c.if-not-prime_allowed.false))
-    in
-    let six : Asked6 (form) (words) =
-    shown c.exact.ensures (ap not c.if-not-exact.false)
-    in
-    let two : Asked2 (form) (words) =
-    shown c.headed.ensures (ap not c.if-not-headed.false)
-    in
-    let degree_is : c.entry_of-degree.result ≡ values.degree =
-    c.entry_of-degree.ensures.0
-    in
-    let fourth : DegreeAllowed c.entry_of-degree.result c.entry_of-p.result
-    ≡ DegreeAllowed values.degree values.p =
-    ap₂ DegreeAllowed (degree_is) (prime-is)
-    in
-    let four : DegreeAllowed values.degree values.p =
-    subst (λ T. T) (fourth) (shown c.degree_allowed.ensures (ap not c.if-not-degree_allowed.false))
-    in
-    let values_are : c.values_of-v.result ≡ values =
-    c.values_of-v.ensures
-    in
-    let five : ValuesBelow (values) =
-    subst ValuesBelow (values_are) (shown c.values_below.ensures (ap not c.if-not-values_below.false))
-    in
-    let seven = subst (Curves (form)) (values_are) (shown c.curves.ensures (ap not c.if-not-curves.false)) in
-    ((two, (three, (four, (five, (six, (seven, tt)))))), values_are)
+    let at = goal.at.returns c in
+    let two = was_yes c.headed.ensures c.if-not-headed.false in
+    let prime = was_yes (three at.After-prime_allowed) c.if-not-prime_allowed.false in
+    let degree = was_yes (four at.After-degree_allowed) c.if-not-degree_allowed.false in
+    let below = was_yes (five at.After-values_below) c.if-not-values_below.false in
+    let six = was_yes c.exact.ensures c.if-not-exact.false in
+    let curves = was_yes (seven at.After-curves) c.if-not-curves.false in
+    ((two, (prime, (degree, (below, (six, (curves, tt)))))), c.values_of-v.ensures)

@@ -1,29 +1,51 @@
 -- `sheet::place` meets its contract.
 -- Assumes nothing.
-use Rattle.std.proofs.Common.{ap₂, arith, mul-le-mul, rules, sym, ◌*◌, ◌+◌, ◌^◌, ◌∙◌, ◌≤◌}
-use Rattle.sheet.specs.Places.{nowhere, somewhere}
-use Rattle.sheet.proofs.place.Goals.{After-size}
+use Rattle.std.proofs.Common.{Option, Some, ap, ap₂, arith, sym, ℕ, ◌∙◌, ◌≡◌}
+use Rattle.sheet.specs.declared.Form.{Form}
+use Rattle.sheet.specs.declared.Form.TheVariants.{Question, Certificate, Kernel}
+use Rattle.sheet.specs.declared.Kind.{Kind}
+use Rattle.sheet.specs.Code.{code}
+use Rattle.sheet.specs.Place.{placed}
+use Rattle.sheet.specs.Places.{placed_is, n_placed, count_placed}
 use Rattle.sheet.proofs.place.Goals as goal
 
-pub returns-then-at-eq255 : goal.returns-then-at-eq255
-returns-then-at-eq255 c =
-    let at = c.args in
-    sym (nowhere at.form at.kind at.d at.none
-    (sym (c.size-at.ensures.0 ∙ c.places_of-places.ensures.start at.kind (search rules)) ∙ c.if-at-eq255.true))
+-- by the form and the kind that are matched
+known : {form form' : Form} {kind kind' : Kind} {place : Option ℕ} (d : ℕ) → form ≡ form' → kind ≡ kind' → placed form' (code kind') d ≡ place
+    → place ≡ placed form (code kind) d
+known d f k e = sym (ap₂ (λ (form : Form) (kind : Kind). placed form (code kind) d) f k ∙ e)
 
--- how far the place is moved is below 2^36
-moved : (c : After-size) → c.size.result * c.args.d ≤ 255 * 2 ^ 28
-moved c = mul-le-mul {n₂ = 255} {m₂ = 2 ^ 28} (omega (arith, c.size.ensures.1)) (search rules)
+pub returns-in-Kernel : goal.returns-in-Kernel
+returns-in-Kernel c = known c.args.d c.in-Kernel.is c.in-Atilde.is (placed_is Kernel 4 c.args.d)
 
-pub overflow_mul-result : goal.overflow_mul-result
-overflow_mul-result c = omega (arith, moved c)
+pub returns-in-Kernel-form : goal.returns-in-Kernel-form
+returns-in-Kernel-form c = known c.args.d c.in-Kernel-form.is c.in-Btilde.is (placed_is Kernel 5 c.args.d)
 
-pub overflow_add-result : goal.overflow_add-result
-overflow_add-result c = omega (arith, moved c, c.size-at.ensures.1)
+pub returns-in-Kernel-form-3 : goal.returns-in-Kernel-form-3
+returns-in-Kernel-form-3 c = known c.args.d c.in-Kernel-form-3.is c.in-Sigma.is (placed_is Kernel 7 c.args.d)
 
-pub returns : goal.returns
-returns c =
-    let a = c.args in
-    let start = c.size-at.ensures.0 ∙ c.places_of-places.ensures.start a.kind (search rules) in
-    let rise = c.size.ensures.0 ∙ c.places_of-places.ensures.rise a.kind (search rules) in
-    ap₂ (λ x y. x + y * a.d) start rise ∙ somewhere a.form a.kind a.d a.none (λ e. c.if-at-eq255.false (start ∙ e))
+pub returns-in-Certificate-form : goal.returns-in-Certificate-form
+returns-in-Certificate-form c =
+    known c.args.d c.in-Certificate-form.is c.in-N.is (n_placed c.args.d)
+
+pub returns-in-Question-form-5 : goal.returns-in-Question-form-5
+returns-in-Question-form-5 c = known c.args.d c.in-Question-form-5.is c.in-N.is (placed_is Question 9 c.args.d)
+
+pub returns-in-Certificate-form-2 : goal.returns-in-Certificate-form-2
+returns-in-Certificate-form-2 c =
+    known c.args.d c.in-Certificate-form-2.is c.in-Abscissas.is (count_placed c.args.d)
+
+pub returns-in-Question-form-6 : goal.returns-in-Question-form-6
+returns-in-Question-form-6 c = known c.args.d c.in-Question-form-6.is c.in-Abscissas.is (placed_is Question 10 c.args.d)
+
+pub returns-in-Certificate-form-3 : goal.returns-in-Certificate-form-3
+returns-in-Certificate-form-3 c =
+    known c.args.d c.in-Certificate-form-3.is c.in-End.is (placed_is Certificate 15 c.args.d ∙ ap Some (omega arith))
+
+pub returns-in-Kernel-form-5 : goal.returns-in-Kernel-form-5
+returns-in-Kernel-form-5 c = known c.args.d c.in-Kernel-form-5.is c.in-N.is (placed_is Kernel 9 c.args.d)
+
+pub returns-in-Kernel-form-6 : goal.returns-in-Kernel-form-6
+returns-in-Kernel-form-6 c = known c.args.d c.in-Kernel-form-6.is c.in-Abscissas.is (placed_is Kernel 10 c.args.d)
+
+pub returns-in-Kernel-form-7 : goal.returns-in-Kernel-form-7
+returns-in-Kernel-form-7 c = known c.args.d c.in-Kernel-form-7.is c.in-End.is (placed_is Kernel 15 c.args.d ∙ ap Some (omega arith))

@@ -1,0 +1,18 @@
+-- The numbers of the kinds.
+-- Assumes nothing.
+use Rattle.std.specs.Prelude.{ℕ}
+use Rattle.sheet.specs.declared.Kind.{Kind}
+use Rattle.sheet.specs.declared.Kind.TheVariants.{P, A, B, Atilde, Btilde, Degree, Sigma, G, N, Abscissas, End}
+
+abbrev pub code : Kind → ℕ
+code P = 1
+code A = 2
+code B = 3
+code Atilde = 4
+code Btilde = 5
+code Degree = 6
+code Sigma = 7
+code G = 8
+code N = 9
+code Abscissas = 10
+code End = 15
