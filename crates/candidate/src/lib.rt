@@ -23,7 +23,7 @@ fn begin_s(v: Values, s: &mut [u32])
     requires in_bounds { 2 ≤ length s.old }
     ensures { (h : Seq (Zmod v.p)) → Solved v.p (SAt (Zmod v.p) (question v) h) s.new 2 }
 {
-    s[0] = field::reduce(field::wide(v.degree - 1), v.p);
+    s[0] = field::reduce(u64::from(v.degree - 1), v.p);
     s[1] = v.sigma;
 }
 
@@ -37,7 +37,7 @@ fn next_s(v: Values, table: &[u32], h: &[u32], s: &[u32], i: usize, y: u32, z: u
     ensures { Solves v.p (SAt (Zmod v.p) (question v) (poly v.p h.now)) s.now (i + 1) result }
 {
     let p = v.p;
-    let w = expansion::weighted(1, h[i], y, s[i - 1], z, s[poly::over(i, 2)], p);
+    let w = expansion::weighted(1, h[i], y, s[i - 1], z, s[i.saturating_sub(2)], p);
     recurrence::divide(w, 2 * i + 1, table, p)
 }
 
@@ -51,14 +51,12 @@ fn fill_s(v: Values, table: &[u32], h: &[u32], s: &mut [u32])
     let a = recurrence::minus_twice(v.a, p);
     let b = recurrence::minus_twice(v.b, p);
     begin_s(v, s);
-    let mut i = 1;
     let mut y = field::negate(v.a, p);
     let mut z = 0;
-    while i < h.len() {
+    for i in 1..h.len() {
         s[i + 1] = next_s(v, table, h, s, i, y, z);
         y = field::add(y, a, p);
         z = field::add(z, b, p);
-        i += 1;
     }
 }
 
@@ -98,10 +96,8 @@ fn fill_c(v: Values, table: &[u32], s: &[u32], c: &mut [u32])
     ensures { Solved v.p (CAt (Zmod v.p) (poly v.p s.now)) c.new (length c.old) }
 {
     c[0] = 1;
-    let mut k = 1;
-    while k < c.len() {
+    for k in 1..c.len() {
         c[k] = next_c(v, table, s, c, k);
-        k += 1;
     }
 }
 

@@ -1,6 +1,6 @@
 -- The sum of the poles of the expansion is the only kernel sum that can have a g which meets the rules; where it is missing, no σ has one.
 -- Assumes nothing.
-use Rattle.std.specs.Prelude.{◌≡◌, List, ℕ, ◌+◌, ◌*◌, ◌-◌, ◌/◌, ◌<◌, length}
+use Rattle.std.specs.Prelude.{◌≡◌, List, Option, None, Some, ℕ, ◌+◌, ◌*◌, ◌-◌, ◌/◌, ◌<◌, length}
 use Rattle.std.proofs.Common.{subst, arith}
 use Rattle.ring.specs.Ring.{CRing}
 use Rattle.series.specs.Series.{Seq}
@@ -15,8 +15,6 @@ use Rattle.sheet.specs.Ready.{half_least, degree_half}
 use Rattle.expansion.specs.Equations.{Solved}
 use Rattle.recurrence.specs.Equations.{HAt}
 use Rattle.recurrence.specs.Expands as Words
-use Rattle.poles.specs.declared.PoleSum.{PoleSum}
-use Rattle.poles.specs.declared.PoleSum.TheVariants.{Missing, Sum}
 use Rattle.poles.specs.Poles.{SumOf, PolesOf}
 use Rattle.candidate_sum.specs.CandidateSum.{CandidateSum, Determined}
 
@@ -48,7 +46,7 @@ module _ (v : Values) (h : List ℕ) (asks : Determined v) (size : length h ≡ 
   small : 4 * (2 * d + 1) - 1 < v.p
   small = omega (arith, asks.large, degree_half v asks.ready)
 
-  module _ (result : PoleSum) (poles : PolesOf v.p h result) where
+  module _ (result : Option ℕ) (poles : PolesOf v.p h result) where
     found : Found R d H poles.r poles.t
     found =
         subst (λ n. Fits R n H (2 * d) poles.r poles.t) (omega (arith, size))
@@ -57,11 +55,11 @@ module _ (v : Values) (h : List ℕ) (asks : Determined v) (size : length h ≡ 
     pub candidate_sum_lem : CandidateSum v result
     candidate_sum_lem = go result (subst (λ a. SumOf v.p a poles.t result) part poles.sum)
       where
-        go : (result : PoleSum) → SumOf v.p (2 * d) poles.t result → CandidateSum v result
-        go Missing e =
+        go : (result : Option ℕ) → SumOf v.p (2 * d) poles.t result → CandidateSum v result
+        go None e =
             Theorems.none asks.ready.prime.prime (question v).A (question v).B (question v).Ã (question v).B̃ d some small asks.curve H poles.r
             poles.t expands found poles.nonzero e
-        go (Sum s) (below, apart, e) = (
+        go (Some s) (below, apart, e) = (
           below,
           Theorems.only asks.ready.prime.prime (question v).A (question v).B (question v).Ã (question v).B̃ d some small asks.curve H poles.r
               poles.t expands found (mk v.p s) apart e,

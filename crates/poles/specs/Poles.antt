@@ -1,7 +1,7 @@
 -- What the search for the poles promises, and the states between: `Running`, two rows in slices; `Stepped`, what a step leaves; `Ended`, that no step is left
 -- to make; `PolesOf`, the fraction in lowest terms and the sum of its denominator's roots, of which one is right at most (`poles_unique`).
 -- Assumes nothing.
-use Rattle.std.specs.Prelude.{◌≢◌, ◌≡◌, refl, List, ℕ, zero, suc, ◌+◌, ◌-◌, ◌/◌, ◌≤◌, ◌<◌, length, get_or, set, replicate}
+use Rattle.std.specs.Prelude.{◌≢◌, ◌≡◌, refl, List, Option, None, Some, ℕ, zero, suc, ◌+◌, ◌-◌, ◌/◌, ◌≤◌, ◌<◌, length, get_or, set, replicate}
 use Rattle.std.proofs.Common.{sym, ◌∙◌, ap, ap₂, subst, arith, get_or-set_same, get_or-set_other}
 use Rattle.std.proofs.Math.Path.{fun_ext}
 use Rattle.std.proofs.Math.Decide.{dec_lt}
@@ -24,8 +24,6 @@ use Rattle.reconstruction.proofs.Approximant.{proportional}
 use Rattle.poles.specs.Rows.{Rows, rows_start, rows_stop, rows_coprime, rows_nonzero, rows_leading, rows_below, turn}
 use Rattle.poles.specs.Words.{remainder, RowsOf, cancelling}
 use Rattle.poles.specs.Steps.{Sized, Highest, highest_unit}
-use Rattle.poles.specs.declared.PoleSum.{PoleSum}
-use Rattle.poles.specs.declared.PoleSum.TheVariants.{Missing, Sum}
 
 -- two rows, that of t first, whose remainder has degree k and begins with top and next
 pub record Running (p : ℕ) (h t u : List ℕ) (k top next : ℕ) : Type 0 where
@@ -65,12 +63,12 @@ pub stepped_ended : {p : ℕ} {h t u t' : List ℕ} {k l c d : ℕ} → Stepped 
 stepped_ended {p} {h} {t} {u} s e = subst (Ended p h u) (sym (s.ended e).0) (s.ended e).2
 
 -- minus the second coefficient of t over its first, that of x^a, if this is not 0
-abbrev pub SumOf : (p a : ℕ) (t : Seq (Zmod p)) → PoleSum → Type 0
-SumOf p a t Missing = t a ≡ mk p 0
-SumOf p a t (Sum σ) = (σ < p) × (t a ≢ mk p 0) × (times p (mk p σ) (t a) ≡ minus p (t (a - 1)))
+abbrev pub SumOf : (p a : ℕ) (t : Seq (Zmod p)) → Option ℕ → Type 0
+SumOf p a t None = t a ≡ mk p 0
+SumOf p a t (Some σ) = (σ < p) × (t a ≢ mk p 0) × (times p (mk p σ) (t a) ≡ minus p (t (a - 1)))
 
 -- the fraction that fits the expansion h₁/x + .. + h_n/xⁿ, in lowest terms, with the denominator t, and the sum of t's roots if it has degree n/2
-pub record PolesOf (p : ℕ) (h : List ℕ) (result : PoleSum) : Type 0 where
+pub record PolesOf (p : ℕ) (h : List ℕ) (result : Option ℕ) : Type 0 where
   pub r : Seq (Zmod p)
   pub t : Seq (Zmod p)
   pub found : Fits (Zmod p) (length h - 1) (poly p h) ((length h - 1) / 2) r t
@@ -79,9 +77,9 @@ pub record PolesOf (p : ℕ) (h : List ℕ) (result : PoleSum) : Type 0 where
   pub sum : SumOf p ((length h - 1) / 2) t result
 
 -- the same of the words of u, where k is the degree of the remainder before u's
-abbrev pub QuotientOf : (p : ℕ) (u : List ℕ) (k : ℕ) → PoleSum → Type 0
-QuotientOf p u k Missing = k ≢ length u - 1
-QuotientOf p u k (Sum σ) =
+abbrev pub QuotientOf : (p : ℕ) (u : List ℕ) (k : ℕ) → Option ℕ → Type 0
+QuotientOf p u k None = k ≢ length u - 1
+QuotientOf p u k (Some σ) =
     (k ≡ length u - 1) × (σ < p) × (times p (mk p σ) (poly p u (length u - 1)) ≡ minus p (poly p u (length u - 1 - 1)))
 
 -- ── the beginning
@@ -192,7 +190,7 @@ module _ (p : ℕ) (h u : List ℕ) (k : ℕ) (P : Prime p) (end : Ended p h u k
           absurd ((Zmod_field P).apart (sym unit.1 ∙ ap (λ x. times p x unit.0) (ap (poly p u) at ∙ poly_at p u (length u - 1) ∙ ap (mk p) null)
           ∙ Ring.zero-mul R unit.0))
 
-  pub ended_poles : (result : PoleSum) → QuotientOf p u k result → PolesOf p h result
+  pub ended_poles : (result : Option ℕ) → QuotientOf p u k result → PolesOf p h result
   ended_poles result q = record {
     r = end.rows.r';
     t = poly p u;
@@ -202,9 +200,9 @@ module _ (p : ℕ) (h u : List ℕ) (k : ℕ) (P : Prime p) (end : Ended p h u k
     sum = go result q;
   }
     where
-      go : (result : PoleSum) → QuotientOf p u k result → SumOf p (n / 2) (poly p u) result
-      go Missing q = (rows_leading R n (poly p h) end.rows).below (n / 2) (omega (arith, q, end.size.words, end.size.room, end.size.least))
-      go (Sum σ) q = (
+      go : (result : Option ℕ) → QuotientOf p u k result → SumOf p (n / 2) (poly p u) result
+      go None q = (rows_leading R n (poly p h) end.rows).below (n / 2) (omega (arith, q, end.size.words, end.size.room, end.size.least))
+      go (Some σ) q = (
         q.1,
         (λ e. mk_nonzero (prime_pos P) (get_or u (length u - 1) 0) (ended_last q.0) (end.low_u (length u - 1))
             (sym (poly_at p u (length u - 1)) ∙ ap (poly p u) (sym half) ∙ e)),
@@ -246,7 +244,7 @@ module _ (p : ℕ) (h : List ℕ) (P : Prime p) (even : (length h - 1) / 2 + (le
   modulus = subst (λ k. Leading F k (pow (Series F) (ind F) (length h - 1))) (sym even) (leading F _ _ (monic_power F (ind F) (ind_monic F) (length h - 1)))
 
   -- where one denominator has degree n/2, any other is a constant times it
-  module _ (x y : PoleSum) (one : PolesOf p h x) (other : PolesOf p h y) (top : other.t a ≢ mk p 0) where
+  module _ (x y : Option ℕ) (one : PolesOf p h x) (other : PolesOf p h y) (top : other.t a ≢ mk p 0) where
     leads : Leading F a other.t
     leads = record { below = other.found.t_below; unit = inverse P _ top }
 
@@ -271,10 +269,10 @@ module _ (p : ℕ) (h : List ℕ) (P : Prime p) (even : (length h - 1) / 2 + (le
         (ap (times p σ') (at a) ∙ solve3 F (λ s c t. s :* (c :* t)) (λ s c t. c :* (s :* t)) tt σ' c (other.t a) ∙ ap (times p c) e')
         ∙ solve2 F (λ c t. :- (c :* t) :- c :* :- t) (λ c t. :0) tt c (other.t (a - 1))))
 
-  pub poles_unique : (x y : PoleSum) → PolesOf p h x → PolesOf p h y → x ≡ y
-  poles_unique Missing Missing one other = refl
-  poles_unique Missing (Sum σ) one other = absurd (top_too Missing (Sum σ) one other other.sum.1 one.sum)
-  poles_unique (Sum σ) Missing one other = absurd (top_too Missing (Sum σ) other one one.sum.1 other.sum)
-  poles_unique (Sum σ) (Sum σ') one other =
-      ap Sum (mk_apart {p = p} (prime_pos P) σ σ' one.sum.0 other.sum.0
-      (same_sum (Sum σ) (Sum σ') one other other.sum.1 (mk p σ) (mk p σ') one.sum.2 other.sum.2))
+  pub poles_unique : (x y : Option ℕ) → PolesOf p h x → PolesOf p h y → x ≡ y
+  poles_unique None None one other = refl
+  poles_unique None (Some σ) one other = absurd (top_too None (Some σ) one other other.sum.1 one.sum)
+  poles_unique (Some σ) None one other = absurd (top_too None (Some σ) other one one.sum.1 other.sum)
+  poles_unique (Some σ) (Some σ') one other =
+      ap Some (mk_apart {p = p} (prime_pos P) σ σ' one.sum.0 other.sum.0
+      (same_sum (Some σ) (Some σ') one other other.sum.1 (mk p σ) (mk p σ') one.sum.2 other.sum.2))

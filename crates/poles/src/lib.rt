@@ -4,26 +4,18 @@
 // divided before the end: a row is multiplied by a unit, and two coefficients of a remainder are cancelled at once.
 #![tactic(auto)]
 
-ghost use Rattle.std.specs.Prelude.{◌≡◌, ℕ, ◌+◌, ◌-◌, ◌^◌, ◌<◌, ◌≤◌, length, get_or};
+ghost use Rattle.std.specs.Prelude.{◌≡◌, ℕ, ◌+◌, ◌-◌, ◌/◌, ◌^◌, ◌<◌, ◌≤◌, MatchOption, length, get_or};
 ghost use Rattle.series.specs.Series.{zeros, const};
 ghost use Rattle.series.specs.Degree.{Below};
 ghost use Rattle.zmod.specs.Zmod.{Zmod, mk, minus};
 ghost use Rattle.zmod.specs.Prime.{Prime};
 ghost use Rattle.zmod.specs.Residues.{Residue, Reduced, poly};
-ghost use Rattle.barrett.specs.Modulus.{Prepared};
 ghost use Rattle.poles.specs.Rows.{combination, Rows};
 ghost use Rattle.poles.specs.Words.{correlation, remainder, RowsOf, cancelling};
 ghost use Rattle.poles.specs.Steps.{Sized, Highest};
 ghost use Rattle.poles.specs.Poles.{Running, Stepped, QuotientOf, PolesOf};
 
 use barrett::Modulus;
-
-// The sum of the poles, each as often as it counts, if there are n/2 of them; fewer have no sum here.
-#[derive(Clone, Copy)]
-pub enum PoleSum {
-    Missing,
-    Sum(u32),
-}
 
 // The highest coefficient of a remainder, and where it stands.
 #[derive(Clone, Copy)]
@@ -47,10 +39,8 @@ fn dot(t: &[u64], h: &[u32]) -> u64
     ensures { (p : ℕ) → mk p result ≡ correlation p t.now h.now (length t.now) }
 {
     let mut s = 0;
-    let mut i = 0;
-    while i < t.len() {
-        s += barrett::product(t[i], field::wide(h[i]));
-        i += 1;
+    for i in 0..t.len() {
+        s += barrett::product(t[i], u64::from(h[i]));
     }
     s
 }
@@ -62,12 +52,12 @@ fn coefficient(t: &[u64], len: usize, h: &[u32], from: usize, p: u32) -> u64
     ensures { Residue p (remainder p h.now t.now (length h.now - 1 - from)) result }
 {
     let sum = dot(&t[..len], &h[from..]);
-    field::wide(field::reduce(sum, p))
+    u64::from(field::reduce(sum, p))
 }
 
 // t = c t + (y x + z) xˢ u, where `len` words hold all of it.
 fn combine(t: &mut [u64], u: &[u64], len: usize, s: usize, c: u64, y: u64, z: u64, m: Modulus)
-    requires prepared { Prepared m × (c < m.p) × (y < m.p) × (z < m.p) × (s < len) × (len ≤ length t.old) × (len ≤ length u.now) }
+    requires lt_p { (c < m.p) × (y < m.p) × (z < m.p) × (s < len) × (len ≤ length t.old) × (len ≤ length u.now) }
     requires reduced { (Reduced m.p t.old) × (Reduced m.p u.now) }
     requires below { (Below (Zmod m.p) len (poly m.p t.old)) × (Below (Zmod m.p) (len - s) (poly m.p u.now)) }
     requires below_2 { Below (Zmod m.p) len
@@ -79,43 +69,48 @@ fn combine(t: &mut [u64], u: &[u64], len: usize, s: usize, c: u64, y: u64, z: u6
     euclid::add_multiple(&mut t[..len], &u[..n], c, y, z, m);
 }
 
-// Where u's remainder is of degree one less than t's, the two highest coefficients of the latter are cancelled: those are b₁, b₀ of u and a₁, a₀ of t.
-fn cancel_two(t: &mut [u64], u: &[u64], len: usize, a1: u64, a0: u64, b1: u64, b0: u64, m: Modulus)
-    requires prepared { Prepared m × (a1 < m.p) × (a0 < m.p) × (b1 < m.p) × (b0 < m.p) × (0 < len) × (len ≤ length t.old) × (len ≤ length u.now) }
+// Where u's remainder, of which `below` is, has a degree one less than t's, the two highest coefficients of the latter are cancelled.
+fn cancel_two(t: &mut [u64], u: &[u64], len: usize, row: Row, below: Row, m: Modulus)
+    requires lt_p { (row.top < m.p) × (row.next < m.p) × (below.top < m.p) × (below.next < m.p) × (0 < len) × (len ≤ length t.old) × (len ≤ length u.now) }
     requires reduced { (Reduced m.p t.old) × (Reduced m.p u.now) }
     requires below { (Below (Zmod m.p) len (poly m.p t.old)) × (Below (Zmod m.p) (len - 1) (poly m.p u.now)) }
     ensures { (Reduced m.p t.new)
-        × (poly m.p t.new ≡ cancelling m.p a1 a0 b1 b0 (poly m.p t.old) (poly m.p u.now)) }
+        × (poly m.p t.new ≡ cancelling m.p row.top row.next below.top below.next (poly m.p t.old) (poly m.p u.now)) }
 {
-    let c = euclid::multiply(b1, b1, m);
-    let y = euclid::multiply(euclid::negate(a1, m), b1, m);
-    let z = euclid::two_products(a1, b0, euclid::negate(a0, m), b1, m);
+    let c = euclid::multiply(below.top, below.top, m);
+    let y = euclid::multiply(euclid::negate(row.top, m), below.top, m);
+    let z = euclid::two_products(
+        row.top,
+        below.next,
+        euclid::negate(row.next, m),
+        below.top,
+        m,
+    );
     combine(t, u, len, 0, c, y, z, m);
 }
 
-// The highest coefficient of u's remainder below xᵏ that is not 0, of those from x^(n/2) on; 0 where they all are. u has n − k + 1 words that may not be 0.
-fn highest(h: &[u32], u: &[u64], k: usize, p: u32) -> Term
+// The highest coefficient of u's remainder below xᵏ that is not 0, of those from x^(n/2) on, if there is one. u has n − k + 1 words that may not be 0.
+fn highest(h: &[u32], u: &[u64], k: usize, p: u32) -> Option<Term>
     requires p_nonzero { (0 < p) × (p ≤ 2 ^ 28) × Sized h.now u.now k }
     requires reduced { (Reduced p h.now) × (Reduced p u.now) × Below (Zmod p) (length h.now - k) (poly p u.now) }
-    ensures { Highest p h.now u.now k result.degree result.top }
+    ensures { MatchOption result (Highest p h.now u.now k ((length h.now - 1) / 2) 0)
+        (λ term. (0 < term.top) × Highest p h.now u.now k term.degree term.top) }
 {
     let n = h.len() - 1;
     let a = n / 2;
     let len = h.len() - k;
-    let mut i = k;
-    while a < i {
-        i -= 1;
+    for i in (a..k).rev() {
         let c = coefficient(u, len, h, n - i, p);
         if c != 0 {
-            return Term { degree: i, top: c };
+            return Some(Term { degree: i, top: c });
         }
     }
-    Term { degree: a, top: 0 }
+    None
 }
 
 // t = b t − w xˢ u, where `len` words hold it.
 fn cancel(t: &mut [u64], u: &[u64], len: usize, s: usize, b: u64, w: u64, m: Modulus)
-    requires prepared { Prepared m × (b < m.p) × (w < m.p) × (s < len) × (len ≤ length t.old) × (len ≤ length u.now) }
+    requires lt_p { (b < m.p) × (w < m.p) × (s < len) × (len ≤ length t.old) × (len ≤ length u.now) }
     requires reduced { (Reduced m.p t.old) × (Reduced m.p u.now) }
     requires below { (Below (Zmod m.p) len (poly m.p t.old)) × (Below (Zmod m.p) (len - s) (poly m.p u.now)) }
     ensures { (Reduced m.p t.new) × (Below (Zmod m.p) len (poly m.p t.new))
@@ -125,58 +120,49 @@ fn cancel(t: &mut [u64], u: &[u64], len: usize, s: usize, b: u64, w: u64, m: Mod
     combine(t, u, len, s, b, 0, euclid::negate(w, m), m);
 }
 
-// Where u's remainder has a degree l that is lower than t's by more than one, one coefficient of the latter is cancelled after the other; `top` is the first of
-// them, and b is the highest of u's.
-fn divide(h: &[u32], t: &mut [u64], u: &[u64], k: usize, l: usize, top: u64, b: u64, m: Modulus)
-    requires prime { Prime m.p × Prepared m × Sized h.now t.old l × Sized h.now u.now k × (l < k) × (top < m.p) × (0 < b) × (b < m.p) }
+// Where u's remainder has a degree that is lower than t's by more than one, one coefficient of the latter is cancelled after the other.
+fn divide(h: &[u32], t: &mut [u64], u: &[u64], row: Row, below: Row, m: Modulus)
+    requires prime { Prime m.p × Sized h.now t.old below.degree × Sized h.now u.now row.degree × (below.degree < row.degree)
+        × (row.top < m.p) × (0 < below.top) × (below.top < m.p) }
     requires reduced { (Reduced m.p h.now) × (Reduced m.p t.old) × (Reduced m.p u.now) × (length t.old ≡ length u.now) }
-    requires highest { Highest m.p h.now u.now k l b }
-    requires below { (Below (Zmod m.p) (length h.now - l) (poly m.p t.old)) × (Below (Zmod m.p) (length h.now - k) (poly m.p u.now)) }
-    ensures { (Reduced m.p t.new) × ((next : ℕ) → RowsOf m.p h.now k top next t.old u.now
-        → Rows (Zmod m.p) (length h.now - 1) (poly m.p h.now) l (mk m.p b)
-        (remainder m.p h.now u.now (l - 1)) (poly m.p u.now) (poly m.p t.new)) }
+    requires highest { Highest m.p h.now u.now row.degree below.degree below.top }
+    requires below { (Below (Zmod m.p) (length h.now - below.degree) (poly m.p t.old))
+        × (Below (Zmod m.p) (length h.now - row.degree) (poly m.p u.now)) }
+    ensures { (Reduced m.p t.new) × ((next : ℕ) → RowsOf m.p h.now row.degree row.top next t.old u.now
+        → Rows (Zmod m.p) (length h.now - 1) (poly m.p h.now) below.degree (mk m.p below.top)
+        (remainder m.p h.now u.now (below.degree - 1)) (poly m.p u.now) (poly m.p t.new)) }
 {
     let n = h.len() - 1;
+    let l = below.degree;
     let len = h.len() - l;
-    let mut i = k;
-    let mut w = top;
-    while l < i {
-        cancel(t, u, len, i - l, b, w, m);
-        i -= 1;
+    let mut w = row.top;
+    for i in (l..row.degree).rev() {
+        cancel(t, u, len, i + 1 - l, below.top, w, m);
         w = coefficient(t, len, h, n - i, m.p);
     }
-    cancel(t, u, len, 0, b, w, m);
+    cancel(t, u, len, 0, below.top, w, m);
 }
 
-// A step: the row of t is divided by that of u, and both have changed places then. The highest coefficient is 0 where u's remainder has none from x^(n/2) on;
-// then nothing is done.
-fn step(h: &[u32], t: &mut [u64], u: &[u64], row: Row, m: Modulus) -> Row
-    requires prime { Prime m.p × Prepared m }
+// A step: the row of t is divided by that of u, and both have changed places then. Where u's remainder has no coefficient from x^(n/2) on, nothing is done.
+fn step(h: &[u32], t: &mut [u64], u: &[u64], row: Row, m: Modulus) -> Option<Row>
+    requires prime { Prime m.p }
     requires running { Running m.p h.now t.old u.now row.degree row.top row.next }
-    ensures { Stepped m.p h.now t.old u.now t.new row.degree result.degree result.top result.next }
+    ensures { MatchOption result (Stepped m.p h.now t.old u.now t.new row.degree row.degree 0 0)
+        (λ made. (0 < made.top) × Stepped m.p h.now t.old u.now t.new row.degree made.degree made.top made.next) }
 {
-    let k = row.degree;
-    let first = highest(h, u, k, m.p);
-    let l = first.degree;
-    let b = first.top;
-    if b == 0 {
-        return Row {
-            degree: k,
-            top: 0,
-            next: 0,
-        };
-    }
-    let next = coefficient(u, h.len() - k, h, h.len() - l, m.p);
-    if l + 1 == k {
-        cancel_two(t, u, h.len() - l, row.top, row.next, b, next, m);
-    } else {
-        divide(h, t, u, k, l, row.top, b, m);
-    }
-    Row {
-        degree: l,
-        top: b,
+    let first = highest(h, u, row.degree, m.p)?;
+    let next = coefficient(u, h.len() - row.degree, h, h.len() - first.degree, m.p);
+    let below = Row {
+        degree: first.degree,
+        top: first.top,
         next,
+    };
+    if below.degree + 1 == row.degree {
+        cancel_two(t, u, h.len() - below.degree, row, below, m);
+    } else {
+        divide(h, t, u, row, below, m);
     }
+    Some(below)
 }
 
 // The rows to begin with: 0, whose remainder is xⁿ, and 1.
@@ -185,51 +171,44 @@ fn begin(t: &mut [u64], u: &mut [u64])
     ensures { (p : ℕ) → 1 < p → (Reduced p t.new) × (Reduced p u.new) × (poly p t.new ≡ zeros (Zmod p))
         × (poly p u.new ≡ const (Zmod p) (mk p 1)) }
 {
-    rows::clear(t);
-    rows::clear(u);
+    t.fill(0);
+    u.fill(0);
     u[0] = 1;
 }
 
 // Minus the second coefficient over the first, if u has the degree that its words allow: n − k, where k is the degree of the remainder before u's.
-fn quotient(u: &[u64], k: usize, p: u32) -> PoleSum
+fn quotient(u: &[u64], k: usize, p: u32) -> Option<u32>
     requires prime { Prime p × (p ≤ 2 ^ 28) × (2 ≤ length u.now) × (Reduced p u.now) }
     requires nonzero { k ≡ length u.now - 1 → 0 < get_or u.now (length u.now - 1) 0 }
     ensures { QuotientOf p u.now k result }
 {
     let a = u.len() - 1;
     if k != a {
-        return PoleSum::Missing;
+        return None;
     }
     let inverse = field::inverse_by_euclid(u[a] as u32, p);
     let second = field::negate(u[a - 1] as u32, p);
-    PoleSum::Sum(field::multiply(second, inverse, p))
+    Some(field::multiply(second, inverse, p))
 }
 
-// The sum of the poles, where h₀ = 0 and h has n + 1 words; t and u are room for rows, of n/2 + 1 words. The rows change places with each step.
-pub fn sum_of_poles(h: &[u32], t: &mut [u64], u: &mut [u64], m: Modulus) -> PoleSum
-    requires prime { Prime m.p × Prepared m × (Sized h.now u.old (length h.now - 1)) × (length t.old ≡ length u.old) }
+// The sum of the poles, each as often as it counts, if there are n/2 of them; fewer have no sum here. h₀ = 0 and h has n + 1 words; t and u are room for rows, of
+// n/2 + 1 words. The rows change places with each step.
+pub fn sum_of_poles(h: &[u32], t: &mut [u64], u: &mut [u64], m: Modulus) -> Option<u32>
+    requires prime { Prime m.p × (Sized h.now u.old (length h.now - 1)) × (length t.old ≡ length u.old) }
     requires reduced { (Reduced m.p h.now) × (get_or h.now 0 0 ≡ 0) }
     ensures { PolesOf m.p h.now result }
 {
     begin(t, u);
-    let n = h.len() - 1;
-    let mut row = step(
-        h,
-        t,
-        u,
-        Row {
-            degree: n,
-            top: 1,
-            next: 0,
-        },
-        m,
-    );
-    while 0 < row.top {
-        let other = step(h, u, t, row, m);
-        if other.top == 0 {
-            return quotient(t, other.degree, m.p);
+    let mut row = Row {
+        degree: h.len() - 1,
+        top: 1,
+        next: 0,
+    };
+    while let Some(other) = step(h, t, u, row, m) {
+        match step(h, u, t, other, m) {
+            Some(next) => row = next,
+            None => return quotient(t, other.degree, m.p),
         }
-        row = step(h, t, u, other, m);
     }
     quotient(u, row.degree, m.p)
 }

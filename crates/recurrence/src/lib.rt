@@ -53,11 +53,8 @@ fn begin_h(v: Values, table: &[u32], h: &mut [u32])
     requires inverses { Inverses v.p table.now × (2 * length h.old + 1 < length table.now) }
     ensures { Solved v.p (HAt (Zmod v.p) (question v)) h.new (min 3 (length h.old)) }
 {
-    let n = rows::least(3, h.len());
-    let mut k = 0;
-    while k < n {
+    for k in 0..h.len().min(3) {
         h[k] = first_h(v, table, k);
-        k += 1;
     }
 }
 
@@ -85,13 +82,11 @@ pub fn expansion_of_curves(v: Values, table: &[u32], h: &mut [u32])
     let a = minus_twice(v.a, p);
     let b = minus_twice(v.b, p);
     begin_h(v, table, h);
-    let mut k = 3;
     let mut y = field::add(a, field::negate(v.a, p), p);
     let mut z = 0;
-    while k < h.len() {
+    for k in 3..h.len() {
         h[k] = next_h(v, table, h, k, y, z);
         y = field::add(y, a, p);
         z = field::add(z, b, p);
-        k += 1;
     }
 }

@@ -20,5 +20,5 @@ returns c =
     λ h.
     solved_more p (SAt (Zmod p) q h) (s_causal (Zmod p) q h) (set s 0 r) 1 v.sigma (omega (arith, length-set s 0 r))
     (solved_more p (SAt (Zmod p) q h) (s_causal (Zmod p) q h) s 0 r (omega arith) (solved_none p (SAt (Zmod p) q h) s)
-    (s_zero p q h s r (omega arith) (residue_same (ap (mk p) (c.wide.ensures ∙ twice)) c.reduce.ensures)))
+    (s_zero p q h s r (omega arith) (residue_same (ap (mk p) (c.from.ensures ∙ twice)) c.reduce.ensures)))
     (s_one p q h (set s 0 r) v.sigma (omega (arith, length-set s 0 r)) (residue_self v.sigma (omega arith)))

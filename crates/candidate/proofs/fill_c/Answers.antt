@@ -1,5 +1,5 @@
 -- `candidate::fill_c` meets its contract. The invariant: the words before k solve their equations. Assumes nothing.
-use Rattle.std.proofs.Common.{arith, length, length-set, refl, rules, subst, ◌-◌, ◌<◌, ◌∙◌, ◌≡◌, ◌≤◌}
+use Rattle.std.proofs.Common.{arith, length, length-set, refl, subst, ◌<◌, ◌∙◌, ◌≡◌, ◌≤◌}
 use Rattle.zmod.specs.Zmod.{Zmod}
 use Rattle.zmod.specs.Residues.{poly}
 use Rattle.sheet.specs.Values.{half}
@@ -10,7 +10,6 @@ use Rattle.candidate.proofs.Causal.{c_causal}
 use Rattle.candidate.proofs.EquationTurns.{c_zero}
 use Rattle.candidate.proofs.fill_c.Goals as goal
 
--- ── the needs
 pub bounds-c-0 : goal.bounds-c-0
 bounds-c-0 c = omega arith
 
@@ -21,8 +20,6 @@ loop-k-init c =
     let E = CAt (Zmod p) (poly p a.s.now) in
     let inside : 0 < length a.c.now = omega arith in (
       refl,
-      omega arith,
-      omega (arith, length-set a.c.now 0 1),
       solved_more p E (c_causal (Zmod p) (poly p a.s.now)) a.c.now 0 1 inside (solved_none p E a.c.now)
           (c_zero p a.s.now a.c.now (omega arith) inside),
     )
@@ -35,16 +32,8 @@ next_c-requires c =
       ready = c.requires.ready;
       inverses = c.requires.inverses;
       s_len = (c.requires.s_len.0, c.requires.s_len.1);
-      le_k = (omega arith, most, omega arith, loop.invariant.3.reduced);
+      le_k = (omega arith, most, omega arith, loop.invariant.1.reduced);
     }
-
-pub offset_bounds-c-k : goal.offset_bounds-c-k
-offset_bounds-c-k c =
-    search (rules, length-set c.args.c.now 0 1)
-
-pub overflow_add-k : goal.overflow_add-k
-overflow_add-k c =
-    search (rules, length-set c.args.c.now 0 1)
 
 pub loop-k-preserved : goal.loop-k-preserved
 loop-k-preserved c =
@@ -53,10 +42,8 @@ loop-k-preserved c =
     let p = a.v.p in
     let inside : loop.k < length loop.c = omega arith in (
       length-set loop.c loop.k c.next_c.result ∙ loop.invariant.0,
-      omega arith,
-      omega (arith, length-set loop.c loop.k c.next_c.result),
       solved_more p (CAt (Zmod p) (poly p a.s.now)) (c_causal (Zmod p) (poly p a.s.now)) loop.c loop.k c.next_c.result inside
-          loop.invariant.3 c.next_c.ensures,
+          loop.invariant.1 c.next_c.ensures,
     )
 
 pub shape_of-c : goal.shape_of-c
@@ -68,4 +55,4 @@ returns c =
     let loop = c.loop-k in
     let a = c.args in
     let end : loop.k ≡ length a.c.now = omega (arith, length-set a.c.now 0 1) in
-    subst (Solved a.v.p (CAt (Zmod a.v.p) (poly a.v.p a.s.now)) loop.c) end loop.invariant.3
+    subst (Solved a.v.p (CAt (Zmod a.v.p) (poly a.v.p a.s.now)) loop.c) end loop.invariant.1

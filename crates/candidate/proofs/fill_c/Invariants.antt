@@ -1,4 +1,4 @@
-use Rattle.std.proofs.Common.{length, ◌-◌, ◌≡◌, ◌≤◌}
+use Rattle.std.proofs.Common.{length, ◌≡◌}
 use Rattle.zmod.specs.Zmod.{Zmod}
 use Rattle.zmod.specs.Residues.{poly}
 use Rattle.candidate.specs.Equations.{CAt}
@@ -6,7 +6,4 @@ use Rattle.expansion.specs.Equations.{Solved}
 use Rattle.candidate.proofs.fill_c.Given as goal
 
 abbrev pub invariant-loop-k : goal.invariant-loop-k
-invariant-loop-k l = (length l.c ≡ length l.initial.c) × (1 ≤ l.k) × (l.k ≤ length l.c) × Solved l.v.p (CAt (Zmod l.v.p) (poly l.v.p l.s)) l.c l.k
-
-abbrev pub decreases-loop-k : goal.decreases-loop-k
-decreases-loop-k l = length l.initial.c - l.k
+invariant-loop-k l = (length l.c ≡ length l.initial.c) × Solved l.v.p (CAt (Zmod l.v.p) (poly l.v.p l.s)) l.c l.k

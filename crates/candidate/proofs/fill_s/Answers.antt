@@ -24,8 +24,6 @@ loop-i-init c =
     let v = a.v in
     let p = v.p in (
       refl,
-      omega arith,
-      omega arith,
       c.begin_s.ensures (poly p a.h.now),
       once (minus p (question v).A) c.negate-y.ensures,
       none (minus p (question v).B) (omega arith),
@@ -38,8 +36,8 @@ next_s-requires c =
       ready = c.requires.ready;
       inverses = c.requires.inverses;
       h_len = (c.requires.h_len.0, c.requires.h_len.1);
-      le_i = (omega arith, omega arith, omega (arith, size), inv.3.reduced);
-      multiple = (inv.4, inv.5);
+      le_i = (omega arith, omega arith, omega (arith, size), inv.1.reduced);
+      multiple = (inv.2, inv.3);
     }
 
 pub bounds-s-i : goal.bounds-s-i
@@ -48,11 +46,11 @@ bounds-s-i c =
 
 pub add-y-requires : goal.add-y-requires
 add-y-requires c =
-    (omega (arith, c.loop-i.invariant.4.below), omega (arith, c.minus_twice-a.ensures.below), omega (arith, c.requires.ready, c.requires.inverses, c.requires.h_len))
+    (omega (arith, c.loop-i.invariant.2.below), omega (arith, c.minus_twice-a.ensures.below), omega (arith, c.requires.ready, c.requires.inverses, c.requires.h_len))
 
 pub add-z-requires : goal.add-z-requires
 add-z-requires c =
-    (omega (arith, c.loop-i.invariant.5.below), omega (arith, c.minus_twice-b.ensures.below), omega arith)
+    (omega (arith, c.loop-i.invariant.3.below), omega (arith, c.minus_twice-b.ensures.below), omega arith)
 
 pub loop-i-preserved : goal.loop-i-preserved
 loop-i-preserved c =
@@ -64,11 +62,9 @@ loop-i-preserved c =
     let i = loop.i in
     let inside : i + 1 < length loop.s = omega (arith, c.requires.ready, c.requires.inverses, c.requires.h_len, c.begin_s.auto.s) in (
       simp length-set loop.invariant.0,
-      omega arith,
-      omega arith,
-      solved_more p (SAt (Zmod p) q h) (s_causal (Zmod p) q h) loop.s (i + 1) c.next_s.result inside loop.invariant.3 c.next_s.ensures,
-      both (minus p q.A) (2 * i - 1) 2 (2 * (i + 1) - 1) (omega arith) loop.invariant.4 c.minus_twice-a.ensures c.add-y.ensures,
-      both (minus p q.B) (2 * i - 2) 2 (2 * (i + 1) - 2) (omega arith) loop.invariant.5 c.minus_twice-b.ensures c.add-z.ensures,
+      solved_more p (SAt (Zmod p) q h) (s_causal (Zmod p) q h) loop.s (i + 1) c.next_s.result inside loop.invariant.1 c.next_s.ensures,
+      both (minus p q.A) (2 * i - 1) 2 (2 * (i + 1) - 1) (omega arith) loop.invariant.2 c.minus_twice-a.ensures c.add-y.ensures,
+      both (minus p q.B) (2 * i - 2) 2 (2 * (i + 1) - 2) (omega arith) loop.invariant.3 c.minus_twice-b.ensures c.add-z.ensures,
     )
 
 pub shape_of-s : goal.shape_of-s
@@ -81,4 +77,4 @@ returns c =
     let p = a.v.p in
     let loop = c.loop-i in
     let end : loop.i + 1 ≡ length a.s.now = omega (arith, c.requires.ready, c.requires.inverses, c.requires.h_len) in
-    subst (Solved p (SAt (Zmod p) (question a.v) (poly p a.h.now)) loop.s) end loop.invariant.3
+    subst (Solved p (SAt (Zmod p) (question a.v) (poly p a.h.now)) loop.s) end loop.invariant.1

@@ -1,4 +1,4 @@
-use Rattle.std.proofs.Common.{length, ◌*◌, ◌+◌, ◌-◌, ◌≡◌, ◌≤◌}
+use Rattle.std.proofs.Common.{length, ◌*◌, ◌+◌, ◌-◌, ◌≡◌}
 use Rattle.zmod.specs.Zmod.{Zmod, minus}
 use Rattle.zmod.specs.Residues.{poly}
 use Rattle.sheet.specs.Values.{question}
@@ -9,8 +9,5 @@ use Rattle.candidate.proofs.fill_s.Given as goal
 
 abbrev pub invariant-loop-i : goal.invariant-loop-i
 invariant-loop-i l =
-    (length l.s ≡ length l.initial.s) × (1 ≤ l.i) × (l.i ≤ length l.h) × (Solved l.v.p (SAt (Zmod l.v.p) (question l.v) (poly l.v.p l.h)) l.s (l.i + 1))
+    (length l.s ≡ length l.initial.s) × (Solved l.v.p (SAt (Zmod l.v.p) (question l.v) (poly l.v.p l.h)) l.s (l.i + 1))
     × (Multiple l.v.p (2 * l.i - 1) (minus l.v.p (question l.v).A) l.y) × Multiple l.v.p (2 * l.i - 2) (minus l.v.p (question l.v).B) l.z
-
-abbrev pub decreases-loop-i : goal.decreases-loop-i
-decreases-loop-i l = length l.h - l.i

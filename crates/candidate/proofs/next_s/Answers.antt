@@ -9,7 +9,7 @@ use Rattle.candidate.proofs.next_s.Goals as goal
 pub weighted-w-requires : goal.weighted-w-requires
 weighted-w-requires c =
     let i = c.args.i in
-    omega (arith, c.requires.h_len.1 i, c.requires.le_i.3 (i - 1) (omega arith), c.requires.le_i.3 c.over.result (omega arith))
+    omega (arith, c.requires.h_len.1 i, c.requires.le_i.3 (i - 1) (omega arith), c.requires.le_i.3 c.saturating_sub.result (omega arith))
 
 pub returns : goal.returns
 returns c =
@@ -21,5 +21,5 @@ returns c =
     c.requires.multiple.0 c.requires.multiple.1
     (residue_same
     (ap (λ n. plus p (plus p (times p (mk p 1) (mk p (get_or a.h.now i 0))) (times p (mk p a.y) (mk p (get_or s (i - 1) 0))))
-    (times p (mk p a.z) (mk p (get_or s n 0)))) c.over.ensures)
+    (times p (mk p a.z) (mk p (get_or s n 0)))) c.saturating_sub.ensures)
     c.weighted-w.ensures) c.divide.ensures

@@ -1,23 +1,17 @@
 -- `poles::begin` meets its contract.
 -- Assumes nothing.
-use Rattle.std.proofs.Common.{ap, arith, length, set, subst, sym, ℕ, ◌≡◌}
-use lib.ListN.{length-replicate}
+use Rattle.std.proofs.Common.{arith, length, replicate, rules, set, subst, sym, ◌≡◌}
 use Rattle.series.specs.Series.{zeros, const}
 use Rattle.zmod.specs.Zmod.{Zmod, mk}
 use Rattle.zmod.specs.Residues.{Reduced, poly}
 use Rattle.poles.specs.Poles.{blank_zeros, blank_one}
 use Rattle.poles.proofs.begin.Goals as goal
 
-pub bounds-u-0 : goal.bounds-u-0
-bounds-u-0 c =
-    let u = c.args.u.now in
-    omega (arith, ap length c.clear-2.ensures, length-replicate {A = ℕ} (length u) 0)
-
 pub returns : goal.returns
 returns c =
     let a = c.args in
-    let e = c.clear.ensures in
-    let f = c.clear-2.ensures in
+    let e : c.fill.new.self ≡ replicate (length a.t.now) 0 = search rules in
+    let f : c.fill-2.new.self ≡ replicate (length a.u.now) 0 = search rules in
     λ p large.
     let one = blank_one p (length a.u.now) large c.requires in
     let none = blank_zeros p (length a.t.now) (omega arith) in (

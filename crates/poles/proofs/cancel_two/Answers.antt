@@ -13,7 +13,7 @@ combine-requires c =
     let a = c.args in
     let p = a.m.p in
     record {
-      prepared = (c.requires.prepared.0, c.multiply-c.ensures.below, y.ensures.below, z.ensures.below, search rules, search rules, search rules);
+      lt_p = (c.multiply-c.ensures.below, y.ensures.below, z.ensures.below, search rules, search rules, search rules);
       reduced = c.requires.reduced;
       below = (c.requires.below.0, λ i l. c.requires.below.1 i (omega arith));
       below_2 = combination_below (Zmod p) a.len (mk p c.multiply-c.result) (mk p y.result) (mk p z.result) (poly p a.t.now) (poly p a.u.now)
@@ -29,7 +29,7 @@ returns c =
     let a = c.args in
     let p = a.m.p in (
       c.combine.ensures.0,
-      c.combine.ensures.1 ∙ cancelling_is p a.a1 a.a0 a.b1 a.b0 c.multiply-c.result y.result z.result y₀.result z₀.result
+      c.combine.ensures.1 ∙ cancelling_is p a.row.top a.row.next a.below.top a.below.next c.multiply-c.result y.result z.result y₀.result z₀.result
           (poly p a.t.now) (poly p a.u.now) c.multiply-c.ensures.class y₀.ensures.class y.ensures.class z₀.ensures.class
           z.ensures.class,
     )

@@ -39,4 +39,4 @@ returns c =
     let dot = c.dot-sum in
     let a = c.args in
     residue_same (dot.ensures a.p ∙ correlation_remainder a.p a.h.now a.t.now a.len a.from (omega arith) (omega arith) (omega arith)
-    c.requires.reduced.2) (subst (Residue a.p (mk a.p dot.result)) (sym c.wide.ensures) reduce.ensures)
+    c.requires.reduced.2) (subst (Residue a.p (mk a.p dot.result)) (sym c.from.ensures) reduce.ensures)

@@ -1,10 +1,10 @@
-use Rattle.std.proofs.Common.{length, ◌-◌, ◌<◌, ◌≡◌}
-use Rattle.poles.specs.Poles.{Running, Ended}
+use Rattle.std.proofs.Common.{length, ◌≡◌}
+use Rattle.poles.specs.Poles.{Running}
 use Rattle.poles.proofs.sum_of_poles.Given as goal
 
-abbrev pub invariant-loop-row : goal.invariant-loop-row
-invariant-loop-row l = (length l.t ≡ length l.initial.t) × (length l.u ≡ length l.initial.u) × (0 < l.row.top → Running l.m.p l.h l.u l.t l.row.degree l.row.top l.row.next)
-    × (l.row.top ≡ 0 → Ended l.m.p l.h l.u l.row.degree)
+abbrev pub invariant-loop-other : goal.invariant-loop-other
+invariant-loop-other l =
+    (length l.t ≡ length l.initial.t) × (length l.u ≡ length l.initial.u) × Running l.m.p l.h l.t l.u l.row.degree l.row.top l.row.next
 
-abbrev pub decreases-loop-row : goal.decreases-loop-row
-decreases-loop-row l = l.row.degree
+abbrev pub decreases-loop-other : goal.decreases-loop-other
+decreases-loop-other l = l.row.degree

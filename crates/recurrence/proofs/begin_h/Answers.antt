@@ -1,5 +1,5 @@
 -- `recurrence::begin_h` meets its contract. The invariant: the words before k solve their equations. Assumes nothing.
-use Rattle.std.proofs.Common.{arith, length, length-set, min, rules, subst, ◌-◌, ◌<◌, ◌≡◌}
+use Rattle.std.proofs.Common.{arith, length, length-set, min, rules, subst, ◌<◌, ◌≡◌}
 use Rattle.zmod.specs.Zmod.{Zmod}
 use Rattle.sheet.specs.Values.{question}
 use Rattle.recurrence.specs.Equations.{HAt}
@@ -11,7 +11,7 @@ use Rattle.recurrence.proofs.begin_h.Goals as goal
 pub loop-k-init : goal.loop-k-init
 loop-k-init c =
     let a = c.args in
-    (search rules, omega arith, solved_none a.v.p (HAt (Zmod a.v.p) (question a.v)) a.h.now)
+    (search rules, solved_none a.v.p (HAt (Zmod a.v.p) (question a.v)) a.h.now)
 
 pub first_h-requires : goal.first_h-requires
 first_h-requires c =
@@ -21,18 +21,14 @@ first_h-requires c =
       k_bound = omega arith;
     }
 
-pub bounds-h-k : goal.bounds-h-k
-bounds-h-k c = omega arith
-
 pub loop-k-preserved : goal.loop-k-preserved
 loop-k-preserved c =
     let loop = c.loop-k in
     let a = c.args in
     let inside : loop.k < length loop.h = omega arith in (
       simp length-set loop.invariant.0,
-      omega arith,
       solved_more a.v.p (HAt (Zmod a.v.p) (question a.v)) (h_causal (Zmod a.v.p) (question a.v)) loop.h loop.k
-          c.first_h.result inside loop.invariant.2 (c.first_h.ensures loop.h inside),
+          c.first_h.result inside loop.invariant.1 (c.first_h.ensures loop.h inside),
     )
 
 pub returns : goal.returns
@@ -40,4 +36,4 @@ returns c =
     let loop = c.loop-k in
     let a = c.args in
     let end : loop.k ≡ min 3 (length a.h.now) = omega arith in
-    subst (Solved a.v.p (HAt (Zmod a.v.p) (question a.v)) loop.h) end loop.invariant.2
+    subst (Solved a.v.p (HAt (Zmod a.v.p) (question a.v)) loop.h) end loop.invariant.1

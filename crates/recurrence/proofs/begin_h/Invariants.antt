@@ -1,4 +1,4 @@
-use Rattle.std.proofs.Common.{length, ◌-◌, ◌≡◌, ◌≤◌}
+use Rattle.std.proofs.Common.{length, ◌≡◌}
 use Rattle.zmod.specs.Zmod.{Zmod}
 use Rattle.sheet.specs.Values.{question}
 use Rattle.recurrence.specs.Equations.{HAt}
@@ -6,7 +6,4 @@ use Rattle.expansion.specs.Equations.{Solved}
 use Rattle.recurrence.proofs.begin_h.Given as goal
 
 abbrev pub invariant-loop-k : goal.invariant-loop-k
-invariant-loop-k l = (length l.h ≡ length l.initial.h) × (l.k ≤ l.n) × Solved l.v.p (HAt (Zmod l.v.p) (question l.v)) l.h l.k
-
-abbrev pub decreases-loop-k : goal.decreases-loop-k
-decreases-loop-k l = l.n - l.k
+invariant-loop-k l = (length l.h ≡ length l.initial.h) × Solved l.v.p (HAt (Zmod l.v.p) (question l.v)) l.h l.k

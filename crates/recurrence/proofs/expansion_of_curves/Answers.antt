@@ -29,7 +29,6 @@ loop-k-init c =
     let A = minus p (question v).A in
     let words = c.begin_h in (
       refl,
-      omega arith,
       subst (λ n. Solved p (HAt (Zmod p) (question v)) words.new.h (min 3 n)) (sym words.auto.h) words.ensures,
       both A 2 1 3 refl c.minus_twice-a.ensures (once A c.negate.ensures) c.add-y.ensures,
       none (minus p (question v).B) (omega arith),
@@ -41,17 +40,17 @@ next_h-requires c =
     let size = c.begin_h.auto.h in record {
       ready = c.requires.ready;
       inverses = (c.requires.inverses.0, omega (arith, size));
-      le_k = (omega arith, omega (arith, size), omega arith, λ j l. inv.2.reduced j (omega arith));
-      multiple = (inv.3, inv.4);
+      le_k = (omega arith, omega (arith, size), omega arith, λ j l. inv.1.reduced j (omega arith));
+      multiple = (inv.2, inv.3);
     }
 
 pub add-y-requires-in-loop-k : goal.add-y-requires-in-loop-k
 add-y-requires-in-loop-k c =
-    (omega (arith, c.loop-k.invariant.3.below), omega (arith, c.minus_twice-a.ensures.below), omega (arith, c.requires.ready, c.requires.inverses))
+    (omega (arith, c.loop-k.invariant.2.below), omega (arith, c.minus_twice-a.ensures.below), omega (arith, c.requires.ready, c.requires.inverses))
 
 pub add-z-requires : goal.add-z-requires
 add-z-requires c =
-    (omega (arith, c.loop-k.invariant.4.below), omega (arith, c.minus_twice-b.ensures.below), omega arith)
+    (omega (arith, c.loop-k.invariant.3.below), omega (arith, c.minus_twice-b.ensures.below), omega arith)
 
 pub loop-k-preserved : goal.loop-k-preserved
 loop-k-preserved c =
@@ -66,11 +65,10 @@ loop-k-preserved c =
     let here : min k (length loop.h) ≡ k = omega arith in
     let after : k + 1 ≡ min (k + 1) (length (set loop.h k r.result)) = omega (arith, length-set loop.h k r.result) in (
       simp length-set loop.invariant.0,
-      omega arith,
       subst (Solved p E (set loop.h k r.result)) after
-          (solved_more p E (h_causal (Zmod p) q) loop.h k r.result inside (subst (Solved p E loop.h) here loop.invariant.2) r.ensures),
-      both (minus p q.A) (2 * k - 3) 2 (2 * (k + 1) - 3) (omega arith) loop.invariant.3 c.minus_twice-a.ensures c.add-y-in-loop-k.ensures,
-      both (minus p q.B) (2 * k - 6) 2 (2 * (k + 1) - 6) (omega arith) loop.invariant.4 c.minus_twice-b.ensures c.add-z.ensures,
+          (solved_more p E (h_causal (Zmod p) q) loop.h k r.result inside (subst (Solved p E loop.h) here loop.invariant.1) r.ensures),
+      both (minus p q.A) (2 * k - 3) 2 (2 * (k + 1) - 3) (omega arith) loop.invariant.2 c.minus_twice-a.ensures c.add-y-in-loop-k.ensures,
+      both (minus p q.B) (2 * k - 6) 2 (2 * (k + 1) - 6) (omega arith) loop.invariant.3 c.minus_twice-b.ensures c.add-z.ensures,
     )
 
 pub shape_of-h : goal.shape_of-h
@@ -83,4 +81,4 @@ returns c =
     let p = a.v.p in
     let loop = c.loop-k in
     let end : min loop.k (length loop.h) ≡ length a.h.now = omega (arith, c.begin_h.auto.h) in
-    subst (Solved p (HAt (Zmod p) (question a.v)) loop.h) end loop.invariant.2
+    subst (Solved p (HAt (Zmod p) (question a.v)) loop.h) end loop.invariant.1

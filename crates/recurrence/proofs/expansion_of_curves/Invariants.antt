@@ -1,4 +1,4 @@
-use Rattle.std.proofs.Common.{length, min, ◌*◌, ◌-◌, ◌≡◌, ◌≤◌}
+use Rattle.std.proofs.Common.{length, min, ◌*◌, ◌-◌, ◌≡◌}
 use Rattle.zmod.specs.Zmod.{Zmod, minus}
 use Rattle.sheet.specs.Values.{question}
 use Rattle.recurrence.specs.Equations.{HAt}
@@ -8,8 +8,5 @@ use Rattle.recurrence.proofs.expansion_of_curves.Given as goal
 
 abbrev pub invariant-loop-k : goal.invariant-loop-k
 invariant-loop-k l =
-    (length l.h ≡ length l.initial.h) × (3 ≤ l.k) × (Solved l.v.p (HAt (Zmod l.v.p) (question l.v)) l.h (min l.k (length l.h)))
+    (length l.h ≡ length l.initial.h) × (Solved l.v.p (HAt (Zmod l.v.p) (question l.v)) l.h (min l.k (length l.h)))
     × (Multiple l.v.p (2 * l.k - 3) (minus l.v.p (question l.v).A) l.y) × Multiple l.v.p (2 * l.k - 6) (minus l.v.p (question l.v).B) l.z
-
-abbrev pub decreases-loop-k : goal.decreases-loop-k
-decreases-loop-k l = length l.initial.h - l.k
