@@ -3,20 +3,16 @@
 
 ghost use Rattle.promises.specs.Answer.{SolveRight};
 
-use promises::Written;
-use reading::Reading;
+use questions::Refusal;
 use sheet::Form;
 
-// The certificate for a question, in the answer; or the number of the first of questions 1 to 7 and 11 with a no, and then the answer is as it was.
-pub fn solve(ws: &[u32], answer: &mut [u32]) -> Written
+// The certificate for a question, in the answer; or the first of questions 1 to 7 and 11 with a no, and then the answer is as it was.
+pub fn solve(ws: &[u32], answer: &mut [u32]) -> Result<u32, Refusal>
     ensures { SolveRight ws.now answer.old answer.new result }
 {
     if answer.len() < sheet::MOST_WORDS {
-        return Written::Refused(1);
+        return Err(Refusal::Room);
     }
-    let read = reading::read(Form::Question, ws);
-    match read {
-        Reading::Refused(k) => Written::Refused(k),
-        Reading::Accepted(v) => solution::solve_values(v, answer),
-    }
+    let v = reading::read(Form::Question, ws)?;
+    solution::solve_values(v, answer)
 }

@@ -1,11 +1,9 @@
 -- `solution::solve_in` meets its contract. Assumes nothing.
 use Rattle.std.proofs.Common.{arith, length, length-take, rules, subst, sym, ◌%◌, ◌-◌, ◌∙◌, ◌≡◌}
-use Rattle.zmod.specs.Zmod.{Zmod}
-use Rattle.zmod.specs.Residues.{poly}
-use Rattle.isogeny.specs.Rules.{N}
-use Rattle.sheet.specs.Values.{half, question}
-use Rattle.sheet.specs.Ready.{HoldsG, HoldsN, degree_half}
-use Rattle.promises.specs.Numerators.{holds_n, whole_numerator}
+use Rattle.barrett.specs.Modulus.{prepared}
+use Rattle.sheet.specs.Values.{half}
+use Rattle.sheet.specs.Ready.{HoldsG, degree_half}
+use Rattle.promises.specs.Numerators.{numerator_words}
 use Rattle.expansion.specs.Begun.{Begun}
 use Rattle.solution.proofs.Certified.{solved}
 use Rattle.solution.proofs.solve_in.Goals as goal
@@ -20,59 +18,31 @@ candidate-requires c =
       v_in_bounds = omega (arith, d, c.requires.degree_in_bounds, c.requires.degree_in_bounds_2, c.requires.n_len);
     }
 
-pub modulus-m-requires : goal.modulus-m-requires
-modulus-m-requires c =
-    omega (arith, c.requires.ready.prime)
-
 pub numerator-requires : goal.numerator-requires
 numerator-requires c =
     let g_words : HoldsG c.args.v c.candidate.new.g =
     record { count = omega (arith, c.candidate.auto, c.requires.n_len); reduced = c.candidate.ensures.reduced }
     in
-    let m = c.modulus-m.ensures in record {
-      ready = (c.requires.ready, g_words, record { prepared = m.1; same = m.0 });
+    let m = c.new-m.ensures in record {
+      ready = (c.requires.ready, g_words, record { prepared = prepared _; same = m });
       out_len = omega (arith, degree_half c.args.v c.requires.ready, c.candidate.auto, c.requires.n_len);
     }
-
-pub overflow_sub-d : goal.overflow_sub-d
-overflow_sub-d c =
-    omega (arith, c.candidate.auto, c.requires.n_len)
-
-pub overflow_sub-k : goal.overflow_sub-k
-overflow_sub-k c =
-    omega (arith, c.candidate.auto, c.requires.degree_in_bounds_2, c.requires.ready.degree)
-
-pub slice_bounds-rule_three_from-end : goal.slice_bounds-rule_three_from-end
-slice_bounds-rule_three_from-end c =
-    omega (arith, c.candidate.auto, c.requires.degree_in_bounds_2)
-
-pub slice_bounds-rule_three_from-end-2 : goal.slice_bounds-rule_three_from-end-2
-slice_bounds-rule_three_from-end-2 c = simp length-take (omega arith)
 
 pub rule_three_from-holds-requires : goal.rule_three_from-holds-requires
 rule_three_from-holds-requires c =
     let g_words : HoldsG c.args.v c.candidate.new.g =
     record { count = omega (arith, c.candidate.auto, c.requires.n_len); reduced = c.candidate.ensures.reduced }
     in
-    let n_words : HoldsN c.args.v c.numerator.new.out =
-    let v = c.args.v in
-    holds_n v c.requires.ready c.candidate.new.g c.numerator.new.out (g_words)
-    (omega (arith, degree_half v c.requires.ready, c.candidate.auto, c.numerator.auto, c.requires.n_len)) c.numerator.ensures
-    in
-    let n_is : poly c.args.v.p c.numerator.new.out
-    ≡ N (Zmod c.args.v.p) (question c.args.v)
-    (poly c.args.v.p c.candidate.new.g) =
-    let v = c.args.v in
-    whole_numerator v c.requires.ready c.candidate.new.g c.numerator.new.out (g_words)
-    (omega (arith, degree_half v c.requires.ready, c.candidate.auto, c.numerator.auto, c.requires.n_len)) c.numerator.ensures
-    in
+    let n_words =
+    numerator_words c.args.v c.requires.ready c.candidate.new.g c.numerator.new.out g_words
+    (omega (arith, degree_half c.args.v c.requires.ready, c.candidate.auto, c.numerator.auto, c.requires.n_len)) c.numerator.ensures in
     let v = c.args.v in
     let made = c.candidate in
-    let m = c.modulus-m.ensures in
+    let m = c.new-m.ensures in
     let d : length made.new.g - 1 ≡ half v = omega (arith, made.auto, c.requires.n_len) in record {
-      ready = (c.requires.ready, record { prepared = m.1; same = m.0 });
+      ready = (c.requires.ready, record { prepared = prepared _; same = m });
       holds_g = (g_words, made.ensures.r1);
-      holds_n = (n_words, n_is);
+      holds_n = n_words;
       degree_in_bounds = (
         omega (arith, made.auto, c.requires.degree_in_bounds),
         omega (arith, made.auto, c.requires.degree_in_bounds),
@@ -96,41 +66,16 @@ finish-requires c =
     let g_words : HoldsG c.args.v c.candidate.new.g =
     record { count = omega (arith, c.candidate.auto, c.requires.n_len); reduced = c.candidate.ensures.reduced }
     in
-    let n_words : HoldsN c.args.v c.numerator.new.out =
-    let v = c.args.v in
-    holds_n v c.requires.ready c.candidate.new.g c.numerator.new.out (g_words)
-    (omega (arith, degree_half v c.requires.ready, c.candidate.auto, c.numerator.auto, c.requires.n_len)) c.numerator.ensures
-    in
-    let n_is : poly c.args.v.p c.numerator.new.out
-    ≡ N (Zmod c.args.v.p) (question c.args.v)
-    (poly c.args.v.p c.candidate.new.g) =
-    let v = c.args.v in
-    whole_numerator v c.requires.ready c.candidate.new.g c.numerator.new.out (g_words)
-    (omega (arith, degree_half v c.requires.ready, c.candidate.auto, c.numerator.auto, c.requires.n_len)) c.numerator.ensures
-    in
-    let m = c.modulus-m.ensures in record {
-      ready = (c.requires.ready, record { prepared = m.1; same = m.0 });
+    let n_words =
+    numerator_words c.args.v c.requires.ready c.candidate.new.g c.numerator.new.out g_words
+    (omega (arith, degree_half c.args.v c.requires.ready, c.candidate.auto, c.numerator.auto, c.requires.n_len)) c.numerator.ensures in
+    let m = c.new-m.ensures in record {
+      ready = (c.requires.ready, record { prepared = prepared _; same = m });
       holds_g = (g_words, c.candidate.ensures.r1);
-      holds_n = (n_words, n_is);
+      holds_n = n_words;
       variant = c.rule_three_from-holds.ensures;
       room = c.requires.n_len.2;
     }
-
-pub shape_of-s : goal.shape_of-s
-shape_of-s c =
-    c.rule_three_from-holds.auto.s ∙ c.candidate.auto.s
-
-pub shape_of-h : goal.shape_of-h
-shape_of-h c =
-    c.rule_three_from-holds.auto.h ∙ c.candidate.auto.h
-
-pub shape_of-table : goal.shape_of-table
-shape_of-table c =
-    search (rules, c.rule_three_from-holds.auto.squares, c.candidate.auto.table)
-
-pub shape_of-n : goal.shape_of-n
-shape_of-n c =
-    c.numerator.auto.out ∙ c.candidate.auto.c
 
 pub returns : goal.returns
 returns c =
