@@ -79,13 +79,8 @@ fn cancel_two(t: &mut [u64], u: &[u64], len: usize, row: Row, below: Row, m: Mod
 {
     let c = euclid::multiply(below.top, below.top, m);
     let y = euclid::multiply(euclid::negate(row.top, m), below.top, m);
-    let z = euclid::two_products(
-        row.top,
-        below.next,
-        euclid::negate(row.next, m),
-        below.top,
-        m,
-    );
+    let opposite = euclid::negate(row.next, m);
+    let z = euclid::two_products(row.top, below.next, opposite, below.top, m);
     combine(t, u, len, 0, c, y, z, m);
 }
 
@@ -191,8 +186,8 @@ fn quotient(u: &[u64], k: usize, p: u32) -> Option<u32>
     Some(field::multiply(second, inverse, p))
 }
 
-// The sum of the poles, each as often as it counts, if there are n/2 of them; fewer have no sum here. h₀ = 0 and h has n + 1 words; t and u are room for rows, of
-// n/2 + 1 words. The rows change places with each step.
+// The sum of the poles, each as often as it counts, if there are n/2 of them; fewer have no sum here. h₀ = 0 and h has n + 1 words; t and u are room for
+// rows, of n/2 + 1 words. The rows change places with each step.
 pub fn sum_of_poles(h: &[u32], t: &mut [u64], u: &mut [u64], m: Modulus) -> Option<u32>
     requires prime { Prime m.p × (Sized h.now u.old (length h.now - 1)) × (length t.old ≡ length u.old) }
     requires reduced { (Reduced m.p h.now) × (get_or h.now 0 0 ≡ 0) }

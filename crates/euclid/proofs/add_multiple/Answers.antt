@@ -1,5 +1,5 @@
 -- `euclid::add_multiple` meets its contract. Assumes nothing.
-use Rattle.std.proofs.Common.{List, arith, drop, length, length-drop, length-take, length-take-le, set, sym, take, ℕ, ◌++◌, ◌+◌, ◌-◌, ◌≡◌}
+use Rattle.std.proofs.Common.{List, arith, drop, length, length-drop, length-take, length-take-le, set, sym, take, ℕ, ◌++◌, ◌+◌, ◌-◌, ◌≡◌, ◌≤◌}
 use Rattle.slices.specs.Stored.{part_below}
 use Rattle.zmod.specs.Residues.{reduced_take}
 use Rattle.barrett.specs.Modulus.{prepared, prepared_positive}
@@ -16,9 +16,14 @@ scale-requires c =
     let a = c.args in
     (c.requires.lt_p.0, reduced_take a.a.now (prepared_positive (prepared a.m)) (length a.a.now - length a.b.now) c.requires.reduced.0)
 
--- as many words are scaled as a has more than b
+-- as many words are scaled as a has more than b, and then there are as many left as b has after its first
 front_size : (a b front : List ℕ) → length front ≡ length (take (length a - length b) a) → length front ≡ length a - length b
 front_size a b front same = omega (arith, same, length-take (length a - length b) a)
+
+rear_size : (a b front rear : List ℕ) (v : ℕ) → length b ≤ length a → length front ≡ length a - length b
+    → (let s = length a - length b in let all = set (front ++ drop s a) s v in length rear ≡ length (take (length all - (s + 1)) (drop (s + 1) all)))
+    → length rear ≡ length b - 1
+rear_size a b front rear v le size same = omega (arith, same, rear_length a b front v le size)
 
 pub two_products-requires : goal.two_products-requires
 two_products-requires c =
@@ -48,13 +53,13 @@ combine-requires c =
     let pos = prepared_positive (prepared a.m) in
     let from = length a.a.now - length b + 1 in
     let stored = set (front ++ drop (length a.a.now - length b) a.a.now) (length a.a.now - length b) middle in
-    let rear_size = rear_length a.a.now b front middle c.requires.lt_p.4 (front_size _ _ _ c.scale.auto.out) in record {
+    let rear = rear_length a.a.now b front middle c.requires.lt_p.4 (front_size _ _ _ c.scale.auto.out) in record {
       lt_p = (
         c.requires.lt_p.0,
         c.requires.lt_p.1,
         c.requires.lt_p.2,
-        omega (arith, rear_size, length-take (length b - 1) b),
-        omega (arith, rear_size, length-take (length b - 1) (drop 1 b), length-drop 1 b),
+        omega (arith, rear, length-take (length b - 1) b),
+        omega (arith, rear, length-take (length b - 1) (drop 1 b), length-drop 1 b),
       );
       reduced = (
         part_below stored from (length stored - from) a.m.p pos
@@ -71,7 +76,7 @@ shape_of-a c =
     let front = c.scale.new.out in
     let middle = c.two_products.result in
     all_length a.a.now a.b.now front middle c.requires.lt_p.4 (front_size _ _ _ c.scale.auto.out) c.combine.new.out
-    (omega (arith, c.combine.auto, rear_length a.a.now a.b.now front middle c.requires.lt_p.4 (front_size _ _ _ c.scale.auto.out))) c.requires.lt_p.3
+    (rear_size a.a.now a.b.now front _ middle c.requires.lt_p.4 (front_size _ _ _ c.scale.auto.out) c.combine.auto.out) c.requires.lt_p.3
 
 pub returns : goal.returns
 returns c =
@@ -79,5 +84,6 @@ returns c =
     let front = c.scale.new.out in
     let middle = c.two_products.result in
     added_residues a.a.now a.b.now front middle a.m.p a.c a.y a.z c.combine.new.out (prepared_positive (prepared a.m)) c.requires.lt_p.3
-    c.requires.lt_p.4 (front_size _ _ _ c.scale.auto.out) (omega (arith, c.combine.auto, rear_length a.a.now a.b.now front middle c.requires.lt_p.4 (front_size _ _ _ c.scale.auto.out)))
+    c.requires.lt_p.4 (front_size _ _ _ c.scale.auto.out)
+    (rear_size a.a.now a.b.now front _ middle c.requires.lt_p.4 (front_size _ _ _ c.scale.auto.out) c.combine.auto.out)
     c.scale.ensures c.two_products.ensures c.combine.ensures

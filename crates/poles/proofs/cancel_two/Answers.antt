@@ -23,7 +23,7 @@ combine-requires c =
 pub returns : goal.returns
 returns c =
     let z = c.two_products-z in
-    let z₀ = c.negate-2 in
+    let z₀ = c.negate-opposite in
     let y = c.multiply-y in
     let y₀ = c.negate in
     let a = c.args in

@@ -19,7 +19,13 @@ pub add_multiple-requires : goal.add_multiple-requires
 add_multiple-requires c =
     let a = c.args in
     let pos = prepared_positive (prepared a.m) in record {
-      lt_p = (c.requires.lt_p.0, c.requires.lt_p.1, c.requires.lt_p.2, omega (arith, length-take (a.len - a.s) a.u.now), omega (arith, length-take a.len a.t.now, length-take (a.len - a.s) a.u.now));
+      lt_p = (
+        c.requires.lt_p.0,
+        c.requires.lt_p.1,
+        c.requires.lt_p.2,
+        omega (arith, length-take (a.len - a.s) a.u.now),
+        omega (arith, length-take a.len a.t.now, length-take (a.len - a.s) a.u.now),
+      );
       reduced = (reduced_take a.t.now pos a.len c.requires.reduced.0, reduced_take a.u.now pos (a.len - a.s) c.requires.reduced.1);
     }
 
