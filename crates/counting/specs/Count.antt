@@ -2,7 +2,7 @@
 -- Assumes nothing.
 use Rattle.std.specs.Prelude.{◌≡◌, ◌≢◌, List, ℕ, zero, suc, ◌+◌, ◌*◌, ◌-◌, ◌≤◌, ◌<◌, length, get_or, set}
 use Rattle.std.proofs.Math.Path.{sym, ap, fun_ext}
-use Rattle.std.proofs.Common.{◌∙◌, subst, mul-le-mul, arith, get_or-set_same, get_or-set_other, ext_get_or}
+use Rattle.std.proofs.Common.{◌∙◌, subst, arith, get_or-set_same, get_or-set_other, ext_get_or}
 use Rattle.slices.specs.Filling.{Filled}
 use Rattle.ring.specs.Ring
 use Rattle.series.specs.Series.{sums, negs}
@@ -72,7 +72,3 @@ pub roots_one : {p : ℕ} {g : List ℕ} → Prime p → Divisor p g → length 
 roots_one {p} {g} P h two =
     ap (λ n. rational_roots p n (poly p g)) two
     ∙ roots_linear P (poly p g) (subst (λ n. Monic (Zmod p) n (poly p g)) (ap (λ n. n - 1) two) h.monic)
-
--- the words of a table for a degree of up to 15
-pub table_fits : (d : ℕ) → d ≤ 15 → d * (d + 3) ≤ 270
-table_fits d few = mul-le-mul {n₁ = d} {m₁ = d + 3} {n₂ = 15} {m₂ = 18} few (omega arith)

@@ -104,8 +104,8 @@ module _ (p : ℕ) (q t acc₀ : List ℕ) where
         classes : (k : ℕ) → k < d → poly p acc' k ≡ plus p (poly p acc₀ k) (part (i + 4) k)
         classes k l =
             poly_at p acc' k ∙ ap (mk p) (all k l)
-            ∙ row_class p (get_or acc k 0) (get_or q i 0) (get_or q (1 + i) 0) (get_or q (2 + i) 0) (get_or q (3 + i) 0) (get_or rest k 0) (get_or rest (d + k) 0)
-            (get_or rest (2 * d + k) 0) (get_or rest (3 * d + k) 0)
+            ∙ row_class p (get_or acc k 0) (get_or q i 0) (get_or q (1 + i) 0) (get_or q (2 + i) 0) (get_or q (3 + i) 0) (get_or rest k 0)
+            (get_or rest (d + k) 0) (get_or rest (2 * d + k) 0) (get_or rest (3 * d + k) 0)
             ∙ ap (λ x. plus p (plus p (plus p (plus p x (term i k)) (term (1 + i) (d + k))) (term (2 + i) (2 * d + k))) (term (3 + i) (3 * d + k)))
             (sym (poly_at p acc k) ∙ h.classes k l)
             ∙ ap (λ x. plus p (plus p (plus p x (term (1 + i) (d + k))) (term (2 + i) (2 * d + k))) (term (3 + i) (3 * d + k)))

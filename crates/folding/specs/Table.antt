@@ -141,6 +141,10 @@ pub row_inside : (d j : ℕ) → j ≤ d + 2 → j * d + d ≤ d * (d + 3)
 row_inside d j le =
     omega (arith, N.mul-le-mul_right {m = j + 1} {n = d + 3} d (omega arith), N.add-mul j 1 d, N.one-mul d, N.mul_comm (d + 3) d)
 
+-- the words of a table for a degree of up to 15
+pub table_fits : (d : ℕ) → d ≤ 15 → d * (d + 3) ≤ 270
+table_fits d few = N.mul-le-mul {n₁ = d} {m₁ = d + 3} {n₂ = 15} {m₂ = 18} few (omega arith)
+
 pub row_at : (p d : ℕ) (t : List ℕ) (i k : ℕ) → k < d → rows p d t i k ≡ mk p (get_or t (i * d + k) 0)
 row_at p d t i k l = poly_at p (row d t i) k ∙ ap (mk p) (part_at t (i * d) d k l)
 

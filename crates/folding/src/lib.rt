@@ -63,6 +63,7 @@ fn times_x(r: &mut [u32], n: &[u32], m: Modulus)
 }
 
 // Row i of the table, where those before it are there and r is x^(d + i); r goes on to the next power.
+#[tactic(auto, using(crate::specs::Table::row_inside))]
 fn fill_row(r: &mut [u32], n: &[u32], t: &mut [u64], i: usize, m: Modulus)
     requires i_bound { (i < length n.now) × (length r.old ≡ length n.now)
         × (length t.old ≡ length n.now * (length n.now + 3)) × (Reduced m.p n.now) }
@@ -79,6 +80,7 @@ fn fill_row(r: &mut [u32], n: &[u32], t: &mut [u64], i: usize, m: Modulus)
 }
 
 // The table of x^d − n: x^d, .., x^(2d − 1), and three rows of zeros, so that rows of four have no end of their own. r is room.
+#[tactic(auto, using(crate::specs::Table::row_inside))]
 fn fill(r: &mut [u32], n: &[u32], t: &mut [u64], m: Modulus)
     requires { (length r.old ≡ length n.now)
         × (length t.old ≡ length n.now * (length n.now + 3)) × (Reduced m.p n.now) }
@@ -109,6 +111,7 @@ fn fold_four(acc: &mut [u64], q: &[u32], i: usize, t: &[u64], p: u32)
 }
 
 // acc = acc + q_0 T_0 + q_1 T_1 + .., where T_i are the rows of t: at most 16 products a word, next to the 32 that a square has.
+#[tactic(auto, using(crate::specs::Table::row_inside))]
 fn fold(acc: &mut [u64], q: &[u32], t: &[u64], p: u32)
     requires q_len { (length q.now ≡ length acc.old) × (length acc.old ≤ 15) × (length t.now ≡ length acc.old * (length acc.old + 3)) }
     requires p_bound { (p ≤ 2 ^ 28) × (Reduced p q.now) × (Reduced p t.now) × ((k : ℕ) → get_or acc.old k 0 ≤ 32 * ((p - 1) * (p - 1))) }
@@ -146,7 +149,7 @@ fn square_sums(r: &[u32], bit: usize, e: &mut [u64], acc: &mut [u64], p: u32)
     rows::square(r, e, &mut acc[bit..], p);
 }
 
-// r = x^bit r² modulo g, where t is the table of g; all behind t is room.
+// r = x^bit r² modulo g, where t is the table of g; all behind t is room. (The room is no struct: behind a reference only one field can be lent at a time.)
 fn square_modulo(
     r: &mut [u32],
     bit: usize,
@@ -179,7 +182,7 @@ fn prepare(g: &[u32], r: &mut [u32], n: &mut [u32], t: &mut [u64], m: Modulus)
 }
 
 // r = x^p modulo g, by the digits of p from where `modulo::begin` leaves off. All slices but g and r are room.
-pub fn power_of_x(
+fn power_in(
     g: &[u32],
     r: &mut [u32],
     n: &mut [u32],
@@ -200,4 +203,31 @@ pub fn power_of_x(
     for i in (0..top).rev() {
         square_modulo(r, ((m.p >> i) % 2) as usize, t, e, acc, q, m);
     }
+}
+
+// r = x^p modulo g, with room of its own.
+pub fn power_of_x(g: &[u32], r: &mut [u32], m: Modulus)
+    requires p_bound { (1 < m.p) × (Divisor m.p g.now) × (2 ≤ length g.now) × (length g.now ≤ 16) }
+    requires r_len { length r.old ≡ length g.now - 1 }
+    ensures { RemainderOf m.p (length g.now - 1) (poly m.p g.now) (x_to m.p m.p) r.new }
+{
+    let d = r.len();
+    let rows = d * (d + 3);
+    let some = d + 6;
+    let sums = d + d;
+    let mut n = [0u32; 15];
+    let mut q = [0u32; 15];
+    let mut t = [0u64; 270];
+    let mut e = [0u64; 21];
+    let mut acc = [0u64; 30];
+    power_in(
+        g,
+        r,
+        &mut n[..d],
+        &mut q[..d],
+        &mut t[..rows],
+        &mut e[..some],
+        &mut acc[..sums],
+        m,
+    );
 }

@@ -119,7 +119,7 @@ fn lifted_square(a: &[u32], bit: usize, e: &mut [u64], acc: &mut [u64], out: &mu
     poly::square(a, e, &mut acc[bit..], &mut out[bit..], m);
 }
 
-// r = x^bit r² modulo g, where t and n are prepared for g; all behind them is room.
+// r = x^bit r² modulo g, where t and n are prepared for g; all behind them is room. (It is no struct: behind a reference only one field can be lent at a time.)
 fn square_modulo(
     r: &mut [u32],
     bit: usize,
@@ -146,7 +146,7 @@ fn square_modulo(
 }
 
 // r = x^p modulo g, by the digits of p from where `modulo::begin` leaves off. All slices but g and r are room.
-pub fn power_of_x(
+fn power_in(
     g: &[u32],
     r: &mut [u32],
     t: &mut [u64],
@@ -170,4 +170,34 @@ pub fn power_of_x(
         let bit = ((m.p >> i) % 2) as usize;
         square_modulo(r, bit, g, t, n, e, acc, room, top, q, m);
     }
+}
+
+// r = x^p modulo g, with room of its own, N words a slice.
+pub fn power_of_x<const N: usize>(g: &[u32], r: &mut [u32], m: Modulus)
+    requires p_bound { (Divisor m.p g.now) × (1 < m.p) × (2 ≤ length g.now) × (length g.now ≤ 128) }
+    requires r_len { (length r.old + 1 ≡ length g.now) × (2 * length g.now + 4 ≤ N) × (N ≤ 264) }
+    ensures { RemainderOf m.p (length g.now - 1) (poly m.p g.now) (x_to m.p m.p) r.new }
+{
+    let k = g.len();
+    let c = k + 6;
+    let w = 2 * k - 1;
+    let mut t = [0u64; N];
+    let mut n = [0u64; N];
+    let mut e = [0u64; N];
+    let mut acc = [0u64; N];
+    let mut room = [0u32; N];
+    let mut top = [0u32; N];
+    let mut q = [0u32; N];
+    power_in(
+        g,
+        r,
+        &mut t[..c],
+        &mut n[..c],
+        &mut e[..c],
+        &mut acc[..w],
+        &mut room[..w],
+        &mut top[..k],
+        &mut q[..k],
+        m,
+    );
 }

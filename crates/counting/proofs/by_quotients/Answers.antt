@@ -1,30 +1,19 @@
 -- `counting::by_quotients` meets its contract. Assumes nothing.
-use Rattle.std.proofs.Common.{arith, length-take}
+use Rattle.std.proofs.Common.{List, arith, drop, length, length-take, length-take-le, replicate, take, take_at, ℕ, ◌++◌, ◌-◌, ◌≡◌}
+use Rattle.std.proofs.lemmas.List.{length-replicate}
 use Rattle.counting.proofs.by_quotients.Goals as goal
 
-pub power_of_x-requires : goal.power_of_x-requires
-power_of_x-requires c =
-    record {
-      p_bound = (c.requires.prime.1, c.requires.prime.0.above_one, omega (arith, c.requires.prime.2), c.requires.prime.3);
-      r_len = (c.requires.a_len.1, c.requires.a_len.3, c.requires.a_len.4, c.requires.a_len.5, c.requires.a_len.7, c.requires.a_len.6, c.requires.a_len.0, c.requires.a_len.2);
-    }
-
-pub slice_bounds-from_power-end-2 : goal.slice_bounds-from_power-end-2
-slice_bounds-from_power-end-2 c =
-    simp length-take (omega (arith, c.power_of_x.auto, c.requires.a_len.3))
-
-pub slice_bounds-from_power-end-4 : goal.slice_bounds-from_power-end-4
-slice_bounds-from_power-end-4 c =
-    simp length-take (omega (arith, c.power_of_x.auto, c.requires.a_len.4))
-
-pub from_power-requires : goal.from_power-requires
-from_power-requires c =
-    let power = c.power_of_x in record {
-      prime = (c.requires.prime.0, c.requires.prime.1, c.requires.prime.2);
-      r_len = (
-        omega (arith, c.requires.a_len.1, power.auto),
-        simp length-take (omega (arith, power.auto, c.requires.a_len.3)),
-        simp length-take (omega (arith, power.auto, c.requires.a_len.4, c.requires.a_len.1)),
-        power.ensures,
-      );
-    }
+pub from_power-requires-clause-r_len : goal.from_power-requires-clause-r_len
+from_power-requires-clause-r_len g c =
+    let d = length c.args.g.now - 1 in
+    let blank : List ℕ = replicate g.row.N 0 in
+    let size : length (take d blank) ≡ d = length-take-le d blank (simp length-replicate (omega (arith, c.requires))) in
+    let r = c.power_of_x.new.r in
+    let long : length r ≡ d = omega (arith, c.power_of_x.auto, size) in
+    let front : take d (r ++ drop d blank) ≡ r = take_at r (drop d blank) d long in
+    rw front (
+      omega (arith, long, c.requires),
+      simp (length-take, length-replicate) (omega (arith, c.requires)),
+      simp (length-take, length-replicate) (omega (arith, long, c.requires)),
+      c.power_of_x.ensures,
+    )

@@ -6,26 +6,6 @@ use Rattle.rows.specs.Room.{zero_at}
 use Rattle.folding.specs.Table.{row_inside, cleared_behind, begins, begun_none, begun_all}
 use Rattle.folding.proofs.fill.Goals as goal
 
-pub overflow_mul-d : goal.overflow_mul-d
-overflow_mul-d c =
-    let d = length c.args.n.now in
-    search (rules, row_inside d d (omega arith))
-
-pub offset_bounds-t-d : goal.offset_bounds-t-d
-offset_bounds-t-d c =
-    let d = length c.args.n.now in
-    search (rules, row_inside d d (omega arith))
-
-pub slice_bounds-fill-count : goal.slice_bounds-fill-count
-slice_bounds-fill-count c =
-    let d = length c.args.n.now in
-    search (rules, row_inside d d (omega arith))
-
-pub slice_bounds-fill-start : goal.slice_bounds-fill-start
-slice_bounds-fill-start c =
-    let d = length c.args.n.now in
-    search (rules, row_inside d d (omega arith))
-
 pub loop-i-init : goal.loop-i-init
 loop-i-init c =
     let a = c.args in
@@ -37,7 +17,8 @@ loop-i-init c =
     let len = length t - d * d in
     let part = c.fill.new.self in
     let fits = row_inside d d (omega arith) in
-    let zeros : (j : ℕ) → get_or part j 0 ≡ 0 = λ j. ap (λ l. get_or l j 0) (c.fill.ensures.after (λ y h. h)) ∙ zero_at (length (take len (drop (d * d) t))) j in
+    let zeros : (j : ℕ) → get_or part j 0 ≡ 0 = λ j.
+        ap (λ l. get_or l j 0) (c.fill.ensures.after (λ y h. h)) ∙ zero_at (length (take len (drop (d * d) t))) j in
     let behind = cleared_behind t part (d * d) len (omega (arith, pre.1)) (omega (arith, length-take len (drop (d * d) t), length-drop (d * d) t)) zeros in (
       omega (arith, pre.0),
       search rules,

@@ -5,26 +5,6 @@ use Rattle.modulo.specs.Power.{x_to}
 use Rattle.folding.specs.Table.{monic_of, row_inside, next_power, begun_more}
 use Rattle.folding.proofs.fill_row.Goals as goal
 
-pub overflow_mul-at : goal.overflow_mul-at
-overflow_mul-at c =
-    let a = c.args in
-    search (rules, row_inside (length a.n.now) a.i (omega arith))
-
-pub overflow_add-to : goal.overflow_add-to
-overflow_add-to c =
-    let a = c.args in
-    search (rules, row_inside (length a.n.now) a.i (omega arith))
-
-pub offset_bounds-t-at : goal.offset_bounds-t-at
-offset_bounds-t-at c =
-    let a = c.args in
-    search (rules, row_inside (length a.n.now) a.i (omega arith))
-
-pub slice_bounds-widen-end : goal.slice_bounds-widen-end
-slice_bounds-widen-end c =
-    let a = c.args in
-    search (rules, row_inside (length a.n.now) a.i (omega arith))
-
 pub times_x-requires : goal.times_x-requires
 times_x-requires c =
     (omega arith, c.requires.i_bound.1, c.requires.begun_table.1.reduced, c.requires.i_bound.3)

@@ -13,26 +13,6 @@ loop-i-init c =
     let a = c.args in
     (refl, omega arith, folded_none a.p a.q.now a.t.now a.acc.now c.requires.p_bound.3)
 
-pub overflow_mul-i : goal.overflow_mul-i
-overflow_mul-i c =
-    let a = c.args in
-    search (rules, row_inside (length a.acc.now) c.loop-i.i (omega arith))
-
-pub offset_bounds-t-i : goal.offset_bounds-t-i
-offset_bounds-t-i c =
-    let a = c.args in
-    search (rules, row_inside (length a.acc.now) c.loop-i.i (omega arith))
-
-pub slice_bounds-fold_four-count : goal.slice_bounds-fold_four-count
-slice_bounds-fold_four-count c =
-    let a = c.args in
-    search (rules, row_inside (length a.acc.now) c.loop-i.i (omega arith))
-
-pub slice_bounds-fold_four-start : goal.slice_bounds-fold_four-start
-slice_bounds-fold_four-start c =
-    let a = c.args in
-    search (rules, row_inside (length a.acc.now) c.loop-i.i (omega arith))
-
 pub fold_four-requires : goal.fold_four-requires
 fold_four-requires c =
     let a = c.args in
@@ -76,8 +56,8 @@ pub returns : goal.returns
 returns c =
     let a = c.args in
     let loop = c.loop-i in
-    folded_all a.p a.q.now a.t.now a.acc.now c.requires.p_bound.1 c.requires.p_bound.2 loop.i loop.acc (omega arith) c.requires.p_bound.0 loop.invariant.2 c.requires.q_len.0
-    (omega arith) loop.invariant.0
+    folded_all a.p a.q.now a.t.now a.acc.now c.requires.p_bound.1 c.requires.p_bound.2 loop.i loop.acc (omega arith) c.requires.p_bound.0
+    loop.invariant.2 c.requires.q_len.0 (omega arith) loop.invariant.0
 
 -- the end is also reached after a turn that no whole step follows
 pub returns-2 : goal.returns-2

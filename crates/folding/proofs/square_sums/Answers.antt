@@ -7,26 +7,13 @@ use Rattle.rows.specs.Room.{turns_fit}
 use Rattle.folding.specs.Square.{moved_sums, product_sums_mono}
 use Rattle.folding.proofs.square_sums.Goals as goal
 
-pub slice_bounds-square-count : goal.slice_bounds-square-count
-slice_bounds-square-count c =
-    let a = c.args in
-    omega (arith, length-set a.acc.now 0 0)
-
-pub slice_bounds-square-start : goal.slice_bounds-square-start
-slice_bounds-square-start c =
-    let a = c.args in
-    omega (arith, length-set a.acc.now 0 0)
-
 pub square-requires : goal.square-requires
 square-requires c =
-    let a = c.args in
+    let pre = c.requires.p_nonzero in
     record {
       a_in_bounds = (search rules, search rules);
-      p_nonzero = (c.requires.p_nonzero.0, c.requires.p_nonzero.1, c.requires.p_nonzero.2, turns_fit (length a.r.now) _ a.p c.requires.p_nonzero.1 (omega arith));
+      p_nonzero = (pre.0, pre.1, pre.2, turns_fit (length c.args.r.now) _ c.args.p pre.1 (omega arith));
     }
-
-pub shape_of-acc : goal.shape_of-acc
-shape_of-acc c = search (rules, length-set c.args.acc.now 0 0)
 
 pub returns : goal.returns
 returns c =

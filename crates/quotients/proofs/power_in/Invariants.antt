@@ -2,7 +2,7 @@ use Rattle.std.proofs.Common.{length, ◌+◌, ◌-◌, ◌/◌, ◌^◌, ◌≡
 use Rattle.zmod.specs.Residues.{poly}
 use Rattle.modulo.specs.Modulo.{RemainderOf}
 use Rattle.modulo.specs.Power.{x_to}
-use Rattle.quotients.proofs.power_of_x.Given as goal
+use Rattle.quotients.proofs.power_in.Given as goal
 
 abbrev pub invariant-loop-i : goal.invariant-loop-i
 invariant-loop-i l =
