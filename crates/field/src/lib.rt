@@ -11,12 +11,6 @@ ghost use Rattle.zmod.specs.Prime.{Prime};
 ghost use Rattle.zmod.specs.Residues.{Residue};
 ghost use Rattle.field.specs.Inverse.{InverseOf, Inverses, Entry};
 
-pub fn wide(x: u32) -> u64
-    ensures { result ≡ x }
-{
-    u64::from(x)
-}
-
 // The whole product of two words.
 pub fn product(a: u32, b: u32) -> u64
     ensures { result ≡ a * b }

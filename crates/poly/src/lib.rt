@@ -3,7 +3,7 @@
 // `out` has words: a longer `out` ends in zeros, a shorter one holds the front.
 #![tactic(auto)]
 
-ghost use Rattle.std.specs.Prelude.{◌≡◌, ◌↔◌, true, ℕ, ◌+◌, ◌-◌, ◌*◌, ◌^◌, ◌<◌, ◌≤◌, max, length, get_or, replicate};
+ghost use Rattle.std.specs.Prelude.{◌≡◌, ◌↔◌, true, ℕ, ◌+◌, ◌-◌, ◌*◌, ◌^◌, ◌<◌, ◌≤◌, max, length, get_or};
 ghost use Rattle.series.specs.Series.{conv, sums, negs, scaled, ∂};
 ghost use Rattle.zmod.specs.Zmod.{Zmod, mk, plus, times};
 ghost use Rattle.zmod.specs.Residues.{Residue, Reduced, poly, Residues};
@@ -11,19 +11,7 @@ ghost use Rattle.rows.specs.Room.{turns};
 ghost use Rattle.poly.specs.Partial.{partial, Alone};
 
 use barrett::Modulus;
-
-pub fn most(x: usize, y: usize) -> usize
-    ensures { result ≡ max x y }
-{
-    x.max(y)
-}
-
-// x - y, or 0 where y is larger.
-pub fn over(x: usize, y: usize) -> usize
-    ensures { result ≡ x - y }
-{
-    x.saturating_sub(y)
-}
+pub use rows::word;
 
 // The sum of a[i] * b[k - i] over i from `from` up to `to`: at most 256 products, which a u64 holds.
 fn dot(a: &[u32], b: &[u32], from: usize, to: usize, k: usize) -> u64
@@ -60,7 +48,7 @@ fn span(
 {
     let mut s = start;
     let mut i = from;
-    // no `for`: the products that are left at the end take no remainder here
+    // no `for` over the parts: it would take a remainder before the first one too, a division more for each coefficient
     while size < to - i {
         s = field::reduce(u64::from(s) + dot(a, b, i, i + size, k), p);
         i += size;
@@ -100,13 +88,6 @@ pub fn add_product(a: &[u32], b: &[u32], out: &mut [u32], p: u32)
     for k in 0..out.len() {
         out[k] = coefficient(out[k], a, b, k, p);
     }
-}
-
-// The word at i, 0 past the end.
-pub fn word(a: &[u32], i: usize) -> u32
-    ensures { result ≡ get_or a.now i 0 }
-{
-    if i < a.len() { a[i] } else { 0 }
 }
 
 // The term of the coefficient k of a square that stands alone, where k is even: the square of the word at k / 2.
@@ -218,14 +199,7 @@ pub fn derivative(a: &[u32], out: &mut [u32], p: u32)
 pub fn equal(a: &[u32], b: &[u32]) -> bool
     ensures { (p : ℕ) → Reduced p a.now → Reduced p b.now → (result ≡ true) ↔ (poly p a.now ≡ poly p b.now) }
 {
-    (0..a.len().max(b.len())).all(|i| word(a, i) == word(b, i))
-}
-
-// out = 0
-pub fn clear(out: &mut [u32])
-    ensures { out.new ≡ replicate (length out.old) 0 }
-{
-    out.fill(0);
+    (0..a.len().max(b.len())).all(|i| word::<u32>(a, i) == word::<u32>(b, i))
 }
 
 // out = a

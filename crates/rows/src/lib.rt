@@ -2,7 +2,7 @@
 // until all is added. The other factor lies in room of 64-bit words, behind three zeros and before three, so that the four rows have no ends of their own.
 #![tactic(auto)]
 
-ghost use Rattle.std.specs.Prelude.{◌≡◌, ◌∷◌, ℕ, ◌+◌, ◌-◌, ◌*◌, ◌^◌, ◌<◌, ◌≤◌, min, length, get_or, replicate};
+ghost use Rattle.std.specs.Prelude.{◌≡◌, ◌∷◌, ℕ, ◌+◌, ◌-◌, ◌*◌, ◌^◌, ◌<◌, ◌≤◌, length, get_or, replicate};
 ghost use Rattle.slices.specs.Filling.{Filled};
 ghost use Rattle.series.specs.Series.{conv, sums};
 ghost use Rattle.zmod.specs.Zmod.{Zmod};
@@ -61,18 +61,11 @@ pub fn add_rows(acc: &mut [u64], at: usize, len: usize, e: &[u64], w: u64, x: u6
     four(&mut acc[at..to], &e[3..], &e[2..], &e[1..], e, w, x, y, z);
 }
 
-// out = 0
-pub fn clear(out: &mut [u64])
-    ensures { out.new ≡ replicate (length out.old) 0 }
-{
-    out.fill(0);
-}
-
 // The word at i, 0 past the end.
-pub fn word(a: &[u32], i: usize) -> u64
-    ensures { result ≡ get_or a.now i 0 }
+pub fn word<T: From<u32>>(a: &[u32], i: usize) -> T
+    ensures { T.from_gives (get_or a.now i 0) result }
 {
-    if i < a.len() { u64::from(a[i]) } else { 0 }
+    T::from(if i < a.len() { a[i] } else { 0 })
 }
 
 // out = a, in wider words, with zeros past a's end.
@@ -112,12 +105,6 @@ fn prepare(a: &[u32], e: &mut [u64])
 {
     e.fill(0);
     double(a, &mut e[3..]);
-}
-
-pub fn least(x: usize, y: usize) -> usize
-    ensures { result ≡ min x y }
-{
-    x.min(y)
 }
 
 // Four words w, x, y, z of a from i on: (w + x t + y t² + z t³) times themselves and twice what is above them is added to the sums from 2i on.
@@ -197,30 +184,4 @@ pub fn add_product(acc: &mut [u64], a: &[u32], e: &[u64], p: u32)
         let z = word(a, 3 + i);
         add_rows(acc, i, len, e, w, x, y, z);
     }
-}
-
-// Room of three sizes, so that small degrees clear little: for ℓ up to 21, up to 79, and for all. (As the result of a call its words stay out of the callers'
-// proofs.)
-pub fn blank28() -> [u32; 28] {
-    [0; 28]
-}
-
-pub fn sums28() -> [u64; 28] {
-    [0; 28]
-}
-
-pub fn blank88() -> [u32; 88] {
-    [0; 88]
-}
-
-pub fn sums88() -> [u64; 88] {
-    [0; 88]
-}
-
-pub fn blank264() -> [u32; 264] {
-    [0; 264]
-}
-
-pub fn sums264() -> [u64; 264] {
-    [0; 264]
 }

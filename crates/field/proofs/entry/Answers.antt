@@ -1,6 +1,6 @@
 -- `field::entry` meets its contract. Assumes nothing.
 use Rattle.std.proofs.Common.{arith, get_or, mod-lt, ◌%◌, ◌/◌, ◌<◌}
-use Rattle.field.proofs.Table.{prime_odd, quotient_below, entry_low, entry_even, entry_high}
+use Rattle.field.proofs.Table.{prime_odd, entry_low, entry_even, entry_high}
 use Rattle.field.proofs.entry.Goals as goal
 
 pub returns-then-k-lt2 : goal.returns-then-k-lt2
@@ -17,31 +17,6 @@ returns-then-k-eq0 c =
     let k = c.args.k in
     entry_even k (get_or c.args.table.now (k / 2) 0) c.halve.result c.if-k-lt2.false c.if-k-eq0.true
     (c.requires.filled (k / 2) (omega arith)) c.halve.ensures
-
-pub overflow_sub-q : goal.overflow_sub-q
-overflow_sub-q c =
-    omega (arith, quotient_below c.args.k c.requires.prime c.if-k-lt2.false)
-
-pub overflow_cast-i : goal.overflow_cast-i
-overflow_cast-i c =
-    let earlier : c.args.p % c.args.k < c.args.k =
-    mod-lt c.args.p (omega arith)
-    in
-    omega (arith, earlier)
-
-pub offset_bounds-table-i : goal.offset_bounds-table-i
-offset_bounds-table-i c =
-    let earlier : c.args.p % c.args.k < c.args.k =
-    mod-lt c.args.p (omega arith)
-    in
-    omega (arith, earlier)
-
-pub bounds-table-i : goal.bounds-table-i
-bounds-table-i c =
-    let earlier : c.args.p % c.args.k < c.args.k =
-    mod-lt c.args.p (omega arith)
-    in
-    omega (arith, earlier)
 
 pub returns : goal.returns
 returns c =

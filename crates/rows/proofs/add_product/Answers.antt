@@ -36,7 +36,11 @@ add_rows-requires c =
     let a = c.args in
     let loop = c.loop-i in
     let inv = loop.invariant in record {
-      len_in_bounds = (omega (arith, inv.0, c.requires.a_in_bounds.0), omega (arith, inv.0, c.requires.a_in_bounds.1), λ j. omega (arith, c.requires.by_index.2 j, c.requires.a_in_bounds.4));
+      len_in_bounds = (
+        omega (arith, inv.0, c.requires.a_in_bounds.0),
+        omega (arith, inv.0, c.requires.a_in_bounds.1),
+        λ j. omega (arith, c.requires.by_index.2 j, c.requires.a_in_bounds.4),
+      );
       w_bound = (
         omega (arith, c.word-w.ensures, c.requires.by_index.1 loop.i, c.requires.a_in_bounds.4),
         omega (arith, c.word-x.ensures, c.requires.by_index.1 (1 + loop.i), c.requires.a_in_bounds.4),
@@ -45,7 +49,8 @@ add_rows-requires c =
       );
       by_index = λ j l. to_words a.a.now loop.i _ _ _ _ c.word-w.ensures c.word-x.ensures c.word-y.ensures c.word-z.ensures
           (λ w x y z. row_more (get_or loop.acc (loop.i + j) 0) a.e.now j w x y z < 2 ^ 64)
-          (all_fit a.p (get_or a.acc.now (loop.i + j) 0) _ (loop.i + 4) c.requires.a_in_bounds.4 (c.requires.by_index.0 (loop.i + j)) (omega (arith, c.requires.a_in_bounds.2))
+          (all_fit a.p (get_or a.acc.now (loop.i + j) 0) _ (loop.i + 4) c.requires.a_in_bounds.4 (c.requires.by_index.0 (loop.i + j))
+          (omega (arith, c.requires.a_in_bounds.2))
           (turn_fits a.p a.a.now a.e.now a.acc.now c.requires.by_index.1 c.requires.by_index.2 loop.i loop.acc inv.2 (loop.i + j) j));
     }
 

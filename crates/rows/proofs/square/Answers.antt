@@ -17,7 +17,12 @@ square_turns-requires c =
     let fill = c.fill in
     let same : length a.acc.now ≡ length fill.new.self = omega arith in record {
       a_in_bounds = (omega arith, search rules);
-      p_nonzero = (c.requires.p_nonzero.0, c.requires.p_nonzero.1, c.requires.p_nonzero.2, subst (λ n. 8 * turns (length a.a.now) n * a.p ≤ 2 ^ 36) same c.requires.p_nonzero.3);
+      p_nonzero = (
+        c.requires.p_nonzero.0,
+        c.requires.p_nonzero.1,
+        c.requires.p_nonzero.2,
+        subst (λ n. 8 * turns (length a.a.now) n * a.p ≤ 2 ^ 36) same c.requires.p_nonzero.3,
+      );
       above = (c.prepare.ensures, (fill.ensures.after (λ y e. e)) ∙ ap (λ n. replicate n 0) same);
     }
 

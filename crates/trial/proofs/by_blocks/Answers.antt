@@ -1,5 +1,4 @@
--- `trial::by_blocks` meets its contract. The invariant: i is 171 and a whole number of blocks, and none of the first i entries divides n. The measure is
--- what is left of the table.
+-- `trial::by_blocks` meets its contract. The invariant: i is 171 and a whole number of blocks, and none of the first i entries divides n.
 -- Assumes nothing.
 use Rattle.std.proofs.Common.{arith, get_or, ◌<◌}
 use native.Mathlib.Nat as N
@@ -23,7 +22,8 @@ overflow_mul-q c =
 
 pub returns-then-n-q : goal.returns-then-n-q
 returns-then-n-q c =
-    says_yes (missed_prime c.requires.whole.primes c.requires.odd.0 (omega arith) c.loop-i.i (omega arith) (rw c.from-q.ensures at c.if-n-q.true) c.loop-i.invariant.2)
+    let root = rw c.from-q.ensures at c.if-n-q.true in
+    says_yes (missed_prime c.requires.whole.primes c.requires.odd.0 (omega arith) c.loop-i.i (omega arith) root c.loop-i.invariant.2)
 
 pub by_half_products-requires : goal.by_half_products-requires
 by_half_products-requires c =
@@ -43,5 +43,5 @@ loop-i-preserved c =
 
 pub returns : goal.returns
 returns c =
-    let n = c.args.n in
-    says_yes (undivided_prime 16384 n c.requires.odd.0 (omega arith) (omega arith) (missed_undivided c.requires.whole.primes (λ j l. c.loop-i.invariant.2 j (omega arith))))
+    let undivided = missed_undivided c.requires.whole.primes (λ j l. c.loop-i.invariant.2 j (omega arith)) in
+    says_yes (undivided_prime 16384 c.args.n c.requires.odd.0 (omega arith) (omega arith) undivided)
