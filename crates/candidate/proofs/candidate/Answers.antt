@@ -17,8 +17,8 @@ pub solution-requires : goal.solution-requires
 solution-requires c =
     record {
       ready = c.requires.ready;
-      table_len = (c.requires.table_len.0, simp length-take (omega (arith, c.requires.ready, c.requires.table_len, c.requires.v_in_bounds)));
-      s_len = (simp length-take (omega (arith, c.requires.ready, c.requires.table_len, c.requires.v_in_bounds)), simp length-take (omega (arith, c.requires.ready, c.requires.table_len, c.requires.v_in_bounds)), c.requires.v_in_bounds.2);
+      table_len = (c.requires.table_len.0, simp length-take (omega arith));
+      s_len = (simp length-take (omega arith), simp length-take (omega arith), c.requires.v_in_bounds.2);
     }
 
 pub returns : goal.returns
@@ -26,6 +26,6 @@ returns c =
     let a = c.args in
     let made = c.solution in
     lent a.v made.new.h made.new.s _ _ made.new.g
-    (λ k l. get_or-append made.new.h _ 0 k (omega (arith, made.auto, length-take (length a.g.now - 1) a.h.now, c.requires.ready, c.requires.table_len, c.requires.v_in_bounds)))
-    (λ k l. get_or-append made.new.s _ 0 k (omega (arith, made.auto, length-take (length a.g.now) a.s.now, c.requires.ready, c.requires.table_len, c.requires.v_in_bounds)))
+    (λ k l. get_or-append made.new.h _ 0 k (omega (arith, made.auto, length-take (length a.g.now - 1) a.h.now, c.requires.table_len, c.requires.v_in_bounds)))
+    (λ k l. get_or-append made.new.s _ 0 k (omega (arith, made.auto, length-take (length a.g.now) a.s.now, c.requires.table_len, c.requires.v_in_bounds)))
     made.ensures

@@ -42,11 +42,11 @@ next_s-requires c =
 
 pub bounds-s-i : goal.bounds-s-i
 bounds-s-i c =
-    omega (arith, c.requires.ready, c.requires.inverses, c.requires.h_len, c.begin_s.auto.s, c.loop-i.invariant, c.loop-i-test.true)
+    omega (arith, c.requires.h_len, c.begin_s.auto.s, c.loop-i.invariant)
 
 pub add-y-requires : goal.add-y-requires
 add-y-requires c =
-    (omega (arith, c.loop-i.invariant.2.below), omega (arith, c.minus_twice-a.ensures.below), omega (arith, c.requires.ready, c.requires.inverses, c.requires.h_len))
+    (omega (arith, c.loop-i.invariant.2.below), omega (arith, c.minus_twice-a.ensures.below), omega arith)
 
 pub add-z-requires : goal.add-z-requires
 add-z-requires c =
@@ -60,7 +60,7 @@ loop-i-preserved c =
     let h = poly p args.h.now in
     let loop = c.loop-i in
     let i = loop.i in
-    let inside : i + 1 < length loop.s = omega (arith, c.requires.ready, c.requires.inverses, c.requires.h_len, c.begin_s.auto.s) in (
+    let inside : i + 1 < length loop.s = omega (arith, c.requires.h_len, c.begin_s.auto.s) in (
       simp length-set loop.invariant.0,
       solved_more p (SAt (Zmod p) q h) (s_causal (Zmod p) q h) loop.s (i + 1) c.next_s.result inside loop.invariant.1 c.next_s.ensures,
       both (minus p q.A) (2 * i - 1) 2 (2 * (i + 1) - 1) (omega arith) loop.invariant.2 c.minus_twice-a.ensures c.add-y.ensures,

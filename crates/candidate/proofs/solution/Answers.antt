@@ -32,12 +32,12 @@ fill_s-requires c =
     let table = c.inverses in
     let h = c.expansion_of_curves in record {
       ready = c.requires.ready;
-      inverses = (table.ensures, omega (arith, c.requires.ready, c.requires.table_len, c.requires.s_len, table.auto.out));
+      inverses = (table.ensures, omega (arith, c.requires.table_len, c.requires.s_len, table.auto.out));
       h_len = (
-        omega (arith, c.requires.ready, c.requires.table_len, c.requires.s_len, h.auto.h),
-        solved_all a.v.p (HAt (Zmod a.v.p) (question a.v)) (omega (arith, c.requires.ready, c.requires.table_len, c.requires.s_len)) h.new.h (length a.h.now)
-            (omega (arith, c.requires.ready, c.requires.table_len, c.requires.s_len, h.auto.h)) h.ensures,
-        omega (arith, c.requires.ready, c.requires.table_len, c.requires.s_len),
+        omega (arith, c.requires.table_len, c.requires.s_len, h.auto.h),
+        solved_all a.v.p (HAt (Zmod a.v.p) (question a.v)) (omega arith) h.new.h (length a.h.now)
+            (omega (arith, c.requires.table_len, c.requires.s_len, h.auto.h)) h.ensures,
+        omega arith,
       );
     }
 
@@ -48,12 +48,12 @@ fill_c-requires c =
     let h = c.expansion_of_curves in
     let s = c.fill_s in record {
       ready = c.requires.ready;
-      inverses = (table.ensures, omega (arith, c.requires.ready, c.requires.table_len, c.requires.s_len, table.auto.out));
+      inverses = (table.ensures, omega (arith, c.requires.table_len, c.requires.s_len, table.auto.out));
       s_len = (
-        omega (arith, c.requires.ready, c.requires.table_len, c.requires.s_len, s.auto.s),
-        solved_all a.v.p (SAt (Zmod a.v.p) (question a.v) (poly a.v.p h.new.h)) (omega (arith, c.requires.ready, c.requires.table_len, c.requires.s_len)) s.new.s
-            (length a.s.now) (omega (arith, c.requires.ready, c.requires.table_len, c.requires.s_len, s.auto.s)) s.ensures,
-        omega (arith, c.requires.ready, c.requires.table_len, c.requires.s_len),
+        omega (arith, c.requires.table_len, c.requires.s_len, s.auto.s),
+        solved_all a.v.p (SAt (Zmod a.v.p) (question a.v) (poly a.v.p h.new.h)) (omega arith) s.new.s
+            (length a.s.now) (omega (arith, c.requires.table_len, c.requires.s_len, s.auto.s)) s.ensures,
+        omega arith,
       );
     }
 
