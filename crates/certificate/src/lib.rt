@@ -38,8 +38,8 @@ fn write_section(kind: Kind, xs: &[u32], from: usize, out: &mut [u32])
     requires { (from + length xs.now ≤ length out.old) × Reduced (2 ^ 28) xs.now }
     ensures { out.new ≡ paste out.old from (map (word (code kind)) xs.now) (length xs.now) }
 {
-    for i in 0..xs.len() {
-        out[from + i] = word_of(kind, xs[i]);
+    for (i, x) in xs.iter().enumerate() {
+        out[from + i] = word_of(kind, *x);
     }
 }
 

@@ -201,8 +201,8 @@ fn coefficients(form: Form, p: u32, ws: &[u32], from: usize, out: &mut [u32])
     requires { (0 < p) × (from + length out.old ≤ length ws.now) }
     ensures { out.new ≡ map (coefficient_in form p) (take (length out.old) (drop from ws.now)) }
 {
-    for i in 0..out.len() {
-        out[i] = value_in(form, p, value(ws[from + i]));
+    for (i, x) in out.iter_mut().enumerate() {
+        *x = value_in(form, p, value(ws[from + i]));
     }
 }
 
@@ -247,7 +247,7 @@ pub fn load(bytes: &[u8], out: &mut [u32])
     requires { 4 * length out.old ≤ length bytes.now }
     ensures { out.new ≡ take (length out.old) (words_of bytes.now) }
 {
-    for i in 0..out.len() {
-        out[i] = word_at(bytes, i);
+    for (i, w) in out.iter_mut().enumerate() {
+        *w = word_at(bytes, i);
     }
 }

@@ -18,10 +18,10 @@ pub slice_bounds-section-end : goal.slice_bounds-section-end
 slice_bounds-section-end c = let k = kinds c in omega (arith, k.n_before, k.c_before, c.requires.2)
 
 pub slice_bounds-section-count-2 : goal.slice_bounds-section-count-2
-slice_bounds-section-count-2 c = (kinds (goal.at.slice_bounds-section-count-2 c).After-unwrap_or-g).n_before
+slice_bounds-section-count-2 c = omega (arith, (kinds (goal.at.slice_bounds-section-count-2 c).After-unwrap_or-g).n_before)
 
 pub slice_bounds-section-start-2 : goal.slice_bounds-section-start-2
-slice_bounds-section-start-2 c = (kinds (goal.at.slice_bounds-section-start-2 c).After-unwrap_or-g).n_before
+slice_bounds-section-start-2 c = omega (arith, (kinds (goal.at.slice_bounds-section-start-2 c).After-unwrap_or-g).n_before)
 
 pub slice_bounds-section-end-2 : goal.slice_bounds-section-end-2
 slice_bounds-section-end-2 c =
@@ -29,10 +29,10 @@ slice_bounds-section-end-2 c =
     omega (arith, k.c_before, c.requires.2)
 
 pub slice_bounds-section-count-3 : goal.slice_bounds-section-count-3
-slice_bounds-section-count-3 c = (kinds (goal.at.slice_bounds-section-count-3 c).After-unwrap_or-g).c_before
+slice_bounds-section-count-3 c = omega (arith, (kinds (goal.at.slice_bounds-section-count-3 c).After-unwrap_or-g).c_before)
 
 pub slice_bounds-section-start-3 : goal.slice_bounds-section-start-3
-slice_bounds-section-start-3 c = (kinds (goal.at.slice_bounds-section-start-3 c).After-unwrap_or-g).c_before
+slice_bounds-section-start-3 c = omega (arith, (kinds (goal.at.slice_bounds-section-start-3 c).After-unwrap_or-g).c_before)
 
 pub returns-then-not-section : goal.returns-then-not-section
 returns-then-not-section c =
