@@ -8,6 +8,7 @@ use Prim.Native.Nat.{ℕ, suc, ◌+◌, ◌-◌, ◌*◌, ◌<◌, ◌≤◌}
 use native.Mathlib.Omega.{arith}
 use lib.Dec.{eqb}
 use lib.ListN.{length}
+use Rattle.std.specs.Prelude.{Ok, Err}
 use Rattle.ring.specs.Ring
 use Rattle.ring.specs.Ring.{cast, pow}
 use Rattle.ring.specs.Identity.{solve3}
@@ -27,14 +28,13 @@ use Rattle.sheet.specs.declared.Values.{Values}
 use Rattle.sheet.specs.declared.Form.TheVariants.{Certificate}
 use Rattle.questions.specs.Questions.{AllYes}
 use Rattle.questions.specs.Joined.{no_after, all_all}
+use Rattle.questions.specs.declared.refusal.Refusal.TheVariants as refusal
 use Rattle.sheet.specs.Asked.{asked}
 use Rattle.sheet.specs.Ready.{Ready, HoldsG, HoldsN}
 use Rattle.sheet.specs.Values.{gOf, n_of, values_of, question, half}
 use Rattle.reading.specs.Accepted.{certificate_g, certificate_n}
 use Rattle.promises.specs.declared.Point.{Point}
 use Rattle.promises.specs.declared.Point.TheVariants as point
-use Rattle.promises.specs.declared.Image.{Image}
-use Rattle.promises.specs.declared.Image.TheVariants as image
 use Rattle.promises.specs.Asked.{check_asks, push_asks, OnDomain, Given}
 use Rattle.promises.specs.Answer.{ToPoint, PushRight}
 use Rattle.promises.specs.Certificates.{check_asked}
@@ -94,7 +94,7 @@ module _ (v : Values) (ready : Ready v) (g n : List ℕ) (g_length : length g �
   at k a = value (Zmod p) k a (mk p x)
 
   module _ (gx : Jet) (hg : JetOf p g (mk p x) gx) where
-    pub to_infinity : gx.value ≡ 0 → Pushed v g n x y image.Infinity
+    pub to_infinity : gx.value ≡ 0 → Pushed v g n x y point.Infinity
     unfolding at
     to_infinity e = ap (λ k. at k (poly p g)) (sym g_long) ∙ sym hg.value_is.class ∙ ap (mk p) e
 
@@ -135,25 +135,18 @@ module _ (ws : List ℕ) (all : AllYes (check_asks ws)) (at : Point) where
   abbrev v : Values
   v = values_of Certificate ws
 
-  pub infinity : at ≡ point.Infinity → PushRight ws at image.Infinity
-  infinity e = subst (λ q. PushRight ws q image.Infinity) (sym e) (all_all (check_asks ws) ((12, Given v point.Infinity) ∷ []) all (tt, tt), tt)
+  pub infinity : at ≡ point.Infinity → PushRight ws at (Ok point.Infinity)
+  infinity e = subst (λ q. PushRight ws q (Ok point.Infinity)) (sym e) (all_all (check_asks ws) ((12, Given v point.Infinity) ∷ []) all (tt, tt), tt)
 
   module _ (x y : ℕ) (is : at ≡ point.Affine x y) where
-    pub off : (OnDomain v x y → ⊥) → PushRight ws at (image.Refused 12)
+    pub off : (OnDomain v x y → ⊥) → PushRight ws at (Err refusal.Point)
     off out =
-        subst (λ q. PushRight ws q (image.Refused 12)) (sym is)
+        subst (λ q. PushRight ws q (Err refusal.Point)) (sym is)
         (no_after (check_asks ws) ((12, Given v (point.Affine x y)) ∷ []) 12 all (inl (refl, out)))
 
-    pub pushed : (r : Image) → OnDomain v x y → Pushed v (gOf Certificate ws) (n_of Certificate ws) x y r → PushRight ws at r
-    pushed r on goes = subst (λ q. PushRight ws q r) (sym is) (go r goes)
-      where
-        yes_all : AllYes (push_asks ws (point.Affine x y))
-        yes_all = all_all (check_asks ws) ((12, Given v (point.Affine x y)) ∷ []) all (on, tt)
-
-        go : (r : Image) → Pushed v (gOf Certificate ws) (n_of Certificate ws) x y r → PushRight ws (point.Affine x y) r
-        go (image.Affine u w) h = (yes_all, h)
-        go image.Infinity h = (yes_all, h)
-        go (image.Refused k) h = absurd h
+    pub pushed : (to : Point) → OnDomain v x y → Pushed v (gOf Certificate ws) (n_of Certificate ws) x y to → PushRight ws at (Ok to)
+    pushed to on goes =
+        subst (λ q. PushRight ws q (Ok to)) (sym is) (all_all (check_asks ws) ((12, Given v (point.Affine x y)) ∷ []) all (on, tt), goes)
 
 -- as code has the values and the coefficients
 module _ (ws : List ℕ) (v : Values) (e : v ≡ values_of Certificate ws) where
@@ -167,7 +160,7 @@ module _ (ws : List ℕ) (v : Values) (e : v ≡ values_of Certificate ws) where
     pub n_holds : HoldsN v n
     n_holds = subst (λ v. HoldsN v n) (sym e) (subst (HoldsN (values_of Certificate ws)) (sym n_is) (certificate_n ws accepted))
 
-    pub of_sheet : (x y : ℕ) (r : Image) → Pushed v g n x y r → Pushed (values_of Certificate ws) (gOf Certificate ws) (n_of Certificate ws) x y r
+    pub of_sheet : (x y : ℕ) (r : Point) → Pushed v g n x y r → Pushed (values_of Certificate ws) (gOf Certificate ws) (n_of Certificate ws) x y r
     of_sheet x y r h =
         subst (λ v. Pushed v (gOf Certificate ws) (n_of Certificate ws) x y r) e
         (subst (λ g. Pushed v g (n_of Certificate ws) x y r) g_is (subst (λ n. Pushed v g n x y r) n_is h))

@@ -5,9 +5,8 @@ use Rattle.ring.specs.Ring.{cast}
 use Rattle.zmod.specs.Zmod.{Elt, Zmod, mk, plus, times, minus}
 use Rattle.evaluation.specs.declared.Jet.{Jet}
 use Rattle.sheet.specs.declared.Values.{Values}
-use Rattle.promises.specs.declared.Point.TheVariants as point
-use Rattle.promises.specs.declared.Image.{Image}
-use Rattle.promises.specs.declared.Image.TheVariants.{Affine, Infinity, Refused}
+use Rattle.promises.specs.declared.Point.{Point}
+use Rattle.promises.specs.declared.Point.TheVariants.{Affine}
 use Rattle.promises.specs.Answer.{Goes}
 
 -- N'g − 2Ng' at a point, from what g and N are there
@@ -15,7 +14,5 @@ abbrev pub slope_of : (p : ℕ) → Jet → Jet → Elt p
 slope_of p g n =
     plus p (times p (mk p n.slope) (mk p g.value)) (minus p (times p (times p (cast (Zmod p) 2) (mk p n.value)) (mk p g.slope)))
 
-abbrev pub Pushed : Values → List ℕ → List ℕ → ℕ → ℕ → Image → Type 0
-Pushed v g n x y (Affine u w) = Goes v g n (point.Affine x y) (point.Affine u w)
-Pushed v g n x y Infinity = Goes v g n (point.Affine x y) point.Infinity
-Pushed v g n x y (Refused k) = ⊥
+abbrev pub Pushed : Values → List ℕ → List ℕ → ℕ → ℕ → Point → Type 0
+Pushed v g n x y image = Goes v g n (Affine x y) image

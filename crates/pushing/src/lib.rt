@@ -14,8 +14,8 @@ ghost use Rattle.promises.specs.Answer.{PushRight};
 ghost use Rattle.pushing.specs.Pushed.{slope_of, Pushed};
 
 use evaluation::Jet;
-use promises::{Image, Point};
-use reading::Reading;
+use promises::Point;
+use questions::Refusal;
 use sheet::Values;
 
 // x³ + a x + b
@@ -65,7 +65,7 @@ fn image_in(
     y: u32,
     powers: &mut [u32],
     slopes: &mut [u32],
-) -> Image
+) -> Point
     requires ready { (Ready v) × (HoldsG v g.now) × (HoldsN v n.now) × (x < v.p) }
     requires powers_len { (length powers.old ≡ min (length n.now) 16 + 1) × (length slopes.old ≡ min (length n.now) 16 + 1) }
     ensures { Pushed v g.now n.now x y result }
@@ -74,7 +74,7 @@ fn image_in(
     evaluation::tables(x, powers, slopes, p);
     let gx = evaluation::evaluate(g, powers, slopes, p);
     if gx.value == 0 {
-        return Image::Infinity;
+        return Point::Infinity;
     }
     let nx = evaluation::evaluate(n, powers, slopes, p);
     let w = field::multiply(y, slope(gx, nx, p), p);
@@ -82,10 +82,10 @@ fn image_in(
     let square = field::multiply(i, i, p);
     let u = field::multiply(nx.value, square, p);
     let t = field::multiply(w, i, p);
-    Image::Affine(u, field::multiply(t, square, p))
+    Point::Affine(u, field::multiply(t, square, p))
 }
 
-fn image(v: Values, g: &[u32], n: &[u32], x: u32, y: u32) -> Image
+fn image(v: Values, g: &[u32], n: &[u32], x: u32, y: u32) -> Point
     requires { (Ready v) × (HoldsG v g.now) × (HoldsN v n.now) × (x < v.p) }
     ensures { Pushed v g.now n.now x y result }
 {
@@ -96,34 +96,29 @@ fn image(v: Values, g: &[u32], n: &[u32], x: u32, y: u32) -> Image
 }
 
 // Question 12 and the image, for a certificate that passes, with its coefficients.
-fn push_passed(v: Values, ws: &[u32], g: &[u32], n: &[u32], point: Point) -> Image
+fn push_passed(v: Values, ws: &[u32], g: &[u32], n: &[u32], point: Point) -> Result<Point, Refusal>
     requires all_yes { (AllYes (check_asks ws.now)) × (v ≡ values_of Certificate ws.now) }
     requires g_value { (g.now ≡ gOf Certificate ws.now) × (n.now ≡ n_of Certificate ws.now) }
     ensures { PushRight ws.now point result }
 {
     match point {
-        Point::Infinity => Image::Infinity,
+        Point::Infinity => Ok(Point::Infinity),
         Point::Affine(x, y) => {
             if within(v, x, y) {
-                image(v, g, n, x, y)
+                Ok(image(v, g, n, x, y))
             } else {
-                Image::Refused(12)
+                Err(Refusal::Point)
             }
         }
     }
 }
 
-pub fn push(ws: &[u32], point: Point) -> Image
+pub fn push(ws: &[u32], point: Point) -> Result<Point, Refusal>
     ensures { PushRight ws.now point result }
 {
-    let mut g = promises::blank128();
-    let mut n = promises::blank256();
-    let read = checking::passed(ws, &mut g, &mut n);
-    match read {
-        Reading::Refused(k) => Image::Refused(k),
-        Reading::Accepted(v) => {
-            let d = sheet::half_degree(v);
-            push_passed(v, ws, &g[..d + 1], &n[..2 * d + 2], point)
-        }
-    }
+    let mut g = [0u32; 128];
+    let mut n = [0u32; 256];
+    let v = checking::passed(ws, &mut g, &mut n)?;
+    let d = sheet::half_degree(v);
+    push_passed(v, ws, &g[..d + 1], &n[..2 * d + 2], point)
 }
