@@ -20,7 +20,7 @@ pub enum Form {
     Kernel,
 }
 
-// The values in a sheet's header; 0 where its form has no such word.
+// The values in a sheet's header; 0 and no Option where its form has no such word, since `values_of` in specs/ and the theorems above it read it so.
 #[derive(Clone, Copy)]
 pub struct Values {
     pub p: u32,

@@ -1,6 +1,6 @@
 -- `reading::discriminant_of` meets its contract.
 -- Assumes nothing.
-use Rattle.std.proofs.Common.{ap₂, arith, mul-le-mul, rules, ◌*◌, ◌+◌, ◌^◌, ◌≤◌}
+use Rattle.std.proofs.Common.{ap₂, ◌+◌}
 use Rattle.reading.proofs.Singular.{discriminant_is}
 use Rattle.reading.proofs.discriminant_of.Goals as goal
 
