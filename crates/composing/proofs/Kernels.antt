@@ -8,6 +8,7 @@ use Prim.Native.Nat.{ℕ, ◌+◌, ◌-◌, ◌*◌, ◌%◌, ◌^◌, ◌≤◌
 use native.Mathlib.Nat as Nat
 use native.Mathlib.Omega.{arith}
 use lib.ListN.{length}
+use Rattle.std.specs.Prelude.{Result, Ok, Err}
 use Rattle.ring.specs.Ring.{pow}
 use Rattle.series.specs.Series.{Series, Seq, conv}
 use Rattle.zmod.specs.Zmod.{Zmod, mk}
@@ -15,11 +16,10 @@ use Rattle.zmod.specs.Residues.{Residue, Reduced, Residues, poly, residue_unique
 use Rattle.isogeny.specs.Rules.{N, R1, R3, Meets}
 use Rattle.composition.specs.Substitution.{homogenize}
 use Rattle.composition.specs.Composite.{composite_g}
+use Rattle.questions.specs.declared.refusal.Refusal.{Refusal}
 use Rattle.sheet.specs.declared.Values.{Values}
 use Rattle.sheet.specs.Values.{half, question}
-use Rattle.sheet.specs.Ready.{Ready, HoldsG, half_least}
-use Rattle.promises.specs.declared.Written.{Written}
-use Rattle.promises.specs.declared.Written.TheVariants.{Count, Refused}
+use Rattle.sheet.specs.Ready.{Ready, HoldsG, half_least, half_most}
 use Rattle.promises.specs.Answer.{composed}
 use Rattle.promises.specs.Composed.{composed_half, composed_ready, composed_meets, whole_composite}
 use Rattle.certifying.specs.Certified.{Certified}
@@ -71,6 +71,10 @@ module _ (v w : Values) (g₁ n₁ g₂ : List ℕ) (j : Joined v w g₁ n₁ g�
   pub both_ready : Ready (composed v w)
   both_ready = composed_ready v w j.ready₁ j.ready₂ j.meet j.allowed
 
+  -- its d, and what code finds for it
+  pub both_half : (u : Values) (d : ℕ) → u ≡ composed v w → d ≡ half u → (d ≡ half (composed v w)) × (d ≤ 127)
+  both_half u d e f = let same : d ≡ half (composed v w) = f ∙ ap half e in (same, omega (arith, same, half_most _ both_ready))
+
   -- the words of g: ℓ₁d₂ more than those of g₁
   pub words_are : half (composed v w) + 1 ≡ length g₁ + (length g₂ - 1) * (2 * length g₁ - 1)
   words_are =
@@ -114,6 +118,6 @@ module _ (v w : Values) (g₁ n₁ g₂ : List ℕ) (j : Joined v w g₁ n₁ g�
           → (true ≡ true) ↔ R3 (Zmod v.p) (question (composed v w)) (poly v.p g) (poly v.p n)
       third_rule n e = (λ _. subst (R3 (Zmod v.p) (question (composed v w)) (poly v.p g)) (sym e) both_meets.r3, λ _. refl)
 
-      pub both_composed : (before after : List ℕ) (r : Written) → Certified (composed v w) g before after r → Composed v w g₁ g₂ before after r
-      both_composed before after (Count c) h = record { certificate = h.certificate; g_is = ap (poly v.p) h.same_g ∙ g_whole }
-      both_composed before after (Refused k) h = absurd (h.unmet both_meets)
+      pub both_composed : (before after : List ℕ) (r : Result ℕ Refusal) → Certified (composed v w) g before after r → Composed v w g₁ g₂ before after r
+      both_composed before after (Ok c) h = record { certificate = h.certificate; g_is = ap (poly v.p) h.same_g ∙ g_whole }
+      both_composed before after (Err refusal) h = absurd (h.unmet both_meets)

@@ -5,14 +5,14 @@ use mathlib.Core.Logic.{inl, inr}
 use mathlib.Core.List.{List, ◌++◌}
 use Prim.Native.Nat.{ℕ}
 use lib.ListN.{length}
+use Rattle.std.specs.Prelude.{Result, Ok, Err}
 use Rattle.questions.specs.Questions.{Questions, AllYes, FirstNo}
 use Rattle.questions.specs.Joined.{no_before, no_after, all_all}
+use Rattle.questions.specs.declared.refusal.Refusal.{Refusal}
 use Rattle.sheet.specs.declared.Form.TheVariants.{Certificate}
 use Rattle.sheet.specs.declared.Values.{Values}
 use Rattle.sheet.specs.Values.{values_of, gOf, n_of}
 use Rattle.reading.specs.Accepted.{certificate_g, certificate_n}
-use Rattle.promises.specs.declared.Written.{Written}
-use Rattle.promises.specs.declared.Written.TheVariants.{Count, Refused}
 use Rattle.promises.specs.Asked.{Room, ComposableValues, ProductAllowed, check_asks, join_asks, compose_asks}
 use Rattle.promises.specs.Answer.{ComposeRight}
 use Rattle.promises.specs.Certificates.{check_asked, certificate_ready, certificate_N, certificate_meets}
@@ -59,10 +59,10 @@ module _ (first second before : List ℕ) (room : Room (length before)) where
         n₁_is = certificate_N first all₁;
       }
 
-      answered : (after : List ℕ) (r : Written) → ComposableValues v₀ w₀ → ProductAllowed v₀ w₀
+      answered : (after : List ℕ) (r : Result ℕ Refusal) → ComposableValues v₀ w₀ → ProductAllowed v₀ w₀
           → Composed v₀ w₀ (gOf Certificate first) (gOf Certificate second) before after r → ComposeRight first second before after r
-      answered after (Count c) meet allowed h = (joined_asks meet allowed, h)
-      answered after (Refused k) meet allowed h = absurd h
+      answered after (Ok c) meet allowed h = (joined_asks meet allowed, h)
+      answered after (Err refusal) meet allowed h = absurd h
 
       -- ── the same of values and coefficients that were read
 
@@ -89,7 +89,7 @@ module _ (first second before : List ℕ) (room : Room (length before)) where
               (from_sheets (λ v w. Joined v w (gOf Certificate first) (n_of Certificate first) (gOf Certificate second))
               (joined (to_sheets ComposableValues meet) (to_sheets ProductAllowed allowed)))))
 
-          pub answered_read : (after : List ℕ) (r : Written) → Composed v w g₁ g₂ before after r → ComposeRight first second before after r
+          pub answered_read : (after : List ℕ) (r : Result ℕ Refusal) → Composed v w g₁ g₂ before after r → ComposeRight first second before after r
           answered_read after r h =
               answered after r (to_sheets ComposableValues meet) (to_sheets ProductAllowed allowed)
               (to_sheets (λ v w. Composed v w (gOf Certificate first) (gOf Certificate second) before after r)

@@ -11,8 +11,8 @@ ghost use Rattle.promises.specs.Asked.{Room, ComposableValues, ProductAllowed, c
 ghost use Rattle.promises.specs.Answer.{composed, ComposeRight};
 ghost use Rattle.composing.specs.Joined.{Joined, Composed};
 
-use promises::Written;
-use reading::Reading;
+use barrett::Modulus;
+use questions::Refusal;
 use sheet::Values;
 
 // Question 13.
@@ -46,7 +46,7 @@ fn composite_values(v: Values, w: Values) -> Values
     ensures { result ≡ composed v w }
 {
     let degree = v.degree * w.degree;
-    let sum = field::wide(w.sigma) + field::product(w.degree, v.sigma);
+    let sum = u64::from(w.sigma) + field::product(w.degree, v.sigma);
     let sigma = field::reduce(sum, v.p);
     Values {
         p: v.p,
@@ -69,13 +69,13 @@ fn compose_in(
     g: &mut [u32],
     n: &mut [u32],
     answer: &mut [u32],
-) -> Written
+) -> Result<u32, Refusal>
     requires joined { Joined v w g1.now n1.now g2.now }
     requires g_len { (length g.old ≡ half (composed v w) + 1) × (length n.old ≡ 2 * half (composed v w) + 2) × Room (length answer.old) }
     ensures { Composed v w g1.now g2.now answer.old answer.new result }
 {
     let u = composite_values(v, w);
-    let m = barrett::modulus(u.p);
+    let m = Modulus::new(u.p);
     substitution::composite(n1, g1, g2, g, m);
     numerator::numerator(u, m, g, n);
     certifying::finish(u, m, g, n, true, answer)
@@ -89,15 +89,15 @@ fn compose_joined(
     n1: &[u32],
     g2: &[u32],
     answer: &mut [u32],
-) -> Written
+) -> Result<u32, Refusal>
     requires joined { Joined v w g1.now n1.now g2.now }
     requires room { Room (length answer.old) }
     ensures { Composed v w g1.now g2.now answer.old answer.new result }
 {
     let count = sheet::half_degree(composite_values(v, w)) + 1;
     let twice = 2 * count;
-    let mut g = promises::blank128();
-    let mut n = promises::blank256();
+    let mut g = [0u32; 128];
+    let mut n = [0u32; 256];
     compose_in(v, w, g1, n1, g2, &mut g[..count], &mut n[..twice], answer)
 }
 
@@ -111,7 +111,7 @@ fn compose_passed(
     n1: &[u32],
     g2: &[u32],
     answer: &mut [u32],
-) -> Written
+) -> Result<u32, Refusal>
     requires all_yes { (AllYes (check_asks first.now)) × (v ≡ values_of Certificate first.now) }
     requires all_yes_2 { (AllYes (check_asks second.now)) × (w ≡ values_of Certificate second.now) }
     requires g1_value { (g1.now ≡ gOf Certificate first.now) × (n1.now ≡ n_of Certificate first.now) × (g2.now ≡ gOf Certificate second.now) }
@@ -119,10 +119,10 @@ fn compose_passed(
     ensures { ComposeRight first.now second.now answer.old answer.new result }
 {
     if !meet(v, w) {
-        return Written::Refused(13);
+        return Err(Refusal::Joint);
     }
     if !product_allowed(v, w) {
-        return Written::Refused(14);
+        return Err(Refusal::Product);
     }
     compose_joined(v, w, g1, n1, g2, answer)
 }
@@ -135,40 +135,30 @@ fn compose_second(
     g1: &[u32],
     n1: &[u32],
     answer: &mut [u32],
-) -> Written
+) -> Result<u32, Refusal>
     requires all_yes { (AllYes (check_asks first.now)) × (v ≡ values_of Certificate first.now) }
     requires g1_value { (g1.now ≡ gOf Certificate first.now) × (n1.now ≡ n_of Certificate first.now) }
     requires room { Room (length answer.old) }
     ensures { ComposeRight first.now second.now answer.old answer.new result }
 {
-    let mut g2 = promises::blank128();
-    let mut n2 = promises::blank256();
-    let read = checking::passed(second, &mut g2, &mut n2);
-    match read {
-        Reading::Refused(k) => Written::Refused(k),
-        Reading::Accepted(w) => {
-            let d = sheet::half_degree(w);
-            compose_passed(v, w, first, second, g1, n1, &g2[..d + 1], answer)
-        }
-    }
+    let mut g2 = [0u32; 128];
+    let mut n2 = [0u32; 256];
+    let w = checking::passed(second, &mut g2, &mut n2)?;
+    let d = sheet::half_degree(w);
+    compose_passed(v, w, first, second, g1, n1, &g2[..d + 1], answer)
 }
 
-// The certificate of the composite, first the first map and then the second, in the answer; or the number of the first no among the questions 1, 2 to 10 of the
+// The certificate of the composite, first the first map and then the second, in the answer; or the first no among the questions 1, 2 to 10 of the
 // first certificate, 2 to 10 of the second, 13 and 14, and then the answer is as it was.
-pub fn compose(first: &[u32], second: &[u32], answer: &mut [u32]) -> Written
+pub fn compose(first: &[u32], second: &[u32], answer: &mut [u32]) -> Result<u32, Refusal>
     ensures { ComposeRight first.now second.now answer.old answer.new result }
 {
     if answer.len() < sheet::MOST_WORDS {
-        return Written::Refused(1);
+        return Err(Refusal::Room);
     }
-    let mut g1 = promises::blank128();
-    let mut n1 = promises::blank256();
-    let read = checking::passed(first, &mut g1, &mut n1);
-    match read {
-        Reading::Refused(k) => Written::Refused(k),
-        Reading::Accepted(v) => {
-            let d = sheet::half_degree(v);
-            compose_second(v, first, second, &g1[..d + 1], &n1[..2 * d + 2], answer)
-        }
-    }
+    let mut g1 = [0u32; 128];
+    let mut n1 = [0u32; 256];
+    let v = checking::passed(first, &mut g1, &mut n1)?;
+    let d = sheet::half_degree(v);
+    compose_second(v, first, second, &g1[..d + 1], &n1[..2 * d + 2], answer)
 }

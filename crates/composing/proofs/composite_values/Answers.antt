@@ -9,7 +9,7 @@ overflow_mul-degree c =
 
 pub overflow_add-sum : goal.overflow_add-sum
 overflow_add-sum c =
-    let fits = sum_fits c.args.v c.args.w c.requires.0 c.requires.1 _ _ c.wide.ensures c.product.ensures in
+    let fits = sum_fits c.args.v c.args.w c.requires.0 c.requires.1 _ _ c.from.ensures c.product.ensures in
     record { fits = fits }
 
 pub reduce-sigma-requires : goal.reduce-sigma-requires
@@ -18,5 +18,5 @@ reduce-sigma-requires c =
 
 pub returns : goal.returns
 returns c =
-    values_are c.args.v c.args.w c.requires.0 _ _ _ refl (ap₂ ◌+◌ c.wide.ensures c.product.ensures)
+    values_are c.args.v c.args.w c.requires.0 _ _ _ refl (ap₂ ◌+◌ c.from.ensures c.product.ensures)
     c.reduce-sigma.ensures
