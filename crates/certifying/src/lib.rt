@@ -41,7 +41,13 @@ pub fn finish(
 }
 
 // The certificate of a g with R1, or 11; with room for N.
-fn certify_in(v: Values, m: Modulus, g: &[u32], n: &mut [u32], answer: &mut [u32]) -> Result<u32, Refusal>
+fn certify_in(
+    v: Values,
+    m: Modulus,
+    g: &[u32],
+    n: &mut [u32],
+    answer: &mut [u32],
+) -> Result<u32, Refusal>
     requires ready { (Ready v) × Over v m }
     requires holds_g { HoldsG v g.now × R1 (Zmod v.p) (question v) (poly v.p g.now) }
     requires n_len { (length n.old ≡ 2 * half v + 2) × Room (length answer.old) }

@@ -91,13 +91,7 @@ fn ask_rules(v: Values, g: &[u32], n: &[u32], abscissas: u32) -> Result<(), Refu
 }
 
 // The coefficients on a certificate that passes 2 to 7, to g and n; and questions 8 to 10.
-fn judge(
-    v: Values,
-    ws: &[u32],
-    d: usize,
-    g: &mut [u32],
-    n: &mut [u32],
-) -> Result<(), Refusal>
+fn judge(v: Values, ws: &[u32], d: usize, g: &mut [u32], n: &mut [u32]) -> Result<(), Refusal>
     requires all_yes { AllYes (asked Certificate ws.now) }
     requires v_value { (v ≡ values_of Certificate ws.now) × (d ≡ half v) }
     requires g_len { (length g.old ≡ d + 1) × (length n.old ≡ 2 * d + 2) }

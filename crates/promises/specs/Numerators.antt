@@ -20,3 +20,6 @@ module _ (v : Values) (ready : Ready v) (g n : List ℕ) (g_words : HoldsG v g) 
   whole_numerator =
       residues_poly n_is (λ i l.
       N_below (Zmod v.p) (question v) (poly v.p g) (half_least v ready) (λ j m. poly_past v.p g j (omega arith)) i (omega arith))
+
+  pub numerator_words : HoldsN v n × (poly v.p n ≡ N (Zmod v.p) (question v) (poly v.p g))
+  numerator_words = (holds_n, whole_numerator)

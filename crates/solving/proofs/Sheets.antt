@@ -28,10 +28,16 @@ module _ (ws before : List ℕ) where
     pub solve_unread : (k : ℕ) → FirstNo (asked Question ws) k → FirstNo (solve_asks ws (length before)) k
     solve_unread k h = inr (room, no_before (asked Question ws) ((11, Solvable (values_of Question ws)) ∷ []) k h)
 
-    pub solve_right : AllYes (asked Question ws) → (after : List ℕ) (r : Result ℕ Refusal) → Solved (values_of Question ws) before after r → SolveRight ws before after r
+    pub solve_right : AllYes (asked Question ws) → (after : List ℕ) (r : Result ℕ Refusal) → Solved (values_of Question ws) before after r
+        → SolveRight ws before after r
     solve_right all after (Ok c) held = (
       (room, all_all (asked Question ws) ((11, Solvable (values_of Question ws)) ∷ []) all (record { g = poly _ held.g; meets = held.meets }, tt)),
       held,
     )
-    solve_right all after (Err refusal) unsolved =
-        (inr (room, no_after (asked Question ws) ((11, Solvable (values_of Question ws)) ∷ []) (number refusal) all (inl (unsolved.number, unsolved.none))), unsolved.kept)
+    solve_right all after (Err refusal) unsolved = (
+      inr (
+        room,
+        no_after (asked Question ws) ((11, Solvable (values_of Question ws)) ∷ []) (number refusal) all (inl (unsolved.number, unsolved.none)),
+      ),
+      unsolved.kept,
+    )

@@ -7,6 +7,7 @@ use mathlib.Core.List.{List}
 use Prim.Native.Nat.{ℕ, suc, ◌-◌, ◌<◌}
 use native.Mathlib.Omega.{arith}
 use lib.ListN.{length, get_or}
+use Rattle.std.specs.Prelude.{Result, Ok, Err}
 use Rattle.ring.specs.Ring.{cast}
 use Rattle.series.specs.Series.{Seq}
 use Rattle.series.specs.Degree.{Below}
@@ -18,11 +19,10 @@ use Rattle.isogeny.specs.Expansion.{from_sums, expansion, power_sums_of}
 use Rattle.isogeny.specs.Kernel.{kernel_question, codomain_A, codomain_B, Passes}
 use Rattle.isogeny.proofs.Theorems as T
 use Rattle.isogeny.proofs.Terms.{expansion_same}
+use Rattle.questions.specs.declared.refusal.Refusal.{Refusal}
 use Rattle.sheet.specs.declared.Values.{Values}
 use Rattle.sheet.specs.Values.{question, half}
 use Rattle.sheet.specs.Ready.{Ready, HoldsG, half_least}
-use Rattle.promises.specs.declared.Written.{Written}
-use Rattle.promises.specs.declared.Written.TheVariants.{Count, Refused}
 use Rattle.promises.specs.Asked.{Leading, Passing}
 use Rattle.promises.specs.Answer.{with}
 use Rattle.certifying.specs.Certified.{Certified}
@@ -79,7 +79,7 @@ pub record Facts (v : Values) (g : List ℕ) (w : Values) : Type 0 where
   pub curve : Passing v g → Nonsingular (Zmod w.p) (question w).Ã (question w).B̃
   pub meets : Passing v g → Meets (Zmod w.p) (question w) (poly w.p g)
   -- where it is a curve, what becomes of g is the answer
-  pub finished : (before after : List ℕ) (r : Written) → Nonsingular (Zmod w.p) (question w).Ã (question w).B̃ → Certified w g before after r
+  pub finished : (before after : List ℕ) (r : Result ℕ Refusal) → Nonsingular (Zmod w.p) (question w).Ã (question w).B̃ → Certified w g before after r
       → Finished v g before after r
 
 module _ (v : Values) (ready : Ready v) (g : List ℕ) (g_words : HoldsG v g) (leading : Leading v g) where
@@ -135,8 +135,9 @@ module _ (v : Values) (ready : Ready v) (g : List ℕ) (g_words : HoldsG v g) (l
     passing : Nonsingular (Zmod π) (mk π ã) (mk π b̃) → Meets (Zmod π) (question w) G → Passing v g
     passing curve m = record { Ã = mk π ã; B̃ = mk π b̃; passes = (curve, subst (λ q. R3 (Zmod π) q G (N (Zmod π) q G)) asks m.r3) }
 
-    all_with : (before after : List ℕ) (r : Written) → Nonsingular (Zmod π) (mk π ã) (mk π b̃) → Certified w g before after r → Finished v g before after r
-    all_with before after (Count c) curve h = (
+    all_with : (before after : List ℕ) (r : Result ℕ Refusal) → Nonsingular (Zmod π) (mk π ã) (mk π b̃) → Certified w g before after r
+        → Finished v g before after r
+    all_with before after (Ok c) curve h = (
       (leading, (passing curve (subst (λ g. Meets (Zmod π) (question w) (poly π g)) h.same_g h.certificate.meets), tt)),
       record {
         ã = ã;
@@ -150,7 +151,7 @@ module _ (v : Values) (ready : Ready v) (g : List ℕ) (g_words : HoldsG v g) (l
         same_g = h.same_g;
       },
     )
-    all_with before after (Refused k) curve h =
+    all_with before after (Err refusal) curve h =
         (inr (leading, inl (h.number, λ pass. h.unmet (record { r1 = first_rule; r3 = third_rule pass }))), h.kept)
 
     facts_with : Facts v g w

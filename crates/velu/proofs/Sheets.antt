@@ -5,8 +5,11 @@ use mathlib.Core.Logic.{inr}
 use mathlib.Core.List.{List, map}
 use Prim.Native.Nat.{ℕ, ◌+◌}
 use lib.ListN.{length, take, drop}
+use Rattle.std.specs.Prelude.{Result, Ok, Err}
 use Rattle.questions.specs.Questions.{AllYes}
 use Rattle.questions.specs.Joined.{no_after, all_all}
+use Rattle.questions.specs.Number.{number}
+use Rattle.questions.specs.declared.refusal.Refusal.{Refusal}
 use Rattle.sheet.specs.declared.Form.TheVariants.{Kernel}
 use Rattle.sheet.specs.declared.Values.{Values}
 use Rattle.sheet.specs.Values.{coefficient_in, gOf, half, values_of}
@@ -14,8 +17,6 @@ use Rattle.sheet.specs.Asked.{asked}
 use Rattle.sheet.specs.Ready.{Ready, HoldsG}
 use Rattle.sheet.specs.Ready as R
 use Rattle.reading.specs.Accepted.{kernel_length, kernel_g}
-use Rattle.promises.specs.declared.Written.{Written}
-use Rattle.promises.specs.declared.Written.TheVariants.{Count, Refused}
 use Rattle.promises.specs.Asked.{Room, last_ask}
 use Rattle.promises.specs.Answer.{KernelRight}
 use Rattle.velu.specs.Completed.{Finished}
@@ -37,13 +38,13 @@ module _ (ws : List ℕ) (all : AllYes (asked Kernel ws)) (v : Values) (e : v �
     pub g_words : HoldsG v g
     g_words = subst (λ v. HoldsG v g) (sym e) (subst (HoldsG (values_of Kernel ws)) (sym words) (kernel_g ws all))
 
-    right : (before after : List ℕ) → Room (length before) → (r : Written) → Finished (values_of Kernel ws) (gOf Kernel ws) before after r
+    right : (before after : List ℕ) → Room (length before) → (r : Result ℕ Refusal) → Finished (values_of Kernel ws) (gOf Kernel ws) before after r
         → KernelRight ws before after r
-    right before after room (Count c) h =
+    right before after room (Ok c) h =
         ((room, all_all (asked Kernel ws) (last_ask (values_of Kernel ws) (gOf Kernel ws)) all h.0), h.1)
-    right before after room (Refused k) h =
-        (inr (room, no_after (asked Kernel ws) (last_ask (values_of Kernel ws) (gOf Kernel ws)) k all h.0), h.1)
+    right before after room (Err refusal) h =
+        (inr (room, no_after (asked Kernel ws) (last_ask (values_of Kernel ws) (gOf Kernel ws)) (number refusal) all h.0), h.1)
 
-    pub kernel_right : (before after : List ℕ) → Room (length before) → (r : Written) → Finished v g before after r → KernelRight ws before after r
+    pub kernel_right : (before after : List ℕ) → Room (length before) → (r : Result ℕ Refusal) → Finished v g before after r → KernelRight ws before after r
     kernel_right before after room r h =
         right before after room r (subst (λ v. Finished v (gOf Kernel ws) before after r) e (subst (λ g. Finished v g before after r) words h))

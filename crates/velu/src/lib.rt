@@ -13,8 +13,7 @@ ghost use Rattle.promises.specs.Asked.{Room};
 ghost use Rattle.promises.specs.Answer.{KernelRight};
 ghost use Rattle.velu.specs.Completed.{Completed, Finished};
 
-use promises::Written;
-use reading::Reading;
+use questions::Refusal;
 use sheet::{Form, Values};
 
 // a - k h
@@ -57,16 +56,11 @@ fn completed_in(
     }
 }
 
-// Room for g in the power sums. (As the result of a call its words stay out of the callers' proofs.)
-fn blank_sums() -> [u64; 130] {
-    [0; 130]
-}
-
 fn completed(v: Values, g: &[u32]) -> Values
     requires { (Ready v) × HoldsG v g.now }
     ensures { Completed v g.now result }
 {
-    let mut e = blank_sums();
+    let mut e = [0u64; 130];
     let mut acc = [0u64; 5];
     let mut s = [0u32; 5];
     let mut h = [0u32; 3];
@@ -74,24 +68,24 @@ fn completed(v: Values, g: &[u32]) -> Values
 }
 
 // Questions 8 and 11, and the certificate.
-fn finish(v: Values, g: &[u32], answer: &mut [u32]) -> Written
+fn finish(v: Values, g: &[u32], answer: &mut [u32]) -> Result<u32, Refusal>
     requires ready { (Ready v) × HoldsG v g.now }
     requires room { Room (length answer.old) }
     ensures { Finished v g.now answer.old answer.new result }
 {
     let top = g.len() - 1;
     if g[top] != 1 {
-        return Written::Refused(8);
+        return Err(Refusal::KernelPolynomial);
     }
     let w = completed(v, g);
     if !reading::nonsingular(w.atilde, w.btilde, w.p) {
-        return Written::Refused(11);
+        return Err(Refusal::NoIsogeny);
     }
     certifying::certify(w, g, answer)
 }
 
 // The same with the coefficients read from an accepted sheet, to g.
-fn kernel_in(v: Values, ws: &[u32], g: &mut [u32], answer: &mut [u32]) -> Written
+fn kernel_in(v: Values, ws: &[u32], g: &mut [u32], answer: &mut [u32]) -> Result<u32, Refusal>
     requires all_yes { (AllYes (asked Kernel ws.now)) × (v ≡ values_of Kernel ws.now) }
     requires g_len { (length g.old ≡ half v + 1) × Room (length answer.old) }
     ensures { KernelRight ws.now answer.old answer.new result }
@@ -101,26 +95,23 @@ fn kernel_in(v: Values, ws: &[u32], g: &mut [u32], answer: &mut [u32]) -> Writte
     finish(v, g, answer)
 }
 
-fn kernel_accepted(v: Values, ws: &[u32], answer: &mut [u32]) -> Written
+fn kernel_accepted(v: Values, ws: &[u32], answer: &mut [u32]) -> Result<u32, Refusal>
     requires all_yes { (AllYes (asked Kernel ws.now)) × (v ≡ values_of Kernel ws.now) }
     requires room { Room (length answer.old) }
     ensures { KernelRight ws.now answer.old answer.new result }
 {
     let count = sheet::half_degree(v) + 1;
-    let mut g = promises::blank128();
+    let mut g = [0u32; 128];
     kernel_in(v, ws, &mut g[..count], answer)
 }
 
-// The certificate for a kernel sheet, in the answer; or the number of the first of questions 1 to 8 and 11 with a no, and then the answer is as it was.
-pub fn kernel(ws: &[u32], answer: &mut [u32]) -> Written
+// The certificate for a kernel sheet, in the answer; or the first of questions 1 to 8 and 11 with a no, and then the answer is as it was.
+pub fn kernel(ws: &[u32], answer: &mut [u32]) -> Result<u32, Refusal>
     ensures { KernelRight ws.now answer.old answer.new result }
 {
     if answer.len() < sheet::MOST_WORDS {
-        return Written::Refused(1);
+        return Err(Refusal::Room);
     }
-    let read = reading::read(Form::Kernel, ws);
-    match read {
-        Reading::Refused(k) => Written::Refused(k),
-        Reading::Accepted(v) => kernel_accepted(v, ws, answer),
-    }
+    let v = reading::read(Form::Kernel, ws)?;
+    kernel_accepted(v, ws, answer)
 }

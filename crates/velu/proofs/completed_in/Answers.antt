@@ -22,10 +22,7 @@ expansion-requires c =
 
 pub less_multiple-btilde-requires : goal.less_multiple-btilde-requires
 less_multiple-btilde-requires c =
-    let start =
-    c.before.before.before.before.before.before.before.before.before.before.before.before.before.before.before.before.before.before.before.before.before.before.before.before.before
-    in
-    let ready = start.requires.ready.0 in
+    let ready = c.requires.ready.0 in
     (ready.below.b, omega (arith, ready.prime))
 
 pub returns : goal.returns

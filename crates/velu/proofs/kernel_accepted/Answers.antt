@@ -27,6 +27,3 @@ kernel_in-requires c =
       all_yes = c.requires.all_yes;
       g_len = (simp length-take (omega (arith, c.half_degree-count.ensures, ready.degree)), c.requires.room);
     }
-
-pub returns : goal.returns
-returns c = c.kernel_in.ensures
