@@ -26,7 +26,7 @@ fn from_power(g: &[u32], r: &mut [u32], a: &mut [u64], b: &mut [u64], m: Modulus
 
 // The same for any g, with the power by quotients, in room of N words a slice.
 fn by_quotients<const N: usize>(g: &[u32], m: Modulus) -> usize
-    requires { Prime m.p × (Divisor m.p g.now) × (3 ≤ length g.now) × (2 * length g.now + 4 ≤ N) × (N ≤ 264) }
+    requires { Prime m.p × (Divisor m.p g.now) × (3 ≤ length g.now) × (2 * length g.now + 8 ≤ N) × (N ≤ 264) }
     ensures { result ≡ rational_roots m.p (length g.now) (poly m.p g.now) }
 {
     let k = g.len();

@@ -82,15 +82,18 @@ module _ (p : ℕ) (X Y P : Seq (Zmod p)) (L n : ℕ) (pos : 0 < L) (long : Belo
 
       short_N : (u : ℕ) → u ≤ t + 1 → Below (Zmod p) k (N u)
       short_N u le =
-          below_mono (Zmod p) (suc (u * L)) k (N u) (omega (arith, Nat.mul-le-mul_right {m = u} {n = t + 1} L le)) (numerator_below (Zmod p) L pos Y short X long u _)
+          below_mono (Zmod p) (suc (u * L)) k (N u) (omega (arith, Nat.mul-le-mul_right {m = u} {n = t + 1} L le))
+          (numerator_below (Zmod p) L pos Y short X long u _)
 
       short_D : (u : ℕ) → u ≤ t + 1 → Below (Zmod p) d (D u)
       short_D u le =
-          below_mono (Zmod p) (suc (u * (L - 1))) d (D u) (omega (arith, Nat.mul-le-mul_right {m = u} {n = t + 1} (L - 1) le)) (denominator_below (Zmod p) L pos Y short u)
+          below_mono (Zmod p) (suc (u * (L - 1))) d (D u) (omega (arith, Nat.mul-le-mul_right {m = u} {n = t + 1} (L - 1) le))
+          (denominator_below (Zmod p) L pos Y short u)
 
       is_N : poly p (take k h) ≡ N t
       is_N =
-          residues_poly (residues_take positive k before.numerator) (subst (λ j. Below (Zmod p) j (N t)) (sym (length-take-le k h fits_h)) (short_N t (omega arith)))
+          residues_poly (residues_take positive k before.numerator)
+          (subst (λ j. Below (Zmod p) j (N t)) (sym (length-take-le k h fits_h)) (short_N t (omega arith)))
 
       is_D : poly p (take d den) ≡ D t
       is_D =

@@ -74,7 +74,8 @@ fn begin(
     m: Modulus,
 )
     requires reduced { (1 < m.p) × (Reduced m.p n.now) × (Reduced m.p square.now) × (Reduced m.p g2.now) }
-    requires lengths { (2 ≤ length g2.now) × (0 < length n.now) × (length n.now ≤ length h.old) × (length acc.old ≡ length h.old) × (length h.old + 3 ≤ length e.old) }
+    requires lengths { (2 ≤ length g2.now) × (0 < length n.now) × (length n.now ≤ length h.old)
+        × (length acc.old ≡ length h.old) × (length h.old + 3 ≤ length e.old) }
     ensures { Residues m.p (homogenize (Zmod m.p) (poly m.p n.now) (poly m.p square.now) 1
         (dropped (Zmod m.p) (length g2.now - 2) (poly m.p g2.now))) h.new }
 {

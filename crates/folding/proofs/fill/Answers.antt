@@ -18,7 +18,7 @@ loop-i-init c =
     let part = c.fill.new.self in
     let fits = row_inside d d (omega arith) in
     let zeros : (j : ℕ) → get_or part j 0 ≡ 0 = λ j.
-        ap (λ l. get_or l j 0) (c.fill.ensures.after (λ y h. h)) ∙ zero_at (length (take len (drop (d * d) t))) j in
+    ap (λ l. get_or l j 0) (c.fill.ensures.after (λ y h. h)) ∙ zero_at (length (take len (drop (d * d) t))) j in
     let behind = cleared_behind t part (d * d) len (omega (arith, pre.1)) (omega (arith, length-take len (drop (d * d) t), length-drop (d * d) t)) zeros in (
       omega (arith, pre.0),
       search rules,

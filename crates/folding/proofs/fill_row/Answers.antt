@@ -1,5 +1,5 @@
 -- `folding::fill_row` meets its contract. Assumes nothing.
-use Rattle.std.proofs.Common.{arith, drop, length, length-drop, length-take, rules, subst, ◌*◌, ◌+◌, ◌-◌, ◌≡◌}
+use Rattle.std.proofs.Common.{arith, drop, length, length-drop, length-take, subst, ◌*◌, ◌+◌, ◌-◌, ◌≡◌}
 use Rattle.modulo.specs.Modulo.{RemainderOf}
 use Rattle.modulo.specs.Power.{x_to}
 use Rattle.folding.specs.Table.{monic_of, row_inside, next_power, begun_more}

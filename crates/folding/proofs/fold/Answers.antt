@@ -1,5 +1,5 @@
 -- `folding::fold` meets its contract. Assumes nothing.
-use Rattle.std.proofs.Common.{arith, drop, length, length-drop, length-take, refl, rules, subst, ◌*◌, ◌+◌, ◌-◌, ◌≡◌}
+use Rattle.std.proofs.Common.{arith, drop, length, length-drop, length-take, refl, subst, ◌*◌, ◌+◌, ◌-◌, ◌≡◌}
 use native.Mathlib.Nat as N
 use Rattle.slices.specs.Filling.{Filled}
 use Rattle.slices.specs.Stored.{part_below}

@@ -1,5 +1,5 @@
 -- `quotients::lifted_square` meets its contract. Assumes nothing.
-use Rattle.std.proofs.Common.{arith, drop, length, length-drop, length-set, length-take, rules, set, ◌-◌, ◌≡◌}
+use Rattle.std.proofs.Common.{arith, drop, length, length-drop, length-set, length-take, set, ◌-◌, ◌≡◌}
 use Rattle.series.specs.Series.{conv}
 use Rattle.zmod.specs.Zmod.{Zmod}
 use Rattle.zmod.specs.Residues.{poly}
@@ -8,25 +8,17 @@ use Rattle.rows.specs.Room.{turns_fit}
 use Rattle.quotients.specs.Lifted.{lifted}
 use Rattle.quotients.proofs.lifted_square.Goals as goal
 
-pub slice_bounds-square-count-2 : goal.slice_bounds-square-count-2
-slice_bounds-square-count-2 c =
-    omega (arith, length-set c.args.out.now 0 0)
-
-pub slice_bounds-square-start-2 : goal.slice_bounds-square-start-2
-slice_bounds-square-start-2 c =
-    search (rules, length-set c.args.out.now 0 0, c.requires.reduced.1, c.requires.out_nonzero.0)
-
 pub square-requires : goal.square-requires
 square-requires c =
     let a = c.args in
     let size = length-set a.out.now 0 0 in record {
-      reduced = (c.requires.reduced.0, turns_fit _ _ a.m.p (omega (arith, prepared_below (prepared c.args.m))) (omega (arith, c.requires.reduced.2)));
-      acc_len = (simp (length-take, length-drop) (omega (arith, size, c.requires.out_nonzero.1)), c.requires.out_nonzero.2, omega (arith, c.requires.reduced.2));
+      reduced = (c.requires.reduced.0, turns_fit _ _ a.m.p (omega (arith, prepared_below (prepared a.m))) (omega (arith, c.requires.reduced.2)));
+      acc_len = (
+        simp (length-take, length-drop) (omega (arith, size, c.requires.out_nonzero.1)),
+        c.requires.out_nonzero.2,
+        omega (arith, c.requires.reduced.2),
+      );
     }
-
-pub shape_of-out : goal.shape_of-out
-shape_of-out c =
-    search (rules, length-set c.args.out.now 0 0)
 
 pub returns : goal.returns
 returns c =

@@ -8,7 +8,9 @@ use Rattle.quotients.proofs.power_in.Goals as goal
 
 pub prepare-requires : goal.prepare-requires
 prepare-requires c =
-    (c.requires.p_bound.1, omega (arith, prepared_below (prepared c.args.m)), c.requires.p_bound.0, omega (arith, c.requires.p_bound.3), c.requires.r_len.6, c.requires.r_len.7, c.requires.r_len.1, c.requires.r_len.2)
+    let pre = c.requires.p_bound in
+    let long = c.requires.r_len in
+    (pre.1, omega (arith, prepared_below (prepared c.args.m)), pre.0, omega (arith, pre.3), long.6, long.7, long.1, long.2)
 
 pub begin-first-requires : goal.begin-first-requires
 begin-first-requires c =
@@ -62,14 +64,6 @@ loop-i-preserved c =
       omega (arith, inv.5, square.auto),
       power_turn p d (poly p a.g.now) p loop.i loop.r square.new.r (omega (arith, c.loop-i-test)) inv.6 square.ensures,
     )
-
-pub shape_of-top : goal.shape_of-top
-shape_of-top c =
-    omega (arith, c.loop-i.invariant.4, c.requires.r_len.6)
-
-pub shape_of-q : goal.shape_of-q
-shape_of-q c =
-    omega (arith, c.loop-i.invariant.5, c.requires.r_len.7)
 
 pub returns : goal.returns
 returns c =

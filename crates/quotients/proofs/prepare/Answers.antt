@@ -6,10 +6,6 @@ use Rattle.quotients.specs.Quotient.{InverseTo}
 use Rattle.quotients.specs.Division.{backwards_reduced, backwards_one, made_ready}
 use Rattle.quotients.proofs.prepare.Goals as goal
 
-pub reverse-requires : goal.reverse-requires
-reverse-requires c =
-    c.requires.4
-
 pub invert-requires : goal.invert-requires
 invert-requires c =
     let a = c.args in

@@ -1,30 +1,10 @@
 -- `quotients::quotient` meets its contract. Assumes nothing.
-use Rattle.std.proofs.Common.{arith, drop, length, length-drop, length-take, replicate, rules, subst, suc, ◌-◌, ◌≡◌}
+use Rattle.std.proofs.Common.{arith, drop, length, length-drop, length-take, replicate, subst, suc, ◌-◌, ◌≡◌}
 use Rattle.slices.specs.Stored.{part_below}
 use Rattle.barrett.specs.Modulus.{prepared, prepared_positive, prepared_below}
 use Rattle.rows.specs.Product.{reduced_fits}
 use Rattle.quotients.specs.Division.{backwards_reduced, blank_reduced, quotient_to}
 use Rattle.quotients.proofs.quotient.Goals as goal
-
-pub overflow_sub-d : goal.overflow_sub-d
-overflow_sub-d c =
-    search (rules, c.requires.q_nonzero.0)
-
-pub offset_bounds-a-d : goal.offset_bounds-a-d
-offset_bounds-a-d c =
-    search (rules, c.requires.q_nonzero.2)
-
-pub slice_bounds-reverse-count : goal.slice_bounds-reverse-count
-slice_bounds-reverse-count c =
-    search (rules, c.requires.q_nonzero.2)
-
-pub slice_bounds-reverse-start : goal.slice_bounds-reverse-start
-slice_bounds-reverse-start c =
-    search (rules, c.requires.q_nonzero.2)
-
-pub slice_bounds-reverse-end : goal.slice_bounds-reverse-end
-slice_bounds-reverse-end c =
-    search (rules, c.requires.q_nonzero.2)
 
 pub reverse-requires : goal.reverse-requires
 reverse-requires c =
@@ -84,6 +64,7 @@ returns c =
       backwards_reduced product.ensures.reduced last.ensures,
       quotient_to p d a.t.now a.a.now top.new.out blank.new.self sum.new.acc product.new.out last.new.out
           (omega (arith, c.requires.q_nonzero.0, c.requires.q_nonzero.2))
-          top.ensures (subst (λ n. blank.new.self ≡ replicate n 0) size (blank.ensures.after (λ y h. h))) (omega (arith, blank.auto, sum.auto, size)) sum.ensures
+          top.ensures (subst (λ n. blank.new.self ≡ replicate n 0) size (blank.ensures.after (λ y h. h)))
+          (omega (arith, blank.auto, sum.auto, size)) sum.ensures
           (omega (arith, top.auto, product.auto, c.requires.q_nonzero.0, c.requires.q_nonzero.4)) product.ensures last.ensures,
     )

@@ -1,5 +1,5 @@
 -- `quotients::square_modulo` meets its contract. Assumes nothing.
-use Rattle.std.proofs.Common.{arith, length, length-take, rules, suc, ◌+◌, ◌-◌}
+use Rattle.std.proofs.Common.{arith, length, length-take, suc, ◌+◌, ◌-◌}
 use Rattle.series.specs.Series.{conv}
 use Rattle.series.specs.Degree.{Below, below_mono, degree_mul}
 use Rattle.zmod.specs.Zmod.{Zmod}
@@ -15,10 +15,6 @@ lifted_square-requires c =
       reduced = (c.requires.p_bound.4, c.requires.p_bound.5, omega (arith, c.requires.p_bound.3, long.0));
       out_nonzero = (omega (arith, long.2, long.6), long.3, omega (arith, c.requires.p_bound.3, long.1));
     }
-
-pub slice_bounds-divide-end : goal.slice_bounds-divide-end
-slice_bounds-divide-end c =
-    search (rules, c.requires.g_len_bound.2, c.requires.g_len_bound.3, c.requires.p_bound.1.some)
 
 pub slice_bounds-divide-end-2 : goal.slice_bounds-divide-end-2
 slice_bounds-divide-end-2 c =
@@ -49,6 +45,7 @@ returns c =
     let few : Below (Zmod p) (suc (d - 1)) (poly p a.r.now) = poly_below p a.r.now (suc (d - 1)) (omega (arith, c.requires.p_bound.3)) in
     let product = degree_mul (Zmod p) (d - 1) (d - 1) (poly p a.r.now) (poly p a.r.now) few few in
     remainder_filled square.ensures
-    (below_mono (Zmod p) (a.bit + suc (d - 1 + (d - 1))) _ _ (omega (arith, c.requires.p_bound.5, c.requires.g_len_bound.2, c.requires.g_len_bound.6, square.auto))
+    (below_mono (Zmod p) (a.bit + suc (d - 1 + (d - 1))) _ _
+    (omega (arith, c.requires.p_bound.5, c.requires.g_len_bound.2, c.requires.g_len_bound.6, square.auto))
     (lifted_below p a.bit (suc (d - 1 + (d - 1))) (conv (Zmod p) (poly p a.r.now) (poly p a.r.now)) product))
     c.divide.ensures

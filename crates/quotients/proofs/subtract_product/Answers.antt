@@ -8,14 +8,17 @@ use Rattle.quotients.proofs.subtract_product.Goals as goal
 pub add_product-requires : goal.add_product-requires
 add_product-requires c =
     let a = c.args in
+    let pre = c.requires.p_bound in
+    let long = c.requires.q_len_bound in
     let wide = c.widen in record {
-      a_in_bounds = (omega (arith, wide.auto, c.requires.q_len_bound.1), omega (arith, wide.auto, c.requires.q_len_bound.1, c.requires.q_len_bound.3), c.requires.q_len_bound.0, c.requires.p_bound.0, omega (arith, prepared_below (prepared c.args.m)));
-      by_index = (
-        reduced_fits wide.new.out c.requires.p_bound.0 (filled_reduced a.m.p a.a.now wide.new.out c.requires.p_bound.1 wide.ensures),
-        c.requires.p_bound.2,
-        c.requires.p_bound.3,
-        c.requires.p_bound.4,
+      a_in_bounds = (
+        omega (arith, wide.auto, long.1),
+        omega (arith, wide.auto, long.1, long.3),
+        long.0,
+        pre.0,
+        omega (arith, prepared_below (prepared a.m)),
       );
+      by_index = (reduced_fits wide.new.out pre.0 (filled_reduced a.m.p a.a.now wide.new.out pre.1 wide.ensures), pre.2, pre.3, pre.4);
     }
 
 pub remainders-requires : goal.remainders-requires

@@ -15,7 +15,12 @@ add_times-requires c =
     let a = c.args in
     let pre = c.requires in
     record {
-      reduced = (pre.reduced.0, pre.reduced.1, pre.reduced.2, zeros_low a.m.p (length a.acc.now) c.fill.new.self (blank (goal.at.add_times-requires c).After-fill));
+      reduced = (
+        pre.reduced.0,
+        pre.reduced.1,
+        pre.reduced.2,
+        zeros_low a.m.p (length a.acc.now) c.fill.new.self (blank (goal.at.add_times-requires c).After-fill),
+      );
       lengths = (pre.lengths.0, pre.lengths.1, omega (arith, pre.lengths.2, c.fill.ensures.len), pre.lengths.3);
     }
 
