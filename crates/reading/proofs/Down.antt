@@ -1,6 +1,7 @@
 -- The reader's way from the end of a sheet down to its header: the count, then the words of N, then those of g.
 -- Assumes nothing.
-use Rattle.std.proofs.Common.{◌≡◌, ℕ, suc, ◌+◌, ◌*◌, ◌-◌, ◌^◌, ◌<◌, ◌≤◌, ◌↔◌, List, Option, Some, unwrap_or, length, get_or, take, drop, sym, refl, ap, ◌∙◌, subst, arith, length-append, length-drop, length-take-le, get_or-take, get_or-drop}
+use Rattle.std.proofs.Common.{◌≡◌, ℕ, suc, ◌+◌, ◌*◌, ◌-◌, ◌^◌, ◌<◌, ◌≤◌, ◌↔◌, List, Option, Some, unwrap_or, length}
+use Rattle.std.proofs.Common.{get_or, take, drop, sym, refl, ap, ◌∙◌, subst, arith, length-append, length-drop, length-take-le, get_or-take, get_or-drop}
 use native.Mathlib.Decide.{dec_lt}
 use Rattle.sheet.specs.declared.Form.{Form}
 use Rattle.sheet.specs.Word.{kind_of, value_of}
@@ -162,7 +163,8 @@ module _ (form : Form) (ws : List ℕ) where
         λ r. words_asked6 form ws (record { count = omega (arith, r.count); end = r.end_word; sections = r.sections }),
       )
 
-  module _ {w : Values} {d end : ℕ} {end_at : Option ℕ} (w_is : w ≡ v) (d_is : d ≡ half w) (end_found : end_at ≡ placed form 15 d) (end_is : end_at ≡ Some end) where
+  module _ {w : Values} {d end : ℕ} {end_at : Option ℕ} (w_is : w ≡ v) (d_is : d ≡ half w) (end_found : end_at ≡ placed form 15 d)
+      (end_is : end_at ≡ Some end) where
     pub end_last : end ≡ last form d
     end_last = at_place form 15 d 0 end_found end_is ∙ end_place d 0 form
 

@@ -1,6 +1,7 @@
 -- Question 2 word by word, with the header's kinds as the code has them.
 -- Assumes nothing.
-use Rattle.std.proofs.Common.{◌≡◌, refl, ◌↔◌, ℕ, zero, suc, ◌<◌, ◌≤◌, List, [], ◌∷◌, map, length, take, drop, get_or, slice_index, sym, ap, ap₂, ◌∙◌, arith, not-suc-le-zero, le_of_suc-le-suc}
+use Rattle.std.proofs.Common.{◌≡◌, refl, ◌↔◌, ℕ, zero, suc, ◌<◌, ◌≤◌, List, [], ◌∷◌, map}
+use Rattle.std.proofs.Common.{length, take, drop, get_or, slice_index, sym, ap, ap₂, ◌∙◌, arith, not-suc-le-zero, le_of_suc-le-suc}
 use Rattle.std.proofs.lemmas.List.{length-map}
 use Rattle.sheet.specs.declared.Form.{Form}
 use Rattle.sheet.specs.declared.Kind.{Kind}
