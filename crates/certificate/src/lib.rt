@@ -50,8 +50,18 @@ pub fn write(v: Values, g: &[u32], n: &[u32], abscissas: u32, out: &mut [u32]) -
 {
     let d = sheet::half_degree(v);
     write_header(v, out);
-    write_section(Kind::G, g, sheet::place(Form::Certificate, Kind::G, d).unwrap(), out);
-    write_section(Kind::N, n, sheet::place(Form::Certificate, Kind::N, d).unwrap(), out);
+    write_section(
+        Kind::G,
+        g,
+        sheet::place(Form::Certificate, Kind::G, d).unwrap(),
+        out,
+    );
+    write_section(
+        Kind::N,
+        n,
+        sheet::place(Form::Certificate, Kind::N, d).unwrap(),
+        out,
+    );
     let at = sheet::place(Form::Certificate, Kind::Abscissas, d).unwrap();
     out[at] = word_of(Kind::Abscissas, abscissas);
     let end = sheet::place(Form::Certificate, Kind::End, d).unwrap();

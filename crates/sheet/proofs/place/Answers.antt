@@ -1,6 +1,6 @@
 -- `sheet::place` meets its contract.
 -- Assumes nothing.
-use Rattle.std.proofs.Common.{ap, ap₂, arith, sym, Some, ◌*◌, ◌+◌, ◌<◌, ◌∙◌}
+use Rattle.std.proofs.Common.{ap, ap₂, arith, sym, Some, ◌*◌, ◌+◌, ◌∙◌}
 use Rattle.std.specs.ControlFlow.{continue_value}
 use Rattle.sheet.specs.Code.{code_fits}
 use Rattle.sheet.specs.Place.{placed}
