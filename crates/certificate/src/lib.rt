@@ -9,7 +9,7 @@ ghost use Rattle.sheet.specs.Code.{code};
 ghost use Rattle.sheet.specs.Ready.{Ready};
 ghost use Rattle.certificate.specs.Certificate.{header_words, Writable, Stored};
 
-use sheet::{Kind, Values};
+use sheet::{Form, Kind, Values};
 
 fn word_of(kind: Kind, value: u32) -> u32
     requires { value < 2 ^ 28 }
@@ -48,11 +48,23 @@ pub fn write(v: Values, g: &[u32], n: &[u32], abscissas: u32, out: &mut [u32]) -
     requires { Writable v g.now n.now abscissas (length out.old) }
     ensures { Stored v g.now n.now abscissas out.old out.new result }
 {
+    let d = sheet::half_degree(v);
     write_header(v, out);
-    write_section(Kind::G, g, 7, out);
-    write_section(Kind::N, n, 7 + g.len(), out);
-    let at = 7 + g.len() + n.len();
+    write_section(
+        Kind::G,
+        g,
+        sheet::place(Form::Certificate, Kind::G, d).unwrap(),
+        out,
+    );
+    write_section(
+        Kind::N,
+        n,
+        sheet::place(Form::Certificate, Kind::N, d).unwrap(),
+        out,
+    );
+    let at = sheet::place(Form::Certificate, Kind::Abscissas, d).unwrap();
     out[at] = word_of(Kind::Abscissas, abscissas);
-    out[at + 1] = word_of(Kind::End, 0);
-    at + 2
+    let end = sheet::place(Form::Certificate, Kind::End, d).unwrap();
+    out[end] = word_of(Kind::End, 0);
+    end + 1
 }

@@ -1,2 +1,3 @@
+pub mod PlaceTable
 pub mod Starts
 pub mod Copies

@@ -1,6 +1,7 @@
 -- The numbers of the kinds.
 -- Assumes nothing.
-use Rattle.std.specs.Prelude.{ℕ}
+use Rattle.std.specs.Prelude.{ℕ, ◌<◌}
+use Rattle.std.proofs.Common.{arith}
 use Rattle.sheet.specs.declared.Kind.{Kind}
 use Rattle.sheet.specs.declared.Kind.TheVariants.{P, A, B, Atilde, Btilde, Degree, Sigma, G, N, Abscissas, End}
 
@@ -16,3 +17,17 @@ code G = 8
 code N = 9
 code Abscissas = 10
 code End = 15
+
+-- a word's top four bits hold each
+pub code_fits : (kind : Kind) → code kind < 16
+code_fits P = omega arith
+code_fits A = omega arith
+code_fits B = omega arith
+code_fits Atilde = omega arith
+code_fits Btilde = omega arith
+code_fits Degree = omega arith
+code_fits Sigma = omega arith
+code_fits G = omega arith
+code_fits N = omega arith
+code_fits Abscissas = omega arith
+code_fits End = omega arith

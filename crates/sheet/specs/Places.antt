@@ -1,11 +1,12 @@
 -- The places of the kinds in the forms: each is linear in d, so it is told by the place at d = 0 and by how far it rises to d = 1.
 -- Assumes nothing.
-use Rattle.std.specs.Prelude.{◌≡◌, refl, Bool, true, false, cond, List, [], ◌∷◌, ℕ, suc, ◌+◌, ◌*◌, ◌-◌, ◌<◌, length, Some, None}
+use Rattle.std.specs.Prelude.{◌≡◌, refl, Bool, true, false, cond, List, [], ◌∷◌, ℕ, suc, ◌+◌, ◌*◌, ◌-◌, ◌<◌, length, Option, Some, None, unwrap_or}
 use Rattle.std.proofs.Common.{sym, ◌∙◌, ap, ap₂, arith}
+use Rattle.std.proofs.lemmas.Option.{none-some}
 use Rattle.sheet.specs.declared.Form.{Form}
 use Rattle.sheet.specs.declared.Form.TheVariants.{Question, Certificate, Kernel}
 use Rattle.sheet.specs.Form.{header, kinds_of, certificate_words, position, holds}
-use Rattle.sheet.specs.Place.{place_of, placed}
+use Rattle.sheet.specs.Place.{place_of, placed, stepped}
 use Rattle.sheet.specs.Kinds.{below, absent as absent_kind, place_from}
 use Rattle.sheet.specs.Lengths.{last, certificate_words_lem, kernel_words}
 use Rattle.sheet.specs.Linear.{Section, section, expand, has, base, slope, holds_sections, position_sections, base_most}
@@ -102,6 +103,38 @@ module _ (form : Form) (k d none : ℕ) where
       ∙ present (has k (sections form)) (base k (sections form)) (slope k (sections form)) d none (early form k) (λ e. n (place_is form k 0 255 ∙ e))
       ∙ sym (place_is form k d none)
 
+-- the same of a place that may be nowhere, as the table has it
+abbrev Step : Bool → ℕ → ℕ → Option (ℕ × ℕ)
+Step t b s = cond t (Some (b + s * 0, b + s * 1 - (b + s * 0))) None
+
+module _ (b s d : ℕ) where
+  unrisen : (t : Bool) → Step t b s ≡ None → cond t (Some (b + s * d)) None ≡ None
+  unrisen true e = absurd (none-some _ (sym e))
+  unrisen false e = refl
+
+  risen : (t : Bool) {start rise : ℕ} → Step t b s ≡ Some (start, rise) → cond t (Some (b + s * d)) None ≡ Some (start + rise * d)
+  risen true {start} {rise} e =
+      let both : (b + s * 0, b + s * 1 - (b + s * 0)) ≡ (start, rise) = ap (λ (o : Option (ℕ × ℕ)). unwrap_or o (0, 0)) e in
+      let first : b ≡ start = omega (arith, ap (λ (q : ℕ × ℕ). q.0) both) in
+      let second : s ≡ rise = omega (arith, ap (λ (q : ℕ × ℕ). q.1) both) in
+      ap₂ (λ x y. Some (x + y * d)) first second
+  risen false e = absurd (none-some _ e)
+
+module _ (form : Form) (k d : ℕ) where
+  stepped_is : stepped form k ≡ Step (has k (sections form)) (base k (sections form)) (slope k (sections form))
+  stepped_is =
+      ap₂ (λ (t : Bool) (q : ℕ × ℕ). cond t (Some q) None)
+      (ap (holds k) (in_sections form 0) ∙ holds_sections k 0 (sections form))
+      (ap₂ (λ (x y : ℕ). (x, y - x))
+      (ap (position k) (in_sections form 0) ∙ position_sections k 0 (sections form))
+      (ap (position k) (in_sections form 1) ∙ position_sections k 1 (sections form)))
+
+  pub nowhere_placed : stepped form k ≡ None → placed form k d ≡ None
+  nowhere_placed e = placed_is form k d ∙ unrisen (base k (sections form)) (slope k (sections form)) d (has k (sections form)) (sym stepped_is ∙ e)
+
+  pub somewhere_placed : {start rise : ℕ} → stepped form k ≡ Some (start, rise) → placed form k d ≡ Some (start + rise * d)
+  somewhere_placed e = placed_is form k d ∙ risen (base k (sections form)) (slope k (sections form)) d (has k (sections form)) (sym stepped_is ∙ e)
+
 -- ── the places that the reader and the writer ask for
 
 module _ (d none : ℕ) where
@@ -127,6 +160,9 @@ pub end_placed : (form : Form) (d : ℕ) → placed form 15 d ≡ Some (last for
 end_placed Question d = placed_is Question 15 d ∙ ap Some (omega arith)
 end_placed Certificate d = placed_is Certificate 15 d ∙ ap Some (omega (arith, certificate_words_lem d))
 end_placed Kernel d = placed_is Kernel 15 d ∙ ap Some (omega (arith, kernel_words d))
+
+pub g_placed : (d : ℕ) → placed Certificate 8 d ≡ Some 7
+g_placed d = placed_is Certificate 8 d ∙ ap Some (omega arith)
 
 pub n_placed : (d : ℕ) → placed Certificate 9 d ≡ Some (d + 8)
 n_placed d = placed_is Certificate 9 d ∙ ap Some (omega arith)

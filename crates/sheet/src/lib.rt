@@ -1,4 +1,4 @@
-// Sheets: words, kinds and values; the three forms, where their words stand, and what a sheet says by them.
+// Sheets: words, kinds and values; the three forms, the table of places, and what a sheet says by them.
 #![tactic(auto)]
 
 ghost use Rattle.std.specs.Prelude.{◌≡◌, ◌+◌, ◌-◌, ◌*◌, ◌^◌, ◌<◌, ◌≤◌, map, length, get_or, take, drop};
@@ -6,7 +6,7 @@ ghost use Rattle.sheet.specs.declared.Form.TheVariants.{Certificate};
 ghost use Rattle.sheet.specs.Word.{kind_of, value_of, word_at, words_of};
 ghost use Rattle.sheet.specs.Form.{header, entry, value_in, certificate_words};
 ghost use Rattle.sheet.specs.Code.{code};
-ghost use Rattle.sheet.specs.Place.{place_of, placed};
+ghost use Rattle.sheet.specs.Place.{place_of, placed, PlacesOf};
 ghost use Rattle.sheet.specs.Values.{values_of, half, coefficient_in};
 
 // The words of the largest certificate, that of degree 255.
@@ -78,52 +78,83 @@ pub fn header(form: Form) -> &'static [Kind]
     }
 }
 
+// In each of the forms question, certificate, kernel sheet, by the kind's number: the place of its first word at d = 0 and how far each step of d moves it,
+// if the form has such a word. The forms come first, so that the part of one form, once it is known, dissolves into constants wherever a place is asked for.
+const PLACES: [[Option<(u8, u8)>; 16]; 3] = [
+    [
+        None, // no kind
+        Some((0, 0)), // p
+        Some((1, 0)), // A
+        Some((2, 0)), // B
+        Some((3, 0)), // Ã
+        Some((4, 0)), // B̃
+        Some((5, 0)), // ℓ
+        Some((6, 0)), // σ
+        None, // g
+        None, // N
+        None, // the count
+        None, // no kind
+        None, // no kind
+        None, // no kind
+        None, // no kind
+        Some((7, 0)), // the end
+    ],
+    [
+        None,
+        Some((0, 0)),
+        Some((1, 0)),
+        Some((2, 0)),
+        Some((3, 0)),
+        Some((4, 0)),
+        Some((5, 0)),
+        Some((6, 0)),
+        Some((7, 0)),
+        Some((8, 1)),
+        Some((10, 3)),
+        None,
+        None,
+        None,
+        None,
+        Some((11, 3)),
+    ],
+    [
+        None,
+        Some((0, 0)),
+        Some((1, 0)),
+        Some((2, 0)),
+        None,
+        None,
+        Some((3, 0)),
+        None,
+        Some((4, 0)),
+        None,
+        None,
+        None,
+        None,
+        None,
+        None,
+        Some((5, 1)),
+    ],
+];
+
+// A form's part of the table.
+fn places_of(form: Form) -> [Option<(u8, u8)>; 16]
+    ensures { PlacesOf form result }
+{
+    match form {
+        Form::Question => PLACES[0],
+        Form::Certificate => PLACES[1],
+        Form::Kernel => PLACES[2],
+    }
+}
+
 // The place of the first word of a kind in a sheet of degree 2 d + 1, if the form has such a word.
 pub fn place(form: Form, kind: Kind, d: usize) -> Option<usize>
     requires { d ≤ 2 ^ 28 }
     ensures { result ≡ placed form (code kind) d }
 {
-    match kind {
-        Kind::P => Some(0),
-        Kind::A => Some(1),
-        Kind::B => Some(2),
-        Kind::Atilde => match form {
-            Form::Question | Form::Certificate => Some(3),
-            Form::Kernel => None,
-        },
-        Kind::Btilde => match form {
-            Form::Question | Form::Certificate => Some(4),
-            Form::Kernel => None,
-        },
-        Kind::Degree => match form {
-            Form::Question | Form::Certificate => Some(5),
-            Form::Kernel => Some(3),
-        },
-        Kind::Sigma => match form {
-            Form::Question | Form::Certificate => Some(6),
-            Form::Kernel => None,
-        },
-        Kind::G => match form {
-            Form::Question => None,
-            Form::Certificate => Some(7),
-            Form::Kernel => Some(4),
-        },
-        Kind::N => match form {
-            Form::Question => None,
-            Form::Certificate => Some(d + 8),
-            Form::Kernel => None,
-        },
-        Kind::Abscissas => match form {
-            Form::Question => None,
-            Form::Certificate => Some(3 * d + 10),
-            Form::Kernel => None,
-        },
-        Kind::End => match form {
-            Form::Question => Some(7),
-            Form::Certificate => Some(3 * d + 11),
-            Form::Kernel => Some(d + 5),
-        },
-    }
+    let (start, rise) = places_of(form)[u32::from(kind) as usize]?;
+    Some(usize::from(start) + usize::from(rise) * d)
 }
 
 // The kind of a word, as a number: on a sheet it may be that of no kind.
