@@ -1,7 +1,7 @@
 #!/usr/bin/env python3
 """Counts the places of an older form in the crates' src/: one line for each rule of docs/DESIGN-PASS.md, and with --list each place.
 
-usage: tools/places.py [--list] [FOLDER]"""
+usage: tools/design_places.py [--list] [FOLDER]"""
 import argparse
 import glob
 import os

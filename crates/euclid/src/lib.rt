@@ -26,11 +26,11 @@ pub fn multiply(c: u64, x: u64, m: Modulus) -> u64
 }
 
 // -x
-pub fn negate(x: u64, m: Modulus) -> u64
-    requires { x < m.p }
-    ensures { Residue m.p (minus m.p (mk m.p x)) result }
+pub fn negate(x: u64, p: u32) -> u64
+    requires { x < p }
+    ensures { Residue p (minus p (mk p x)) result }
 {
-    u64::from(field::negate(x as u32, m.p))
+    u64::from(field::negate(x as u32, p))
 }
 
 // c x + z y
@@ -110,8 +110,8 @@ fn cancel_two(a: &mut [u64], b: &[u64], m: Modulus)
     let a1 = a[k];
     let a0 = a[k - 1];
     let c = multiply(b1, b1, m);
-    let y = multiply(negate(a1, m), b1, m);
-    let z = two_products(a1, b0, negate(a0, m), b1, m);
+    let y = multiply(negate(a1, m.p), b1, m);
+    let z = two_products(a1, b0, negate(a0, m.p), b1, m);
     add_multiple(&mut a[..k], b, c, y, z, m);
     a[k] = 0;
 }
@@ -122,7 +122,7 @@ fn cancel_one(a: &mut [u64], b: &[u64], m: Modulus)
     ensures { PseudoRemainder m.p (length a.old - 1) (poly m.p b.now) (poly m.p a.old) a.new }
 {
     let k = b.len() - 1;
-    let a1 = negate(a[k], m);
+    let a1 = negate(a[k], m.p);
     combine(a, b, b, b[k], a1, 0, m);
 }
 

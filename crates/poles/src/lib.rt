@@ -78,8 +78,8 @@ fn cancel_two(t: &mut [u64], u: &[u64], len: usize, row: Row, below: Row, m: Mod
         × (poly m.p t.new ≡ cancelling m.p row.top row.next below.top below.next (poly m.p t.old) (poly m.p u.now)) }
 {
     let c = euclid::multiply(below.top, below.top, m);
-    let y = euclid::multiply(euclid::negate(row.top, m), below.top, m);
-    let opposite = euclid::negate(row.next, m);
+    let y = euclid::multiply(euclid::negate(row.top, m.p), below.top, m);
+    let opposite = euclid::negate(row.next, m.p);
     let z = euclid::two_products(row.top, below.next, opposite, below.top, m);
     combine(t, u, len, 0, c, y, z, m);
 }
@@ -112,7 +112,7 @@ fn cancel(t: &mut [u64], u: &[u64], len: usize, s: usize, b: u64, w: u64, m: Mod
         × (poly m.p t.new ≡ combination (Zmod m.p) s (mk m.p b) (mk m.p 0) (minus m.p (mk m.p w))
         (poly m.p t.old) (poly m.p u.now)) }
 {
-    combine(t, u, len, s, b, 0, euclid::negate(w, m), m);
+    combine(t, u, len, s, b, 0, euclid::negate(w, m.p), m);
 }
 
 // Where u's remainder has a degree that is lower than t's by more than one, one coefficient of the latter is cancelled after the other.

@@ -7,4 +7,4 @@ use Rattle.euclid.proofs.negate.Goals as goal
 pub returns : goal.returns
 returns c =
     let a = c.args in
-    subst (Residue a.m.p (minus a.m.p (mk a.m.p a.x))) (sym c.from.ensures) c.negate.ensures
+    subst (Residue a.p (minus a.p (mk a.p a.x))) (sym c.from.ensures) c.negate.ensures
