@@ -2,6 +2,8 @@ pub mod Sums
 pub mod Horner
 pub mod Degree
 pub mod Begin
+pub mod Step
 pub mod State
+pub mod Turns
 pub mod Sizes
 pub mod Composite
