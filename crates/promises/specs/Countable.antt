@@ -9,6 +9,7 @@ use Rattle.zmod.specs.Residues.{poly}
 use Rattle.isogeny.specs.Rules.{R1}
 use Rattle.roots.specs.Rational.{rational_roots}
 use Rattle.barrett.specs.declared.prepared.Modulus.{Modulus}
+use Rattle.barrett.specs.Modulus.{Prepared, prepared}
 use Rattle.sheet.specs.declared.Values.{Values}
 use Rattle.sheet.specs.Values.{question}
 use Rattle.sheet.specs.Ready.{Ready, HoldsG, half_least, half_most}
@@ -18,14 +19,18 @@ use Rattle.promises.specs.Abscissas.{rational_abscissas_of, monic}
 
 module _ (v : Values) (ready : Ready v) (g : List ℕ) (words : HoldsG v g) (r1 : R1 (Zmod v.p) (question v) (poly v.p g))
     (m : Modulus) (over : Over v m) where
-  pub countable : Prime m.p × (Divisor m.p g) × (2 ≤ length g) × (length g ≤ 128)
-  countable = (
+  -- what `counting::roots` asks
+  pub roots_ask : Prime m.p × (Divisor m.p g) × (2 ≤ length g) × (length g ≤ 128)
+  roots_ask = (
     subst Prime (sym over.same) ready.prime.prime,
     subst (λ p. Divisor p g) (sym over.same)
         (record { reduced = words.reduced; some = omega (arith, words.count); monic = monic v ready g words r1 }),
     omega (arith, words.count, half_least v ready),
     omega (arith, words.count, half_most v ready),
   )
+
+  pub countable : Prime m.p × Prepared m × (Divisor m.p g) × (2 ≤ length g) × (length g ≤ 128)
+  countable = (roots_ask.0, prepared m, roots_ask.1, roots_ask.2, roots_ask.3)
 
   pub counted_on_sheet : (r : ℕ) → r ≡ rational_roots m.p (length g) (poly m.p g) → r ≡ rational_abscissas_of v g
   counted_on_sheet r e = e ∙ ap (λ p. rational_roots p (length g) (poly p g)) over.same

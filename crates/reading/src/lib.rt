@@ -141,6 +141,7 @@ fn exact(form: Form, v: Values, ws: &[u32]) -> bool
     if ws.len() != end + 1 {
         return false;
     }
+    // kind 15 and value 0, in one comparison
     if ws[end] != 0xF0000000 {
         return false;
     }

@@ -39,6 +39,8 @@ pub fn push(bytes: &[u8], point: u64) -> Result<Point, Refusal>
     services::push(kept(bytes, &mut room)?, encoding::point_of(point))
 }
 
+// `solve` and `kernel` differ in the service alone; one function for both would have to say what a service may be lent and what it leaves, which is more than
+// the lines that they share.
 pub fn solve(bytes: &[u8], answer: &mut [u32]) -> Result<u32, Refusal>
     ensures { SolveAnswer bytes.now answer.old answer.new result }
 {

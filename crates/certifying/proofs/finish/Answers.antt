@@ -3,7 +3,7 @@
 use Rattle.std.proofs.Common.{not, ap, arith, drop, refl, ◌++◌, ◌∙◌}
 use Rattle.certificate.specs.Certificate.{certificate}
 use Rattle.promises.specs.Abscissas.{abscissas_fit}
-use Rattle.promises.specs.Countable.{countable, counted_on_sheet}
+use Rattle.promises.specs.Countable.{roots_ask, counted_on_sheet}
 use Rattle.certifying.proofs.Rules.{refused, meets}
 use Rattle.certifying.proofs.finish.Goals as goal
 
@@ -19,7 +19,7 @@ returns-then-not-holds c =
 pub roots-abscissas-requires : goal.roots-abscissas-requires
 roots-abscissas-requires c =
     let a = c.args in
-    countable a.v c.requires.ready.0 a.g.now c.requires.holds_g.0 c.requires.holds_g.1 a.m c.requires.ready.1
+    roots_ask a.v c.requires.ready.0 a.g.now c.requires.holds_g.0 c.requires.holds_g.1 a.m c.requires.ready.1
 
 pub write-words-requires : goal.write-words-requires
 write-words-requires c =

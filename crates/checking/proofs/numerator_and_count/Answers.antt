@@ -1,7 +1,7 @@
 -- `checking::numerator_and_count` meets its contract.
 -- Assumes nothing.
 use Rattle.std.proofs.Common.{not, ap, eq-eqb, eqb-true, sym, ◌∙◌}
-use Rattle.promises.specs.Countable.{countable, counted_on_sheet}
+use Rattle.promises.specs.Countable.{roots_ask, counted_on_sheet}
 use Rattle.questions.specs.Tests.{says_no, refuted, shown}
 use Rattle.checking.proofs.numerator_and_count.Goals as goal
 
@@ -12,7 +12,7 @@ returns-then-not-same_numerator c =
 pub roots-requires : goal.roots-requires
 roots-requires c =
     let a = c.args in
-    countable a.v c.requires.ready.0 a.g.now c.requires.ready.1 c.requires.holds_n.1 a.m c.requires.ready.2
+    roots_ask a.v c.requires.ready.0 a.g.now c.requires.ready.1 c.requires.holds_n.1 a.m c.requires.ready.2
 
 pub returns : goal.returns
 returns c =
