@@ -9,7 +9,6 @@ use Rattle.zmod.specs.Residues.{poly}
 use Rattle.isogeny.specs.Rules.{R1}
 use Rattle.roots.specs.Rational.{rational_roots}
 use Rattle.barrett.specs.declared.prepared.Modulus.{Modulus}
-use Rattle.barrett.specs.Modulus.{Prepared}
 use Rattle.sheet.specs.declared.Values.{Values}
 use Rattle.sheet.specs.Values.{question}
 use Rattle.sheet.specs.Ready.{Ready, HoldsG, half_least, half_most}
@@ -19,10 +18,9 @@ use Rattle.promises.specs.Abscissas.{rational_abscissas_of, monic}
 
 module _ (v : Values) (ready : Ready v) (g : List ℕ) (words : HoldsG v g) (r1 : R1 (Zmod v.p) (question v) (poly v.p g))
     (m : Modulus) (over : Over v m) where
-  pub countable : Prime m.p × Prepared m × (Divisor m.p g) × (2 ≤ length g) × (length g ≤ 128)
+  pub countable : Prime m.p × (Divisor m.p g) × (2 ≤ length g) × (length g ≤ 128)
   countable = (
     subst Prime (sym over.same) ready.prime.prime,
-    over.prepared,
     subst (λ p. Divisor p g) (sym over.same)
         (record { reduced = words.reduced; some = omega (arith, words.count); monic = monic v ready g words r1 }),
     omega (arith, words.count, half_least v ready),

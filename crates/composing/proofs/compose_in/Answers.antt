@@ -1,6 +1,5 @@
 -- `composing::compose_in` meets its contract. Assumes nothing.
 use Rattle.std.proofs.Common.{List, ap, arith, length, subst, sym, true, ℕ, ◌*◌, ◌+◌, ◌<◌, ◌^◌, ◌↔◌, ◌∙◌, ◌≡◌}
-use Rattle.barrett.specs.Modulus.{prepared}
 use Rattle.zmod.specs.Zmod.{Zmod}
 use Rattle.zmod.specs.Residues.{Reduced, Residues, poly}
 use Rattle.isogeny.specs.Rules.{N, R1, R3}
@@ -51,8 +50,7 @@ composite-requires c =
     in
     let a = c.args in
     let over-p : (xs : List ℕ) → Reduced a.v.p xs → Reduced c.new-m.result.p xs = λ xs. subst (λ p. Reduced p xs) (sym (same-p)) in record {
-      prepared = (
-        prepared _,
+      p_bound = (
         omega (arith, same-p, ready.prime.least),
         over-p a.n1.now c.requires.joined.n₁_words.reduced,
         over-p a.g1.now c.requires.joined.g₁_words.reduced,
@@ -91,7 +89,7 @@ numerator-requires c =
     both_ready a.v a.w a.g1.now a.n1.now a.g2.now c.requires.joined
     in
     let over : Over (joint) c.new-m.result =
-    record { prepared = prepared _; same = same-p }
+    record { same = same-p }
     in
     record {
       ready = subst (λ (u : Values). Ready u × HoldsG u c.composite.new.out × Over u c.new-m.result) (sym (values_are)) (ready, g_words, over);
@@ -122,7 +120,7 @@ finish-requires c =
     both_ready a.v a.w a.g1.now a.n1.now a.g2.now c.requires.joined
     in
     let over : Over (joint) c.new-m.result =
-    record { prepared = prepared _; same = same-p }
+    record { same = same-p }
     in
     let n_is : Residues joint.p
     (N (Zmod joint.p) (question (joint))

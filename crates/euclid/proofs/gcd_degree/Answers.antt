@@ -1,6 +1,7 @@
 -- `euclid::gcd_degree` meets its contract. The invariant: the greatest common divisors of the words that are left are some of those before the loop.
 -- Assumes nothing.
-use Rattle.std.proofs.Common.{List, ap, arith, drop, length, length-append, length-drop, length-take, length-take-le, refl, rules, subst, sym, take, ℕ, ◌++◌, ◌∙◌, ◌≡◌}
+use Rattle.std.proofs.Common.{List, ap, arith, drop, length, refl, rules, subst, sym, take, ℕ, ◌++◌, ◌∙◌, ◌≡◌}
+use Rattle.std.proofs.Common.{length-append, length-drop, length-take, length-take-le}
 use lib.Seq.{take-length, take-append-le}
 use Rattle.euclid.specs.Words.{Leads, trimmed_leads}
 use Rattle.euclid.specs.Euclid.{pseudo_degree, reached_first, reached_end, reached_between, reached_next}

@@ -1,6 +1,5 @@
 -- `solution::solve_in` meets its contract. Assumes nothing.
 use Rattle.std.proofs.Common.{arith, length, length-take, rules, subst, sym, ◌%◌, ◌-◌, ◌∙◌, ◌≡◌}
-use Rattle.barrett.specs.Modulus.{prepared}
 use Rattle.sheet.specs.Values.{half}
 use Rattle.sheet.specs.Ready.{HoldsG, degree_half}
 use Rattle.promises.specs.Numerators.{numerator_words}
@@ -24,7 +23,7 @@ numerator-requires c =
     record { count = omega (arith, c.candidate.auto, c.requires.n_len); reduced = c.candidate.ensures.reduced }
     in
     let m = c.new-m.ensures in record {
-      ready = (c.requires.ready, g_words, record { prepared = prepared _; same = m });
+      ready = (c.requires.ready, g_words, record { same = m });
       out_len = omega (arith, degree_half c.args.v c.requires.ready, c.candidate.auto, c.requires.n_len);
     }
 
@@ -40,7 +39,7 @@ rule_three_from-holds-requires c =
     let made = c.candidate in
     let m = c.new-m.ensures in
     let d : length made.new.g - 1 ≡ half v = omega (arith, made.auto, c.requires.n_len) in record {
-      ready = (c.requires.ready, record { prepared = prepared _; same = m });
+      ready = (c.requires.ready, record { same = m });
       holds_g = (g_words, made.ensures.r1);
       holds_n = n_words;
       degree_in_bounds = (
@@ -70,7 +69,7 @@ finish-requires c =
     numerator_words c.args.v c.requires.ready c.candidate.new.g c.numerator.new.out g_words
     (omega (arith, degree_half c.args.v c.requires.ready, c.candidate.auto, c.numerator.auto, c.requires.n_len)) c.numerator.ensures in
     let m = c.new-m.ensures in record {
-      ready = (c.requires.ready, record { prepared = prepared _; same = m });
+      ready = (c.requires.ready, record { same = m });
       holds_g = (g_words, c.candidate.ensures.r1);
       holds_n = n_words;
       variant = c.rule_three_from-holds.ensures;
