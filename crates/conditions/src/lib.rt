@@ -7,56 +7,52 @@ ghost use Rattle.zmod.specs.Residues.{Reduced, poly};
 ghost use Rattle.isogeny.specs.Rules.{N, R1, R3};
 ghost use Rattle.isogeny.specs.Expansion.{Short};
 ghost use Rattle.sheet.specs.Values.{half, question};
-ghost use Rattle.rules.specs.Over.{Over};
 ghost use Rattle.expansion.specs.Begun.{ShortTo, Begun};
-ghost use Rattle.sheet.specs.Ready.{Ready, HoldsG};
+ghost use Rattle.sheet.specs.Ready.{HoldsG};
 
-use barrett::Modulus;
-use sheet::Values;
+use accepted::Accepted;
 
 // Are 5h₁ = A - Ã and 7h₂ = B - B̃? Nothing is asked where they are known to be.
-fn begins(v: Values, h: &[u32], known: usize) -> bool
-    requires { (Ready v) × (3 ≤ length h.now) × ShortTo (Zmod v.p) (question v) known (poly v.p h.now) }
-    ensures { (result ≡ true) ↔ ShortTo (Zmod v.p) (question v) 3 (poly v.p h.now) }
+fn begins(v: Accepted, h: &[u32], known: usize) -> bool
+    requires { (3 ≤ length h.now) × ShortTo (Zmod v.values.p) (question v.values) known (poly v.values.p h.now) }
+    ensures { (result ≡ true) ↔ ShortTo (Zmod v.values.p) (question v.values) 3 (poly v.values.p h.now) }
 {
     if 3 <= known {
         return true;
     }
-    let p = v.p;
-    if field::multiply(5, h[1], p) != field::subtract(v.a, v.atilde, p) {
+    let p = v.values.p;
+    if field::multiply(5, h[1], p) != field::subtract(v.values.a, v.values.atilde, p) {
         return false;
     }
-    field::multiply(7, h[2], p) == field::subtract(v.b, v.btilde, p)
+    field::multiply(7, h[2], p) == field::subtract(v.values.b, v.values.btilde, p)
 }
 
 // Does h, whose terms before `known` do, begin so and obey the recurrence? e, acc and squares are room for that.
 fn conditions(
-    v: Values,
-    m: Modulus,
+    v: Accepted,
     h: &[u32],
     known: usize,
     e: &mut [u64],
     acc: &mut [u64],
     squares: &mut [u32],
 ) -> bool
-    requires ready { (Ready v) × Over v m × (length h.now ≡ v.degree + 1) × (Reduced v.p h.now) }
-    requires squares_len { (length squares.old ≡ v.degree - 2) × (length squares.old ≤ length acc.old) × (v.degree + 6 ≤ length e.old) }
-    requires known_le_degree { (known ≤ v.degree) × ShortTo (Zmod v.p) (question v) known (poly v.p h.now) }
-    ensures { (result ≡ true) ↔ Short (Zmod v.p) (question v) (poly v.p h.now) }
+    requires h_words { (length h.now ≡ v.values.degree + 1) × (Reduced v.values.p h.now) }
+    requires squares_len { (length squares.old ≡ v.values.degree - 2) × (length squares.old ≤ length acc.old) × (v.values.degree + 6 ≤ length e.old) }
+    requires known_le_degree { (known ≤ v.values.degree) × ShortTo (Zmod v.values.p) (question v.values) known (poly v.values.p h.now) }
+    ensures { (result ≡ true) ↔ Short (Zmod v.values.p) (question v.values) (poly v.values.p h.now) }
 {
     if !begins(v, h, known) {
         return false;
     }
     let k = squares.len();
     let from = known.max(3);
-    expansion::recurs(v, m, h, from, e, &mut acc[..k], squares)
+    expansion::recurs(v, h, from, e, &mut acc[..k], squares)
 }
 
 // Does R3 hold? s takes the power sums, h the expansion, of both of which the beginning may be there already, and squares the sums of the recurrence; e and
 // acc are room for all of them.
 pub fn by_expansion_in(
-    v: Values,
-    m: Modulus,
+    v: Accepted,
     g: &[u32],
     e: &mut [u64],
     acc: &mut [u64],
@@ -65,15 +61,15 @@ pub fn by_expansion_in(
     squares: &mut [u32],
     known: usize,
 ) -> bool
-    requires ready { (Ready v) × Over v m × (3 * v.degree - 3 < v.p) }
-    requires holds_g { HoldsG v g.now × R1 (Zmod v.p) (question v) (poly v.p g.now) }
-    requires degree_in_bounds { (v.degree + 2 ≤ length s.old) × (length s.old ≤ 257) × (length s.old % 4 ≡ 1) × (length acc.old ≡ length s.old) }
-    requires h_len { (length h.old ≡ v.degree + 1) × (length squares.old ≡ v.degree - 2) × (v.degree + 6 ≤ length e.old) }
-    requires known_bound { (known ≤ half v) × Begun v g.now s.old h.old known }
-    ensures { (result ≡ true) ↔ (R3 (Zmod v.p) (question v) (poly v.p g.now)
-        (N (Zmod v.p) (question v) (poly v.p g.now))) }
+    requires large { 3 * v.values.degree - 3 < v.values.p }
+    requires holds_g { HoldsG v.values g.now × R1 (Zmod v.values.p) (question v.values) (poly v.values.p g.now) }
+    requires degree_in_bounds { (v.values.degree + 2 ≤ length s.old) × (length s.old ≤ 257) × (length s.old % 4 ≡ 1) × (length acc.old ≡ length s.old) }
+    requires h_len { (length h.old ≡ v.values.degree + 1) × (length squares.old ≡ v.values.degree - 2) × (v.values.degree + 6 ≤ length e.old) }
+    requires known_bound { (known ≤ half v.values) × Begun v.values g.now s.old h.old known }
+    ensures { (result ≡ true) ↔ (R3 (Zmod v.values.p) (question v.values) (poly v.values.p g.now)
+        (N (Zmod v.values.p) (question v.values) (poly v.values.p g.now))) }
 {
     power_sums::power_sums(v, g, e, acc, s, known);
     expansion::expansion(v, s, h, known);
-    conditions(v, m, h, known, e, acc, squares)
+    conditions(v, h, known, e, acc, squares)
 }

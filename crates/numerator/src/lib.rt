@@ -7,17 +7,14 @@ ghost use Rattle.zmod.specs.Zmod.{Zmod};
 ghost use Rattle.zmod.specs.Residues.{poly, Residues};
 ghost use Rattle.isogeny.specs.Rules.{N};
 ghost use Rattle.sheet.specs.Values.{half, question};
-ghost use Rattle.sheet.specs.Ready.{Ready, HoldsG};
-ghost use Rattle.rules.specs.Over.{Over};
+ghost use Rattle.sheet.specs.Ready.{HoldsG};
 ghost use Rattle.rules.specs.Products.{Products};
 
-use barrett::Modulus;
-use sheet::Values;
+use accepted::Accepted;
 
 // g², -2gg' and -4(gg'' - g'²), from two squares: with s = -(g²)' the last one is 2s' + 8g'². h takes g' and q its square; e and acc are the squares' room.
 pub fn products(
-    v: Values,
-    m: Modulus,
+    v: Accepted,
     g: &[u32],
     e: &mut [u64],
     acc: &mut [u64],
@@ -27,23 +24,24 @@ pub fn products(
     slope: &mut [u32],
     bend: &mut [u32],
 )
-    requires ready { (Ready v) × HoldsG v g.now × Over v m }
-    requires e_len { (length e.old ≡ half v + 7) × (length acc.old ≡ 2 * half v + 1) × (length h.old ≡ half v) × (length q.old ≡ 2 * half v + 1) }
-    requires square_len { (length square.old ≡ 2 * half v + 1) × (length slope.old ≡ 2 * half v) × (length bend.old ≡ 2 * half v - 1) }
-    ensures { Products v.p (poly v.p g.now) square.new slope.new bend.new }
+    requires holds_g { HoldsG v.values g.now }
+    requires e_len { (length e.old ≡ half v.values + 7) × (length acc.old ≡ 2 * half v.values + 1) × (length h.old ≡ half v.values)
+        × (length q.old ≡ 2 * half v.values + 1) }
+    requires square_len { (length square.old ≡ 2 * half v.values + 1) × (length slope.old ≡ 2 * half v.values) × (length bend.old ≡ 2 * half v.values - 1) }
+    ensures { Products v.values.p (poly v.values.p g.now) square.new slope.new bend.new }
 {
-    poly::square(g, e, acc, square, m);
-    rules::slope_of(square, slope, v.p);
-    poly::derivative(g, h, v.p);
-    poly::square(h, e, acc, q, m);
-    rules::bend_of(slope, q, bend, v.p);
+    poly::square(g, e, acc, square, v.modulus);
+    rules::slope_of(square, slope, v.values.p);
+    poly::derivative(g, h, v.values.p);
+    poly::square(h, e, acc, q, v.modulus);
+    rules::bend_of(slope, q, bend, v.values.p);
 }
 
 // The N that R2 gives, where the products have room of SIZE words each.
-fn numerator_sized<const SIZE: usize>(v: Values, m: Modulus, g: &[u32], out: &mut [u32])
-    requires ready { (Ready v) × HoldsG v g.now × Over v m }
-    requires room { (v.degree + 6 ≤ SIZE) × (SIZE ≤ 264) }
-    ensures { Residues v.p (N (Zmod v.p) (question v) (poly v.p g.now)) out.new }
+fn numerator_sized<const SIZE: usize>(v: Accepted, g: &[u32], out: &mut [u32])
+    requires holds_g { HoldsG v.values g.now }
+    requires room { (v.values.degree + 6 ≤ SIZE) × (SIZE ≤ 264) }
+    ensures { Residues v.values.p (N (Zmod v.values.p) (question v.values) (poly v.values.p g.now)) out.new }
 {
     let d = g.len() - 1;
     let mut e = [0u64; SIZE];
@@ -58,7 +56,6 @@ fn numerator_sized<const SIZE: usize>(v: Values, m: Modulus, g: &[u32], out: &mu
     let bend = &mut bend[..2 * d - 1];
     products(
         v,
-        m,
         g,
         &mut e[..d + 7],
         &mut acc[..2 * d + 1],
@@ -72,16 +69,16 @@ fn numerator_sized<const SIZE: usize>(v: Values, m: Modulus, g: &[u32], out: &mu
 }
 
 // The N that R2 gives, in room of three sizes, so that small degrees clear little: for ℓ up to 21, up to 79, and for all.
-pub fn numerator(v: Values, m: Modulus, g: &[u32], out: &mut [u32])
-    requires ready { (Ready v) × HoldsG v g.now × Over v m }
-    requires out_len { length out.old ≡ 2 * half v + 2 }
-    ensures { Residues v.p (N (Zmod v.p) (question v) (poly v.p g.now)) out.new }
+pub fn numerator(v: Accepted, g: &[u32], out: &mut [u32])
+    requires holds_g { HoldsG v.values g.now }
+    requires out_len { length out.old ≡ 2 * half v.values + 2 }
+    ensures { Residues v.values.p (N (Zmod v.values.p) (question v.values) (poly v.values.p g.now)) out.new }
 {
-    if v.degree <= 21 {
-        numerator_sized::<28>(v, m, g, out)
-    } else if v.degree <= 79 {
-        numerator_sized::<88>(v, m, g, out)
+    if v.values.degree <= 21 {
+        numerator_sized::<28>(v, g, out)
+    } else if v.values.degree <= 79 {
+        numerator_sized::<88>(v, g, out)
     } else {
-        numerator_sized::<264>(v, m, g, out)
+        numerator_sized::<264>(v, g, out)
     }
 }

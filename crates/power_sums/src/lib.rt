@@ -7,13 +7,13 @@ ghost use Rattle.zmod.specs.Zmod.{Zmod, mk};
 ghost use Rattle.zmod.specs.Residues.{Residue, Reduced, poly, Residues};
 ghost use Rattle.isogeny.specs.Expansion.{power_sums_of};
 ghost use Rattle.sheet.specs.Values.{half};
-ghost use Rattle.sheet.specs.Ready.{Ready, HoldsG};
+ghost use Rattle.sheet.specs.Ready.{HoldsG};
 ghost use Rattle.rows.specs.Rows.{Four};
 ghost use Rattle.expansion.specs.Equations.{ReducedTo};
 ghost use Rattle.expansion.specs.Begun.{KnownSums};
 ghost use Rattle.power_sums.specs.Sums.{Negated, Backwards, Weights, most_due, Due, Known};
 
-use sheet::Values;
+use accepted::Accepted;
 
 // e = -c₁, -c₂, .., -c_d, where c is g reversed; then zeros.
 fn negated(g: &[u32], e: &mut [u64], p: u32)
@@ -125,17 +125,24 @@ fn sums_turns(e: &[u64], d: usize, acc: &mut [u64], s: &mut [u32], from: usize, 
 }
 
 // s = the power sums of g's roots, each counted twice, where those up to `known` stand there already; e is room for g and acc for the sums.
-pub fn power_sums(v: Values, g: &[u32], e: &mut [u64], acc: &mut [u64], s: &mut [u32], known: usize)
-    requires ready { (Ready v) × HoldsG v g.now }
-    requires s_len_bound { (length s.old ≤ 257) × (length s.old % 4 ≡ 1) × (length acc.old ≡ length s.old) × (half v + 3 ≤ length e.old) }
-    requires known_bound { (known ≤ half v) × (known < length s.old) × KnownSums v g.now s.old known }
-    ensures { Residues v.p (power_sums_of (Zmod v.p) (half v) (poly v.p g.now)) s.new }
+pub fn power_sums(
+    v: Accepted,
+    g: &[u32],
+    e: &mut [u64],
+    acc: &mut [u64],
+    s: &mut [u32],
+    known: usize,
+)
+    requires holds_g { HoldsG v.values g.now }
+    requires s_len_bound { (length s.old ≤ 257) × (length s.old % 4 ≡ 1) × (length acc.old ≡ length s.old) × (half v.values + 3 ≤ length e.old) }
+    requires known_bound { (known ≤ half v.values) × (known < length s.old) × KnownSums v.values g.now s.old known }
+    ensures { Residues v.values.p (power_sums_of (Zmod v.values.p) (half v.values) (poly v.values.p g.now)) s.new }
 {
     let d = g.len() - 1;
-    let p = v.p;
+    let p = v.values.p;
     negated(g, e, p);
     weights(e, d, acc);
-    s[0] = field::reduce(u64::from(v.degree - 1), p);
+    s[0] = field::reduce(u64::from(v.values.degree - 1), p);
     let from = known / 4 * 4 + 1;
     known_rows(e, d, acc, s, from, p);
     sums_turns(e, d, acc, s, from, p);

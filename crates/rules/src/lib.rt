@@ -8,11 +8,11 @@ ghost use Rattle.zmod.specs.Zmod.{Zmod, mk, minus, times};
 ghost use Rattle.zmod.specs.Residues.{Residue, Reduced, poly, Residues};
 ghost use Rattle.isogeny.specs.Rules.{N, linear_part_of, first_logarithmic_part_of, second_logarithmic_part_of, R1};
 ghost use Rattle.sheet.specs.Values.{half, question};
-ghost use Rattle.sheet.specs.Ready.{Ready, HoldsG};
+ghost use Rattle.sheet.specs.Ready.{HoldsG};
 ghost use Rattle.rules.specs.Numerator.{minus_slope, minus_bend, bend_from};
 ghost use Rattle.rules.specs.Products.{Products};
 
-use sheet::Values;
+use accepted::Accepted;
 
 // ── R1
 
@@ -25,15 +25,15 @@ fn minus_twice(x: u32, p: u32) -> u32
 }
 
 // Does g meet R1?
-pub fn rule_one(v: Values, g: &[u32]) -> bool
-    requires { (Ready v) × HoldsG v g.now }
-    ensures { (result ≡ true) ↔ (R1 (Zmod v.p) (question v) (poly v.p g.now)) }
+pub fn rule_one(v: Accepted, g: &[u32]) -> bool
+    requires { HoldsG v.values g.now }
+    ensures { (result ≡ true) ↔ (R1 (Zmod v.values.p) (question v.values) (poly v.values.p g.now)) }
 {
     let d = g.len() - 1;
     if g[d] != 1 {
         return false;
     }
-    minus_twice(g[d - 1], v.p) == v.sigma
+    minus_twice(g[d - 1], v.values.p) == v.values.sigma
 }
 
 // ── R2
@@ -95,15 +95,15 @@ fn back(a: &[u32], j: usize, k: usize) -> u32
 }
 
 // The part of ℓx - σ: a number in the class of the coefficient k of (ℓx - σ)g², from g².
-pub fn linear_part(v: Values, square: &[u32], k: usize) -> u64
-    requires { (Ready v) × (Reduced v.p square.now) }
-    ensures result_value { (g : Seq (Zmod v.p)) → poly v.p square.now ≡ conv (Zmod v.p) g g
-        → mk v.p result ≡ linear_part_of (Zmod v.p) (question v) g k }
+pub fn linear_part(v: Accepted, square: &[u32], k: usize) -> u64
+    requires { Reduced v.values.p square.now }
+    ensures result_value { (g : Seq (Zmod v.values.p)) → poly v.values.p square.now ≡ conv (Zmod v.values.p) g g
+        → mk v.values.p result ≡ linear_part_of (Zmod v.values.p) (question v.values) g k }
     ensures upper_bound { result < 2 ^ 62 }
 {
-    let minus_sigma = field::negate(v.sigma, v.p);
+    let minus_sigma = field::negate(v.values.sigma, v.values.p);
     field::combination(
-        v.degree,
+        v.values.degree,
         back(square, 1, k),
         minus_sigma,
         rows::word(square, k),
@@ -113,49 +113,49 @@ pub fn linear_part(v: Values, square: &[u32], k: usize) -> u64
 }
 
 // The part of D'/D: the same of -2(3x² + A)gg', from -2gg'.
-pub fn first_logarithmic_part(v: Values, slope: &[u32], k: usize) -> u64
-    requires { (Ready v) × (Reduced v.p slope.now) }
-    ensures result_value { (g : Seq (Zmod v.p)) → poly v.p slope.now ≡ minus_slope (Zmod v.p) g
-        → mk v.p result ≡ first_logarithmic_part_of (Zmod v.p) (question v) g k }
+pub fn first_logarithmic_part(v: Accepted, slope: &[u32], k: usize) -> u64
+    requires { Reduced v.values.p slope.now }
+    ensures result_value { (g : Seq (Zmod v.values.p)) → poly v.values.p slope.now ≡ minus_slope (Zmod v.values.p) g
+        → mk v.values.p result ≡ first_logarithmic_part_of (Zmod v.values.p) (question v.values) g k }
     ensures upper_bound { result < 2 ^ 62 }
 {
-    field::combination(3, back(slope, 2, k), v.a, rows::word(slope, k), 0, 0)
+    field::combination(3, back(slope, 2, k), v.values.a, rows::word(slope, k), 0, 0)
 }
 
 // The part of (D'/D)': the same of -4f(gg'' - g'²), from -4(gg'' - g'²).
-pub fn second_logarithmic_part(v: Values, bend: &[u32], k: usize) -> u64
-    requires { (Ready v) × (Reduced v.p bend.now) }
-    ensures result_value { (g : Seq (Zmod v.p)) → poly v.p bend.now ≡ minus_bend (Zmod v.p) g
-        → mk v.p result ≡ second_logarithmic_part_of (Zmod v.p) (question v) g k }
+pub fn second_logarithmic_part(v: Accepted, bend: &[u32], k: usize) -> u64
+    requires { Reduced v.values.p bend.now }
+    ensures result_value { (g : Seq (Zmod v.values.p)) → poly v.values.p bend.now ≡ minus_bend (Zmod v.values.p) g
+        → mk v.values.p result ≡ second_logarithmic_part_of (Zmod v.values.p) (question v.values) g k }
     ensures upper_bound { result < 2 ^ 62 }
 {
     field::combination(
         1,
         back(bend, 3, k),
-        v.a,
+        v.values.a,
         back(bend, 1, k),
-        v.b,
+        v.values.b,
         rows::word(bend, k),
     )
 }
 
 // The coefficient k of N: the three parts, in the order of (13), and one remainder.
-fn coefficient(v: Values, square: &[u32], slope: &[u32], bend: &[u32], k: usize) -> u32
-    requires { (Ready v) × (Reduced v.p square.now) × (Reduced v.p slope.now) × (Reduced v.p bend.now) }
-    ensures { (g : Seq (Zmod v.p)) → Products v.p g square.now slope.now bend.now
-        → Residue v.p (N (Zmod v.p) (question v) g k) result }
+fn coefficient(v: Accepted, square: &[u32], slope: &[u32], bend: &[u32], k: usize) -> u32
+    requires { (Reduced v.values.p square.now) × (Reduced v.values.p slope.now) × (Reduced v.values.p bend.now) }
+    ensures { (g : Seq (Zmod v.values.p)) → Products v.values.p g square.now slope.now bend.now
+        → Residue v.values.p (N (Zmod v.values.p) (question v.values) g k) result }
 {
     let linear = linear_part(v, square, k);
     let first = first_logarithmic_part(v, slope, k);
     let second = second_logarithmic_part(v, bend, k);
-    field::reduce(linear + first + second, v.p)
+    field::reduce(linear + first + second, v.values.p)
 }
 
 // out = N
-pub fn sum_of_parts(v: Values, square: &[u32], slope: &[u32], bend: &[u32], out: &mut [u32])
-    requires { (Ready v) × (Reduced v.p square.now) × (Reduced v.p slope.now) × (Reduced v.p bend.now) }
-    ensures { (g : Seq (Zmod v.p)) → Products v.p g square.now slope.now bend.now
-        → Residues v.p (N (Zmod v.p) (question v) g) out.new }
+pub fn sum_of_parts(v: Accepted, square: &[u32], slope: &[u32], bend: &[u32], out: &mut [u32])
+    requires { (Reduced v.values.p square.now) × (Reduced v.values.p slope.now) × (Reduced v.values.p bend.now) }
+    ensures { (g : Seq (Zmod v.values.p)) → Products v.values.p g square.now slope.now bend.now
+        → Residues v.values.p (N (Zmod v.values.p) (question v.values) g) out.new }
 {
     for k in 0..out.len() {
         out[k] = coefficient(v, square, slope, bend, k);

@@ -7,21 +7,20 @@ ghost use Rattle.zmod.specs.Zmod.{Zmod, mk};
 ghost use Rattle.zmod.specs.Residues.{Reduced, poly, Residues};
 ghost use Rattle.isogeny.specs.Rules.{R3, f, left, right};
 ghost use Rattle.sheet.specs.Values.{half, question};
-ghost use Rattle.sheet.specs.Ready.{Ready, HoldsG, HoldsN};
+ghost use Rattle.sheet.specs.Ready.{HoldsG, HoldsN};
 ghost use Rattle.rules.specs.Words.{Whole};
 ghost use Rattle.sides.specs.Sides.{factor, crossed};
 
-use sheet::Values;
+use accepted::Accepted;
 
 // The most coefficients that either side has: 3ℓ + 1, where ℓ is 255.
 const ROOM: usize = 766;
 
 // f = x³ + Ax + B
-fn cubic_words(v: Values) -> [u32; 4]
-    requires { Ready v }
-    ensures { Whole v.p (f (Zmod v.p) (question v)) result }
+fn cubic_words(v: Accepted) -> [u32; 4]
+    ensures { Whole v.values.p (f (Zmod v.values.p) (question v.values)) result }
 {
-    [v.b, v.a, 0, 1]
+    [v.values.b, v.values.a, 0, 1]
 }
 
 // The first n coefficients of a².
@@ -66,19 +65,20 @@ fn add_terms(n: &[u32], s: &[u32], h: &[u32], t: &[u32], b: u32, out: &mut [u32]
 }
 
 // The right side of R3.
-fn right_side(v: Values, g: &[u32], n: &[u32], out: &mut [u32])
-    requires ready { (Ready v) × HoldsG v g.now }
-    requires holds_n { HoldsN v n.now }
-    ensures { Residues v.p (right (Zmod v.p) (question v) (poly v.p g.now) (poly v.p n.now)) out.new }
+fn right_side(v: Accepted, g: &[u32], n: &[u32], out: &mut [u32])
+    requires holds_g { HoldsG v.values g.now }
+    requires holds_n { HoldsN v.values n.now }
+    ensures { Residues v.values.p (right (Zmod v.values.p) (question v.values) (poly v.values.p g.now) (poly v.values.p n.now)) out.new }
 {
+    let p = v.values.p;
     let d = g.len() - 1;
     let i = 2 * d + 1;
     let j = 4 * d + 1;
     let k = 4 * d + 3;
-    let s = square(g, i, v.p);
-    let h = square(&s[..i], j, v.p);
-    let t = square_and(n, &h[..j], k, v.atilde, v.p);
-    add_terms(n, &s[..i], &h[..j], &t[..k], v.btilde, out, v.p);
+    let s = square(g, i, p);
+    let h = square(&s[..i], j, p);
+    let t = square_and(n, &h[..j], k, v.values.atilde, p);
+    add_terms(n, &s[..i], &h[..j], &t[..k], v.values.btilde, out, p);
 }
 
 // w = n'g - 2ng', where dg is to be g' and dn n'.
@@ -93,30 +93,31 @@ fn cross(g: &[u32], n: &[u32], dg: &[u32], dn: &[u32], w: &mut [u32], p: u32)
 }
 
 // The left side of R3.
-fn left_side(v: Values, g: &[u32], n: &[u32], out: &mut [u32])
-    requires ready { (Ready v) × HoldsG v g.now }
-    requires holds_n { HoldsN v n.now }
-    ensures { Residues v.p (left (Zmod v.p) (question v) (poly v.p g.now) (poly v.p n.now)) out.new }
+fn left_side(v: Accepted, g: &[u32], n: &[u32], out: &mut [u32])
+    requires holds_g { HoldsG v.values g.now }
+    requires holds_n { HoldsN v.values n.now }
+    ensures { Residues v.values.p (left (Zmod v.values.p) (question v.values) (poly v.values.p g.now) (poly v.values.p n.now)) out.new }
 {
+    let p = v.values.p;
     let d = g.len() - 1;
     let i = 2 * d + 1;
     let j = 3 * d + 1;
     let k = 6 * d + 1;
-    let dg = derivative(g, d, v.p);
-    let dn = derivative(n, i, v.p);
+    let dg = derivative(g, d, p);
+    let dn = derivative(n, i, p);
     let mut w = [0; ROOM];
-    cross(g, n, &dg[..d], &dn[..i], &mut w[..j], v.p);
-    let ww = square(&w[..j], k, v.p);
+    cross(g, n, &dg[..d], &dn[..i], &mut w[..j], p);
+    let ww = square(&w[..j], k, p);
     let cubic = cubic_words(v);
-    poly::product(&cubic, &ww[..k], out, v.p);
+    poly::product(&cubic, &ww[..k], out, p);
 }
 
 // Does R3 hold? l and r take the two sides, which have 3ℓ + 1 coefficients.
-fn sides_agree(v: Values, g: &[u32], n: &[u32], l: &mut [u32], r: &mut [u32]) -> bool
-    requires ready { (Ready v) × HoldsG v g.now }
-    requires holds_n { HoldsN v n.now }
-    requires l_len { (length l.old ≡ 6 * half v + 4) × (length r.old ≡ 6 * half v + 4) }
-    ensures { (result ≡ true) ↔ (R3 (Zmod v.p) (question v) (poly v.p g.now) (poly v.p n.now)) }
+fn sides_agree(v: Accepted, g: &[u32], n: &[u32], l: &mut [u32], r: &mut [u32]) -> bool
+    requires holds_g { HoldsG v.values g.now }
+    requires holds_n { HoldsN v.values n.now }
+    requires l_len { (length l.old ≡ 6 * half v.values + 4) × (length r.old ≡ 6 * half v.values + 4) }
+    ensures { (result ≡ true) ↔ (R3 (Zmod v.values.p) (question v.values) (poly v.values.p g.now) (poly v.values.p n.now)) }
 {
     left_side(v, g, n, l);
     right_side(v, g, n, r);
@@ -124,10 +125,10 @@ fn sides_agree(v: Values, g: &[u32], n: &[u32], l: &mut [u32], r: &mut [u32]) ->
 }
 
 // Does R3 hold?
-pub fn compare(v: Values, g: &[u32], n: &[u32]) -> bool
-    requires ready { (Ready v) × HoldsG v g.now }
-    requires holds_n { HoldsN v n.now }
-    ensures { (result ≡ true) ↔ (R3 (Zmod v.p) (question v) (poly v.p g.now) (poly v.p n.now)) }
+pub fn compare(v: Accepted, g: &[u32], n: &[u32]) -> bool
+    requires holds_g { HoldsG v.values g.now }
+    requires holds_n { HoldsN v.values n.now }
+    ensures { (result ≡ true) ↔ (R3 (Zmod v.values.p) (question v.values) (poly v.values.p g.now) (poly v.values.p n.now)) }
 {
     let d = g.len() - 1;
     let k = 6 * d + 4;

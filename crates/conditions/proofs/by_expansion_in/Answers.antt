@@ -9,7 +9,7 @@ conditions-requires-clause-known_le_degree c =
     let sums = c.power_sums in
     let h = c.expansion in (
       omega (arith, c.requires.known_bound.0),
-      short_known a.v c.requires.ready.0 a.g.now sums.new.s h.new.h (omega (arith, c.requires.degree_in_bounds, sums.auto))
+      short_known a.v.values a.v.ready a.g.now sums.new.s h.new.h (omega (arith, c.requires.degree_in_bounds, sums.auto))
           (omega (arith, c.requires.h_len, h.auto)) sums.ensures h.ensures a.s.now a.h.now a.known c.requires.known_bound.0 c.requires.known_bound.1,
     )
 
@@ -18,6 +18,6 @@ returns c =
     let a = c.args in
     let sums = c.power_sums in
     let h = c.expansion in
-    decided a.v c.requires.ready.0 a.g.now sums.new.s h.new.h (omega (arith, c.requires.degree_in_bounds, sums.auto))
+    decided a.v.values a.v.ready a.g.now sums.new.s h.new.h (omega (arith, c.requires.degree_in_bounds, sums.auto))
     (omega (arith, c.requires.h_len, h.auto))
-    sums.ensures h.ensures c.requires.ready.2 c.requires.holds_g.1 c.conditions.result c.conditions.ensures
+    sums.ensures h.ensures c.requires.large c.requires.holds_g.1 c.conditions.result c.conditions.ensures

@@ -24,7 +24,7 @@ begun v s h known i e first told k l = go (dec_lt k 1)
 pub loop-i-init : goal.loop-i-init
 loop-i-init c =
     let a = c.args in
-    let v = a.v in
+    let v = a.v.values in
     let i = c.max-first.result in
     let first = filled_more (F v a.s.now) a.h.now 0 0 c.requires.h_nonzero.0 (filled_none (F v a.s.now) a.h.now)
     (residue_self 0 (omega arith)) in (
@@ -38,7 +38,7 @@ pub loop-i-preserved : goal.loop-i-preserved
 loop-i-preserved c =
     let loop = c.loop-i in
     let a = c.args in
-    let v = a.v in
+    let v = a.v.values in
     let r = c.expansion_at in
     let inside : loop.i < length loop.h = omega arith in (
       simp length-set (simp length-set at loop.invariant.0),
@@ -53,5 +53,5 @@ pub returns : goal.returns
 returns c =
     let loop = c.loop-i in
     let a = c.args in
-    residues_filled {a = expansion (Zmod a.v.p) (question a.v).A (question a.v).B (poly a.v.p a.s.now)} (omega arith)
+    residues_filled {a = expansion (Zmod a.v.values.p) (question a.v.values).A (question a.v.values).B (poly a.v.values.p a.s.now)} (omega arith)
     (λ j l. loop.invariant.1 j (omega (arith, loop.invariant.0)))

@@ -14,5 +14,5 @@ F v s j w = Residue v.p (expansion (Zmod v.p) (question v).A (question v).B (pol
 
 abbrev pub invariant-loop-i : goal.invariant-loop-i
 invariant-loop-i l =
-    (length l.h ≡ length l.initial.h) × (Filled (F l.v l.s) l.h l.i)
-    × (Multiple l.v.p (2 * l.i - 1) (question l.v).A l.y) × Multiple l.v.p (2 * l.i - 2) (question l.v).B l.z
+    (length l.h ≡ length l.initial.h) × (Filled (F l.v.values l.s) l.h l.i)
+    × (Multiple l.v.values.p (2 * l.i - 1) (question l.v.values).A l.y) × Multiple l.v.values.p (2 * l.i - 2) (question l.v.values).B l.z

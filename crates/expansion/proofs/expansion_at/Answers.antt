@@ -9,8 +9,8 @@ use Rattle.expansion.proofs.expansion_at.Goals as goal
 pub returns : goal.returns
 returns c =
     let a = c.args in
-    let p = a.v.p in
-    expands p (question a.v).A (question a.v).B a.s.now a.i a.y a.z c.weighted.result (omega arith) c.requires.multiple.0
+    let p = a.v.values.p in
+    expands p (question a.v.values).A (question a.v.values).B a.s.now a.i a.y a.z c.weighted.result (omega arith) c.requires.multiple.0
     c.requires.multiple.1
     (residue_same (ap (λ n. plus p (plus p (times p (mk p (2 * a.i + 1)) (mk p (get_or a.s.now (a.i + 1) 0)))
     (times p (mk p a.y) (mk p (get_or a.s.now (a.i - 1) 0)))) (times p (mk p a.z) (mk p (get_or a.s.now n 0))))

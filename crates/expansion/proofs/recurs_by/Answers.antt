@@ -8,7 +8,7 @@ use Rattle.expansion.proofs.recurs_by.Goals as goal
 pub loop-k-init : goal.loop-k-init
 loop-k-init c =
     let a = c.args in
-    let v = a.v in (
+    let v = a.v.values in (
       (λ j l m. absurd (omega arith)),
       multiple (2 * a.from - 3) v.a c.multiply-y.result c.multiply-y.ensures,
       multiple (2 * a.from - 6) v.b c.multiply-z.result c.multiply-z.ensures,
@@ -16,7 +16,7 @@ loop-k-init c =
 
 pub loop-k-preserved : goal.loop-k-preserved
 loop-k-preserved c =
-    let v = c.args.v in
+    let v = c.args.v.values in
     let at = c.loop-k in
     let found = c.recurs_at in (
       below_more _ _ at.invariant.0 (λ l. found.ensures.0 (not-false found.result (ap not c.if-not-recurs_at.false))),

@@ -8,5 +8,5 @@ use Rattle.expansion.proofs.recurs_by.Given as goal
 
 abbrev pub invariant-loop-k : goal.invariant-loop-k
 invariant-loop-k l =
-    ((j : ℕ) → j < l.k → l.from ≤ j → Recurs (Zmod l.v.p) (question l.v).A (question l.v).B (poly l.v.p l.h) j)
-    × (Multiple l.v.p (2 * l.k - 3) (question l.v).A l.y) × Multiple l.v.p (2 * l.k - 6) (question l.v).B l.z
+    ((j : ℕ) → j < l.k → l.from ≤ j → Recurs (Zmod l.v.values.p) (question l.v.values).A (question l.v.values).B (poly l.v.values.p l.h) j)
+    × (Multiple l.v.values.p (2 * l.k - 3) (question l.v.values).A l.y) × Multiple l.v.values.p (2 * l.k - 6) (question l.v.values).B l.z

@@ -47,22 +47,22 @@ pub known_rows-requires-clause-by_index : goal.known_rows-requires-clause-by_ind
 known_rows-requires-clause-by_index c =
     let a = c.args in
     let back = c.negated in
-    let low = backwards_reduced a.v.p (half a.v) a.g.now back.new.e (search rules) c.requires.ready.1.count back.ensures in
-    weights_low back.new.e c.weights.new.acc (length a.g.now - 1) (omega (arith, c.requires.ready.1.count, c.requires.ready.0.degree)) c.weights.ensures
-    (λ t. omega (arith, c.requires.ready.0.prime, low t)) (λ t l. back.ensures.past t (omega (arith, c.requires.ready.1.count)))
+    let low = backwards_reduced a.v.values.p (half a.v.values) a.g.now back.new.e (search rules) c.requires.holds_g.count back.ensures in
+    weights_low back.new.e c.weights.new.acc (length a.g.now - 1) (omega (arith, c.requires.holds_g.count, c.args.v.ready.degree)) c.weights.ensures
+    (λ t. omega (arith, c.args.v.ready.prime, low t)) (λ t l. back.ensures.past t (omega (arith, c.requires.holds_g.count)))
 
 pub returns : goal.returns
 returns c =
     let a = c.args in
-    let p = a.v.p in
+    let p = a.v.values.p in
     let back = c.negated in
     let G = poly p a.g.now in
     let d = length a.g.now - 1 in
-    let half_is : half a.v ≡ d = omega (arith, c.requires.ready.1.count) in
-    let n = backwards_negated p d a.g.now back.new.e (search rules) (omega (arith, c.requires.ready.1.count)) back.ensures in
+    let half_is : half a.v.values ≡ d = omega (arith, c.requires.holds_g.count) in
+    let n = backwards_negated p d a.g.now back.new.e (search rules) (omega (arith, c.requires.holds_g.count)) back.ensures in
     let s = c.sums_turns.new.s in
     let r = c.reduce in
-    let degree : c.from.result ≡ 2 * d = omega (arith, c.from.ensures, c.requires.ready.1.count, c.requires.ready.0.degree) in
+    let degree : c.from.result ≡ 2 * d = omega (arith, c.from.ensures, c.requires.holds_g.count, c.args.v.ready.degree) in
     let first : Residue p (mk p (2 * d)) r.result = subst (λ n. Residue p (mk p n) r.result) degree r.ensures in
     let told = subst (λ m. 1 ≤ a.known → (k : ℕ) → k ≤ a.known → Residue p (power_sums_of (Zmod p) m G k) (get_or a.s.now k 0)) half_is
     c.requires.known_bound.2

@@ -7,11 +7,11 @@ pub returns-then-g-d-ne1 : goal.returns-then-g-d-ne1
 returns-then-g-d-ne1 c =
     let at = c.args in
     let pre = c.requires in
-    one_no at.v pre.0 at.g.now pre.1.count pre.1.reduced _ (omega (arith, pre)) c.if-g-d-ne1.true
+    one_no at.v.values at.v.ready at.g.now pre.count pre.reduced _ (omega (arith, pre)) c.if-g-d-ne1.true
 
 pub returns : goal.returns
 returns c =
     let at = c.args in
     let pre = c.requires in
-    one_last at.v pre.0 at.g.now pre.1.count pre.1.reduced _ c.minus_twice.result (omega (arith, pre))
+    one_last at.v.values at.v.ready at.g.now pre.count pre.reduced _ c.minus_twice.result (omega (arith, pre))
     c.if-g-d-ne1.false c.minus_twice.ensures

@@ -16,5 +16,5 @@ loop-k-preserved c =
 pub returns : goal.returns
 returns c =
     let loop = c.loop-k in
-    λ g products. stored_all c.args.v.p _ c.args.out.now loop.out loop.k (omega (arith, c.requires.0.prime.least)) (search rules)
+    λ g products. stored_all c.args.v.values.p _ c.args.out.now loop.out loop.k (omega (arith, c.args.v.ready.prime.least)) (search rules)
     (loop.invariant.1 g products)

@@ -10,5 +10,6 @@ use Rattle.rules.proofs.sum_of_parts.Given as goal
 
 abbrev pub invariant-loop-k : goal.invariant-loop-k
 invariant-loop-k l =
+    let p = l.v.values.p in
     (length l.out ≡ length l.initial.out)
-    × ((g : Seq (Zmod l.v.p)) → Products l.v.p g l.square l.slope l.bend → Stored (Of l.v.p (N (Zmod l.v.p) (question l.v) g)) l.initial.out l.out l.k)
+    × ((g : Seq (Zmod p)) → Products p g l.square l.slope l.bend → Stored (Of p (N (Zmod p) (question l.v.values) g)) l.initial.out l.out l.k)

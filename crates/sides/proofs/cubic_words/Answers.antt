@@ -5,9 +5,9 @@ use Rattle.sides.proofs.cubic_words.Goals as goal
 
 pub returns : goal.returns
 returns c =
-    let v = c.args.v in record {
-      reduced = reduced_cons v.b (v.a ∷ 0 ∷ 1 ∷ []) c.requires.below.b
-          (reduced_cons v.a (0 ∷ 1 ∷ []) c.requires.below.a
+    let v = c.args.v.values in record {
+      reduced = reduced_cons v.b (v.a ∷ 0 ∷ 1 ∷ []) c.args.v.ready.below.b
+          (reduced_cons v.a (0 ∷ 1 ∷ []) c.args.v.ready.below.a
           (reduced_cons 0 (1 ∷ []) (omega arith) (reduced_cons 1 [] (omega arith) (reduced_nil (omega arith)))));
       same = f_words v;
     }

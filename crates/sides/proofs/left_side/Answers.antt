@@ -18,12 +18,12 @@ returns c =
     let dn = c.derivative-dn in
     let w = c.cross.new.w in
     let ww = c.square-ww in
-    let sizes : (length at.g.now ≡ half at.v + 1) × (length at.n.now ≡ 2 * half at.v + 2) × (half at.v ≤ 127) =
-    (c.requires.ready.1.count, c.requires.holds_n.count, omega (arith, c.requires.ready.0.degree))
+    let sizes : (length at.g.now ≡ half at.v.values + 1) × (length at.n.now ≡ 2 * half at.v.values + 2) × (half at.v.values ≤ 127) =
+    (c.requires.holds_g.count, c.requires.holds_n.count, omega (arith, at.v.ready.degree))
     in
     let size : length w ≡ 3 * d + 1 = omega (arith, sizes, c.cross.auto, length-take (3 * d + 1) blank, length-replicate {A = ℕ} 766 0) in
-    left_steps at.v at.g.now at.n.now (take d dg.result) (take (2 * d + 1) dn.result) w (take (6 * d + 1) ww.result)
-    c.cubic_words-cubic.result c.product.new.out c.requires.ready.1.count c.requires.holds_n.count
+    left_steps at.v.values at.g.now at.n.now (take d dg.result) (take (2 * d + 1) dn.result) w (take (6 * d + 1) ww.result)
+    c.cubic_words-cubic.result c.product.new.out c.requires.holds_g.count c.requires.holds_n.count
     (simp length-take (omega (arith, sizes))) (simp length-take (omega (arith, sizes))) (omega (arith, sizes, size)) (simp length-take (omega (arith, sizes)))
     dg.ensures dn.ensures c.cross.ensures (rw (take_at w (drop (3 * d + 1) blank) (3 * d + 1) size) at ww.ensures)
     c.cubic_words-cubic.ensures c.product.ensures

@@ -11,6 +11,6 @@ returns c =
     let h = c.square-h in
     let t = c.square_and-t in
     let o = c.add_terms in
-    right_steps at.v at.g.now at.n.now (take (2 * d + 1) s.result) (take (4 * d + 1) h.result) (take (4 * d + 3) t.result)
+    right_steps at.v.values at.g.now at.n.now (take (2 * d + 1) s.result) (take (4 * d + 1) h.result) (take (4 * d + 3) t.result)
     o.new.out
-    (simp length-take (omega (arith, c.requires.ready))) (simp length-take (omega (arith, c.requires.ready))) s.ensures h.ensures t.ensures o.ensures
+    (simp length-take (omega (arith, c.requires.holds_g))) (simp length-take (omega (arith, c.requires.holds_g))) s.ensures h.ensures t.ensures o.ensures

@@ -9,6 +9,6 @@ returns c =
     let l = c.left_side in
     let r = c.right_side in
     let e = c.equal in
-    three at.v c.requires.ready.0 at.g.now c.requires.ready.1.count c.requires.ready.1.reduced at.n.now l.new.out r.new.out e.result
+    three at.v.values at.v.ready at.g.now c.requires.holds_g.count c.requires.holds_g.reduced at.n.now l.new.out r.new.out e.result
     c.requires.holds_n.count (omega (arith, c.requires.l_len, l.auto)) (omega (arith, c.requires.l_len, r.auto)) l.ensures r.ensures
-    (e.ensures at.v.p l.ensures.reduced r.ensures.reduced)
+    (e.ensures at.v.values.p l.ensures.reduced r.ensures.reduced)
