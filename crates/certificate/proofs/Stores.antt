@@ -6,12 +6,22 @@ use Prim.Native.Nat.{ℕ, suc, ◌+◌, ◌<◌}
 use native.Mathlib.Numerals.{add-one}
 use native.Mathlib.Omega.{arith}
 use lib.ListN.{length, get_or, set, take, drop, length-append, length-map, get_or-map}
-use lib.Seq.{take_at, drop_at, take_all, set_at, drop-cons, append_snoc, paste, paste-suc, drop-drop}
+use lib.Seq.{take_at, drop_at, take_all, set_at, drop-cons, append_snoc, length-take-le, take-suc, paste, paste-suc, drop-drop}
 use Rattle.sheet.specs.Word.{word}
 
 -- the front of `out` is replaced by X
 abbrev pub Front : List ℕ → List ℕ → List ℕ → Type 0
 Front before X after = after ≡ X ++ drop (length X) before
+
+-- one word more
+pub front_more : (src out : List ℕ) (i : ℕ) → i < length src → i < length out
+    → set (take i src ++ drop i out) i (get_or src i 0) ≡ take (i + 1) src ++ drop (i + 1) out
+front_more src out i h k =
+    ap (λ (l : List ℕ). set (take i src ++ l) i (get_or src i 0)) (drop-cons out i 0 k)
+    ∙ set_at (take i src) (get_or out i 0) (drop (suc i) out) (get_or src i 0) i (length-take-le i src (omega arith))
+    ∙ sym (append_snoc (take i src) (get_or src i 0) (drop (suc i) out))
+    ∙ ap (λ (l : List ℕ). l ++ drop (suc i) out) (sym (take-suc src i 0 h))
+    ∙ ap (λ (n : ℕ). take n src ++ drop n out) (sym (add-one i))
 
 -- a part pasted where the front ends
 pub front_paste : (before X ys : List ℕ) {out after : List ℕ} (at n : ℕ) → n ≡ length ys → at ≡ length X → Front before X out

@@ -1,22 +1,66 @@
 -- The whole certificate, as the writer stores it: the header, the sections of g and of N, the count and the end, one after the other.
 -- Assumes nothing.
-use mathlib.Core.Path.{◌≡◌, sym, ◌∙◌, ap, ap₂}
+use mathlib.Core.Path.{◌≡◌, refl, sym, ◌∙◌, ap, ap₂}
 use mathlib.Core.List.{List, [], ◌∷◌, ◌++◌, map, append_assoc}
-use Prim.Native.Nat.{ℕ, ◌+◌, ◌*◌}
+use Prim.Native.Nat.{ℕ, zero, suc, ◌+◌, ◌*◌, ◌<◌, ◌≤◌}
 use native.Mathlib.Omega.{arith}
-use lib.ListN.{length, set, drop, length-append, length-map}
+use lib.Dec.{eqb, eqb→eq}
+use lib.ListN.{length, get_or, set, take, drop, length-append, length-map, get_or-map}
 use lib.Seq.{paste}
 use Rattle.std.specs.Prelude.{Option, Some, unwrap_or}
 use Rattle.sheet.specs.declared.Form.TheVariants.{Certificate}
+use Rattle.sheet.specs.declared.Kind.{Kind}
+use Rattle.sheet.specs.declared.Kind.TheVariants.{P}
 use Rattle.sheet.specs.declared.Values.{Values}
+use Rattle.sheet.specs.Code.{code}
+use Rattle.sheet.specs.Table.{at}
 use Rattle.sheet.specs.Word.{word}
-use Rattle.sheet.specs.Form.{certificate_words}
+use Rattle.sheet.specs.Form.{header, certificate_words}
 use Rattle.sheet.specs.Lengths.{certificate_words_lem}
-use Rattle.sheet.specs.Place.{placed}
+use Rattle.sheet.specs.Place.{placed, place_of, at_place}
 use Rattle.sheet.specs.Places.{g_placed, n_placed, count_placed, end_placed}
 use Rattle.sheet.specs.Values.{half}
-use Rattle.certificate.specs.Certificate.{header_words, Writable, Stored}
-use Rattle.certificate.proofs.Stores.{Front, front_paste, front_one}
+use Rattle.certificate.specs.Certificate.{header_words, value_at, Writable, Stored}
+use Rattle.certificate.proofs.Stores.{Front, front_more, front_paste, front_one}
+
+-- ── the header
+
+in_header : (v : Values) (i : ℕ) → i < 7 → get_or (header_words v) i 0 ≡ word (suc i) (value_at v (suc i))
+in_header v zero h = refl
+in_header v (suc zero) h = refl
+in_header v (suc (suc zero)) h = refl
+in_header v (suc (suc (suc zero))) h = refl
+in_header v (suc (suc (suc (suc zero)))) h = refl
+in_header v (suc (suc (suc (suc (suc zero))))) h = refl
+in_header v (suc (suc (suc (suc (suc (suc zero)))))) h = refl
+in_header v (suc (suc (suc (suc (suc (suc (suc i))))))) h = absurd (omega arith)
+
+-- kind i + 1 of the header stands at place i
+module _ (kinds : List Kind) (is_header : map code kinds ≡ header Certificate) {i : ℕ} (inside : i < length kinds) where
+  abbrev kind : ℕ
+  kind = code (get_or kinds i P)
+
+  in_seven : i < 7
+  in_seven = omega (arith, inside, length-map kinds code, ap length is_header)
+
+  kind_is : kind ≡ suc i
+  kind_is =
+      sym (get_or-map code kinds i P) ∙ ap (λ (ks : List ℕ). get_or ks i 1) is_header
+      ∙ eqb→eq _ _ (at (λ i. eqb (get_or (header Certificate) i 1) (suc i)) 7 tt i in_seven)
+
+  pub at_header : {place : Option ℕ} {at_kind : ℕ} → place ≡ placed Certificate kind 0 → place ≡ Some at_kind → at_kind ≡ i
+  at_header e is =
+      at_place Certificate kind 0 0 e is ∙ ap (λ k. place_of Certificate k 0 0) kind_is
+      ∙ eqb→eq _ _ (at (λ i. eqb (place_of Certificate (suc i) 0 0) i) 7 tt i in_seven)
+
+  pub header_more : (v : Values) (before : List ℕ) {out : List ℕ} {at_kind w x : ℕ} → 7 ≤ length before → out ≡ take i (header_words v) ++ drop i before
+      → at_kind ≡ i → w ≡ word kind x → x ≡ value_at v kind → set out at_kind w ≡ take (i + 1) (header_words v) ++ drop (i + 1) before
+  header_more v before {out} {at_kind} {w} room out_is at_is w_is x_is =
+      let is : w ≡ get_or (header_words v) i 0 =
+      w_is ∙ ap (word kind) x_is ∙ ap (λ k. word k (value_at v k)) kind_is ∙ sym (in_header v i in_seven) in
+      ap₂ (λ (o : List ℕ) (w : ℕ). set o at_kind w) out_is is
+      ∙ ap (λ n. set (take i (header_words v) ++ drop i before) n (get_or (header_words v) i 0)) at_is
+      ∙ front_more (header_words v) before i in_seven (omega (arith, in_seven, room))
 
 -- ── the places that the table gave
 
@@ -60,13 +104,13 @@ module _ (v : Values) (g n before : List ℕ) (c : ℕ) (can : Writable v g n c 
   words = omega (arith, can.g_words.count, can.n_words.count)
 
   module _ {e₈ e₉ e₁₀ e₁₅ : ℕ} (at₈ : e₈ ≡ 7) (at₉ : e₉ ≡ half v + 8) (at₁₀ : e₁₀ ≡ 3 * half v + 10) (at₁₅ : e₁₅ ≡ 3 * half v + 11) {o₁ o₂ o₃ : List ℕ}
-      (header : o₁ ≡ header_words v ++ drop 7 before) (put_g : o₂ ≡ paste o₁ e₈ (map (word 8) g) (length g))
+      (headed : o₁ ≡ header_words v ++ drop 7 before) (put_g : o₂ ≡ paste o₁ e₈ (map (word 8) g) (length g))
       (put_n : o₃ ≡ paste o₂ e₉ (map (word 9) n) (length n)) where
     front₃ : Front before sections o₃
     front₃ =
         front_paste before (header_words v ++ map (word 8) g) (map (word 9) n) e₉ (length n) (sym (length-map n (word 9)))
         (omega (arith, at₉, length₂, can.g_words.count))
-        (front_paste before (header_words v) (map (word 8) g) e₈ (length g) (sym (length-map g (word 8))) at₈ header put_g) put_n
+        (front_paste before (header_words v) (map (word 8) g) e₈ (length g) (sym (length-map g (word 8))) at₈ headed put_g) put_n
 
     -- the count, and the end
     pub written : {w w' : ℕ} → w ≡ word 10 c → w' ≡ word 15 0 → Stored v g n c before (set (set o₃ e₁₀ w) e₁₅ w') (e₁₅ + 1)

@@ -7,7 +7,7 @@ ghost use Rattle.zmod.specs.Residues.{Reduced};
 ghost use Rattle.sheet.specs.Word.{word};
 ghost use Rattle.sheet.specs.Code.{code};
 ghost use Rattle.sheet.specs.Ready.{Ready};
-ghost use Rattle.certificate.specs.Certificate.{header_words, Writable, Stored};
+ghost use Rattle.certificate.specs.Certificate.{header_words, value_at, Writable, Stored};
 
 use sheet::{Form, Kind, Values};
 
@@ -18,19 +18,30 @@ fn word_of(kind: Kind, value: u32) -> u32
     u32::from(kind) * 268435456 + value
 }
 
+// The value of a header's word of a kind, 0 for a kind of no header.
+fn header_value(v: Values, kind: Kind) -> u32
+    ensures { result ≡ value_at v (code kind) }
+{
+    match kind {
+        Kind::P => v.p,
+        Kind::A => v.a,
+        Kind::B => v.b,
+        Kind::Atilde => v.atilde,
+        Kind::Btilde => v.btilde,
+        Kind::Degree => v.degree,
+        Kind::Sigma => v.sigma,
+        _ => 0,
+    }
+}
+
 fn write_header(v: Values, out: &mut [u32])
     requires { (7 ≤ length out.old) × Ready v }
     ensures { out.new ≡ header_words v ++ drop 7 out.old }
 {
-    out[..7].copy_from_slice(&[
-        word_of(Kind::P, v.p),
-        word_of(Kind::A, v.a),
-        word_of(Kind::B, v.b),
-        word_of(Kind::Atilde, v.atilde),
-        word_of(Kind::Btilde, v.btilde),
-        word_of(Kind::Degree, v.degree),
-        word_of(Kind::Sigma, v.sigma),
-    ]);
+    for kind in sheet::header(Form::Certificate) {
+        let at = sheet::place(Form::Certificate, *kind, 0).unwrap();
+        out[at] = word_of(*kind, header_value(v, *kind));
+    }
 }
 
 // The words of a kind with the values xs, from `from` on.
