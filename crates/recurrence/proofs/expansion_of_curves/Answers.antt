@@ -1,7 +1,7 @@
 -- `recurrence::expansion_of_curves` meets its contract. The invariant: the words before k solve their equations, and y and z are the multiples of −A and −B
 -- for k.
 -- Assumes nothing.
-use Rattle.std.proofs.Common.{arith, length, length-set, min, refl, set, subst, sym, ◌*◌, ◌+◌, ◌-◌, ◌<◌, ◌∙◌, ◌≡◌}
+use Rattle.std.proofs.Common.{arith, length, length-set, min, refl, set, subst, sym, ◌*◌, ◌+◌, ◌-◌, ◌<◌, ◌≡◌}
 use Rattle.zmod.specs.Zmod.{Zmod, minus}
 use Rattle.sheet.specs.Values.{question}
 use Rattle.recurrence.specs.Equations.{HAt}
@@ -11,20 +11,9 @@ use Rattle.expansion.specs.Stores.{solved_more}
 use Rattle.recurrence.proofs.Causal.{h_causal}
 use Rattle.recurrence.proofs.expansion_of_curves.Goals as goal
 
-pub begin_h-requires : goal.begin_h-requires
-begin_h-requires c =
-    record {
-      ready = c.requires.ready;
-      inverses = (c.requires.inverses.0, c.requires.inverses.1);
-    }
-
-pub add-y-requires : goal.add-y-requires
-add-y-requires c =
-    (omega (arith, c.minus_twice-a.ensures.below), omega (arith, c.negate.ensures.below), omega arith)
-
 pub loop-k-init : goal.loop-k-init
 loop-k-init c =
-    let v = c.args.v in
+    let v = c.args.v.values in
     let p = v.p in
     let A = minus p (question v).A in
     let words = c.begin_h in (
@@ -34,27 +23,9 @@ loop-k-init c =
       none (minus p (question v).B) (omega arith),
     )
 
-pub next_h-requires : goal.next_h-requires
-next_h-requires c =
-    let inv = c.loop-k.invariant in
-    let size = c.begin_h.auto.h in record {
-      ready = c.requires.ready;
-      inverses = (c.requires.inverses.0, omega (arith, size));
-      le_k = (omega arith, omega (arith, size), omega arith, λ j l. inv.1.reduced j (omega arith));
-      multiple = (inv.2, inv.3);
-    }
-
-pub add-y-requires-in-loop-k : goal.add-y-requires-in-loop-k
-add-y-requires-in-loop-k c =
-    (omega (arith, c.loop-k.invariant.2.below), omega (arith, c.minus_twice-a.ensures.below), omega (arith, c.requires.ready, c.requires.inverses))
-
-pub add-z-requires : goal.add-z-requires
-add-z-requires c =
-    (omega (arith, c.loop-k.invariant.3.below), omega (arith, c.minus_twice-b.ensures.below), omega arith)
-
 pub loop-k-preserved : goal.loop-k-preserved
 loop-k-preserved c =
-    let v = c.args.v in
+    let v = c.args.v.values in
     let p = v.p in
     let q = question v in
     let E = HAt (Zmod p) q in
@@ -71,14 +42,10 @@ loop-k-preserved c =
       both (minus p q.B) (2 * k - 6) 2 (2 * (k + 1) - 6) (omega arith) loop.invariant.3 c.minus_twice-b.ensures c.add-z.ensures,
     )
 
-pub shape_of-h : goal.shape_of-h
-shape_of-h c =
-    c.loop-k.invariant.0 ∙ c.begin_h.auto.h
-
 pub returns : goal.returns
 returns c =
     let a = c.args in
-    let p = a.v.p in
+    let p = a.v.values.p in
     let loop = c.loop-k in
     let end : min loop.k (length loop.h) ≡ length a.h.now = omega (arith, c.begin_h.auto.h) in
-    subst (Solved p (HAt (Zmod p) (question a.v)) loop.h) end loop.invariant.1
+    subst (Solved p (HAt (Zmod p) (question a.v.values)) loop.h) end loop.invariant.1

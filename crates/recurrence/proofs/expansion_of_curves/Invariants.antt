@@ -8,5 +8,6 @@ use Rattle.recurrence.proofs.expansion_of_curves.Given as goal
 
 abbrev pub invariant-loop-k : goal.invariant-loop-k
 invariant-loop-k l =
-    (length l.h ≡ length l.initial.h) × (Solved l.v.p (HAt (Zmod l.v.p) (question l.v)) l.h (min l.k (length l.h)))
-    × (Multiple l.v.p (2 * l.k - 3) (minus l.v.p (question l.v).A) l.y) × Multiple l.v.p (2 * l.k - 6) (minus l.v.p (question l.v).B) l.z
+    (length l.h ≡ length l.initial.h) × (Solved l.v.values.p (HAt (Zmod l.v.values.p) (question l.v.values)) l.h (min l.k (length l.h)))
+    × (Multiple l.v.values.p (2 * l.k - 3) (minus l.v.values.p (question l.v.values).A) l.y)
+    × Multiple l.v.values.p (2 * l.k - 6) (minus l.v.values.p (question l.v.values).B) l.z
