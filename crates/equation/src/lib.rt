@@ -10,21 +10,18 @@ ghost use Rattle.zmod.specs.Residues.{poly};
 ghost use Rattle.isogeny.specs.Rules.{N, R1, R3};
 ghost use Rattle.sheet.specs.Values.{half, question};
 ghost use Rattle.expansion.specs.Begun.{Begun};
-ghost use Rattle.rules.specs.Over.{Over};
-ghost use Rattle.sheet.specs.Ready.{Ready, HoldsG, HoldsN};
+ghost use Rattle.sheet.specs.Ready.{HoldsG, HoldsN};
 
-use barrett::Modulus;
-use sheet::Values;
+use accepted::Accepted;
 
 // Does R3 hold?
-pub fn rule_three(v: Values, m: Modulus, g: &[u32], n: &[u32]) -> bool
-    requires ready { (Ready v) × Over v m }
-    requires holds_g { HoldsG v g.now × R1 (Zmod v.p) (question v) (poly v.p g.now) }
-    requires holds_n { HoldsN v n.now × (poly v.p n.now ≡ N (Zmod v.p) (question v) (poly v.p g.now)) }
-    ensures { (result ≡ true) ↔ (R3 (Zmod v.p) (question v) (poly v.p g.now) (poly v.p n.now)) }
+pub fn rule_three(v: Accepted, g: &[u32], n: &[u32]) -> bool
+    requires holds_g { HoldsG v.values g.now × R1 (Zmod v.values.p) (question v.values) (poly v.values.p g.now) }
+    requires holds_n { HoldsN v.values n.now × (poly v.values.p n.now ≡ N (Zmod v.values.p) (question v.values) (poly v.values.p g.now)) }
+    ensures { (result ≡ true) ↔ (R3 (Zmod v.values.p) (question v.values) (poly v.values.p g.now) (poly v.values.p n.now)) }
 {
-    if 3 * v.degree - 3 < v.p {
-        short::by_expansion(v, m, g)
+    if 3 * v.values.degree - 3 < v.values.p {
+        short::by_expansion(v, g)
     } else {
         sides::compare(v, g, n)
     }
@@ -32,8 +29,7 @@ pub fn rule_three(v: Values, m: Modulus, g: &[u32], n: &[u32]) -> bool
 
 // The same for a g of which something is known, with room from outside.
 pub fn rule_three_from(
-    v: Values,
-    m: Modulus,
+    v: Accepted,
     g: &[u32],
     n: &[u32],
     e: &mut [u64],
@@ -43,16 +39,15 @@ pub fn rule_three_from(
     squares: &mut [u32],
     known: usize,
 ) -> bool
-    requires ready { (Ready v) × Over v m }
-    requires holds_g { HoldsG v g.now × R1 (Zmod v.p) (question v) (poly v.p g.now) }
-    requires holds_n { HoldsN v n.now × (poly v.p n.now ≡ N (Zmod v.p) (question v) (poly v.p g.now)) }
-    requires degree_in_bounds { (v.degree + 2 ≤ length s.old) × (length s.old ≤ 257) × (length s.old % 4 ≡ 1) × (length acc.old ≡ length s.old) }
-    requires h_len { (length h.old ≡ v.degree + 1) × (length squares.old ≡ v.degree - 2) × (v.degree + 6 ≤ length e.old) }
-    requires known_bound { (known ≤ half v) × Begun v g.now s.old h.old known }
-    ensures { (result ≡ true) ↔ (R3 (Zmod v.p) (question v) (poly v.p g.now) (poly v.p n.now)) }
+    requires holds_g { HoldsG v.values g.now × R1 (Zmod v.values.p) (question v.values) (poly v.values.p g.now) }
+    requires holds_n { HoldsN v.values n.now × (poly v.values.p n.now ≡ N (Zmod v.values.p) (question v.values) (poly v.values.p g.now)) }
+    requires degree_in_bounds { (v.values.degree + 2 ≤ length s.old) × (length s.old ≤ 257) × (length s.old % 4 ≡ 1) × (length acc.old ≡ length s.old) }
+    requires h_len { (length h.old ≡ v.values.degree + 1) × (length squares.old ≡ v.values.degree - 2) × (v.values.degree + 6 ≤ length e.old) }
+    requires known_bound { (known ≤ half v.values) × Begun v.values g.now s.old h.old known }
+    ensures { (result ≡ true) ↔ (R3 (Zmod v.values.p) (question v.values) (poly v.values.p g.now) (poly v.values.p n.now)) }
 {
-    if 3 * v.degree - 3 < v.p {
-        conditions::by_expansion_in(v, m, g, e, acc, s, h, squares, known)
+    if 3 * v.values.degree - 3 < v.values.p {
+        conditions::by_expansion_in(v, g, e, acc, s, h, squares, known)
     } else {
         sides::compare(v, g, n)
     }

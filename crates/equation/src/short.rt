@@ -4,21 +4,19 @@ ghost use Rattle.zmod.specs.Zmod.{Zmod};
 ghost use Rattle.zmod.specs.Residues.{poly};
 ghost use Rattle.isogeny.specs.Rules.{N, R1, R3};
 ghost use Rattle.sheet.specs.Values.{question};
-ghost use Rattle.rules.specs.Over.{Over};
-ghost use Rattle.sheet.specs.Ready.{Ready, HoldsG};
+ghost use Rattle.sheet.specs.Ready.{HoldsG};
 
-use barrett::Modulus;
-use sheet::Values;
+use accepted::Accepted;
 
 // Where each list of words has room for SIZE. The power sums are as many as fill whole turns.
-fn by_expansion_sized<const SIZE: usize>(v: Values, m: Modulus, g: &[u32]) -> bool
-    requires ready { (Ready v) × Over v m × (3 * v.degree - 3 < v.p) }
-    requires room { (v.degree + 6 ≤ SIZE) × (SIZE ≤ 264) }
-    requires holds_g { HoldsG v g.now × R1 (Zmod v.p) (question v) (poly v.p g.now) }
-    ensures { (result ≡ true) ↔ (R3 (Zmod v.p) (question v) (poly v.p g.now)
-        (N (Zmod v.p) (question v) (poly v.p g.now))) }
+fn by_expansion_sized<const SIZE: usize>(v: Accepted, g: &[u32]) -> bool
+    requires large { 3 * v.values.degree - 3 < v.values.p }
+    requires room { (v.values.degree + 6 ≤ SIZE) × (SIZE ≤ 264) }
+    requires holds_g { HoldsG v.values g.now × R1 (Zmod v.values.p) (question v.values) (poly v.values.p g.now) }
+    ensures { (result ≡ true) ↔ (R3 (Zmod v.values.p) (question v.values) (poly v.values.p g.now)
+        (N (Zmod v.values.p) (question v.values) (poly v.values.p g.now))) }
 {
-    let n = v.degree as usize;
+    let n = v.values.degree as usize;
     let i = (n + 4) / 4 * 4 + 1;
     let mut e = [0u64; SIZE];
     let mut acc = [0u64; SIZE];
@@ -27,7 +25,6 @@ fn by_expansion_sized<const SIZE: usize>(v: Values, m: Modulus, g: &[u32]) -> bo
     let mut squares = [0u32; SIZE];
     conditions::by_expansion_in(
         v,
-        m,
         g,
         &mut e[..n + 6],
         &mut acc[..i],
@@ -39,17 +36,17 @@ fn by_expansion_sized<const SIZE: usize>(v: Values, m: Modulus, g: &[u32]) -> bo
 }
 
 // Does R3 hold? In room of three sizes, so that small degrees clear little: for ℓ up to 21, up to 79, and for all.
-pub fn by_expansion(v: Values, m: Modulus, g: &[u32]) -> bool
-    requires ready { (Ready v) × Over v m × (3 * v.degree - 3 < v.p) }
-    requires holds_g { HoldsG v g.now × R1 (Zmod v.p) (question v) (poly v.p g.now) }
-    ensures { (result ≡ true) ↔ (R3 (Zmod v.p) (question v) (poly v.p g.now)
-        (N (Zmod v.p) (question v) (poly v.p g.now))) }
+pub fn by_expansion(v: Accepted, g: &[u32]) -> bool
+    requires large { 3 * v.values.degree - 3 < v.values.p }
+    requires holds_g { HoldsG v.values g.now × R1 (Zmod v.values.p) (question v.values) (poly v.values.p g.now) }
+    ensures { (result ≡ true) ↔ (R3 (Zmod v.values.p) (question v.values) (poly v.values.p g.now)
+        (N (Zmod v.values.p) (question v.values) (poly v.values.p g.now))) }
 {
-    if v.degree <= 21 {
-        by_expansion_sized::<28>(v, m, g)
-    } else if v.degree <= 79 {
-        by_expansion_sized::<88>(v, m, g)
+    if v.values.degree <= 21 {
+        by_expansion_sized::<28>(v, g)
+    } else if v.values.degree <= 79 {
+        by_expansion_sized::<88>(v, g)
     } else {
-        by_expansion_sized::<264>(v, m, g)
+        by_expansion_sized::<264>(v, g)
     }
 }

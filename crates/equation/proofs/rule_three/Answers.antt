@@ -5,4 +5,4 @@ use Rattle.equation.proofs.rule_three.Goals as goal
 pub returns-then-v : goal.returns-then-v
 returns-then-v c =
     let a = c.args in
-    of_words a.v a.g.now a.n.now c.by_expansion.result c.requires.holds_n.1 c.by_expansion.ensures
+    of_words a.v.values a.g.now a.n.now c.by_expansion.result c.requires.holds_n.1 c.by_expansion.ensures
