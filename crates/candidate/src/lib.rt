@@ -9,49 +9,46 @@ ghost use Rattle.zmod.specs.Zmod.{Zmod, minus};
 ghost use Rattle.zmod.specs.Residues.{Residue, Reduced, poly};
 ghost use Rattle.field.specs.Inverse.{Inverses};
 ghost use Rattle.sheet.specs.Values.{half, question};
-ghost use Rattle.sheet.specs.Ready.{Ready};
 ghost use Rattle.expansion.specs.Multiple.{Multiple};
 ghost use Rattle.expansion.specs.Equations.{ReducedTo, Solved, Solves};
 ghost use Rattle.candidate.specs.Candidate.{Candidate};
 ghost use Rattle.candidate.specs.Equations.{SAt, CAt, far};
 
-use sheet::Values;
+use accepted::Accepted;
 
 // s₀ = ℓ - 1 and s₁ = σ.
-fn begin_s(v: Values, s: &mut [u32])
-    requires ready { Ready v }
+fn begin_s(v: Accepted, s: &mut [u32])
     requires in_bounds { 2 ≤ length s.old }
-    ensures { (h : Seq (Zmod v.p)) → Solved v.p (SAt (Zmod v.p) (question v) h) s.new 2 }
+    ensures { (h : Seq (Zmod v.values.p)) → Solved v.values.p (SAt (Zmod v.values.p) (question v.values) h) s.new 2 }
 {
-    s[0] = field::reduce(u64::from(v.degree - 1), v.p);
-    s[1] = v.sigma;
+    s[0] = field::reduce(u64::from(v.values.degree - 1), v.values.p);
+    s[1] = v.values.sigma;
 }
 
 // s_(i+1) from the formula for h_i: (2i + 1)s_(i+1) = h_i + y s_(i-1) + z s_(i-2), where y = -(2i - 1)A and z = -(2i - 2)B.
-fn next_s(v: Values, table: &[u32], h: &[u32], s: &[u32], i: usize, y: u32, z: u32) -> u32
-    requires ready { Ready v }
-    requires inverses { Inverses v.p table.now × (2 * half v + 1 < length table.now) }
-    requires h_len { (length h.now ≡ half v) × Reduced v.p h.now }
-    requires le_i { (1 ≤ i) × (i < half v) × (i + 1 < length s.now) × ReducedTo v.p s.now (i + 1) }
-    requires multiple { (Multiple v.p (2 * i - 1) (minus v.p (question v).A) y) × (Multiple v.p (2 * i - 2) (minus v.p (question v).B) z) }
-    ensures { Solves v.p (SAt (Zmod v.p) (question v) (poly v.p h.now)) s.now (i + 1) result }
+fn next_s(v: Accepted, table: &[u32], h: &[u32], s: &[u32], i: usize, y: u32, z: u32) -> u32
+    requires inverses { Inverses v.values.p table.now × (2 * half v.values + 1 < length table.now) }
+    requires h_len { (length h.now ≡ half v.values) × Reduced v.values.p h.now }
+    requires le_i { (1 ≤ i) × (i < half v.values) × (i + 1 < length s.now) × ReducedTo v.values.p s.now (i + 1) }
+    requires multiple { (Multiple v.values.p (2 * i - 1) (minus v.values.p (question v.values).A) y)
+        × (Multiple v.values.p (2 * i - 2) (minus v.values.p (question v.values).B) z) }
+    ensures { Solves v.values.p (SAt (Zmod v.values.p) (question v.values) (poly v.values.p h.now)) s.now (i + 1) result }
 {
-    let p = v.p;
+    let p = v.values.p;
     let w = expansion::weighted(1, h[i], y, s[i - 1], z, s[i.saturating_sub(2)], p);
     recurrence::divide(w, 2 * i + 1, table, p)
 }
 
-fn fill_s(v: Values, table: &[u32], h: &[u32], s: &mut [u32])
-    requires ready { Ready v }
-    requires inverses { Inverses v.p table.now × (2 * half v + 1 < length table.now) }
-    requires h_len { (length h.now ≡ half v) × Reduced v.p h.now × (length s.old ≡ half v + 1) }
-    ensures { Solved v.p (SAt (Zmod v.p) (question v) (poly v.p h.now)) s.new (length s.old) }
+fn fill_s(v: Accepted, table: &[u32], h: &[u32], s: &mut [u32])
+    requires inverses { Inverses v.values.p table.now × (2 * half v.values + 1 < length table.now) }
+    requires h_len { (length h.now ≡ half v.values) × Reduced v.values.p h.now × (length s.old ≡ half v.values + 1) }
+    ensures { Solved v.values.p (SAt (Zmod v.values.p) (question v.values) (poly v.values.p h.now)) s.new (length s.old) }
 {
-    let p = v.p;
-    let a = recurrence::minus_twice(v.a, p);
-    let b = recurrence::minus_twice(v.b, p);
+    let p = v.values.p;
+    let a = recurrence::minus_twice(v.values.a, p);
+    let b = recurrence::minus_twice(v.values.b, p);
     begin_s(v, s);
-    let mut y = field::negate(v.a, p);
+    let mut y = field::negate(v.values.a, p);
     let mut z = 0;
     for i in 1..h.len() {
         s[i + 1] = next_s(v, table, h, s, i, y, z);
@@ -76,24 +73,22 @@ fn far_sum(s: &[u32], c: &[u32], k: usize, p: u32) -> u32
 
 // c_k by Newton's identity, 2k c_k = -(the sum of s_i c_(k-i), i from 1 to k). What takes time are remainders that wait for each other: so, with t = -1/2k,
 // those of the sum from 2 on and of s₁t are taken without c_(k-1), and c_k's alone waits for it.
-fn next_c(v: Values, table: &[u32], s: &[u32], c: &[u32], k: usize) -> u32
-    requires ready { Ready v }
-    requires inverses { Inverses v.p table.now × (2 * half v + 1 < length table.now) }
-    requires s_len { (length s.now ≡ half v + 1) × Reduced v.p s.now }
-    requires le_k { (1 ≤ k) × (k ≤ half v) × (k < length c.now) × ReducedTo v.p c.now k }
-    ensures { Solves v.p (CAt (Zmod v.p) (poly v.p s.now)) c.now k result }
+fn next_c(v: Accepted, table: &[u32], s: &[u32], c: &[u32], k: usize) -> u32
+    requires inverses { Inverses v.values.p table.now × (2 * half v.values + 1 < length table.now) }
+    requires s_len { (length s.now ≡ half v.values + 1) × Reduced v.values.p s.now }
+    requires le_k { (1 ≤ k) × (k ≤ half v.values) × (k < length c.now) × ReducedTo v.values.p c.now k }
+    ensures { Solves v.values.p (CAt (Zmod v.values.p) (poly v.values.p s.now)) c.now k result }
 {
-    let p = v.p;
+    let p = v.values.p;
     let t = field::negate(table[2 * k], p);
     let u = field::multiply(s[1], t, p);
     expansion::weighted(far_sum(s, c, k, p), t, u, c[k - 1], 0, 0, p)
 }
 
-fn fill_c(v: Values, table: &[u32], s: &[u32], c: &mut [u32])
-    requires ready { Ready v }
-    requires inverses { Inverses v.p table.now × (2 * half v + 1 < length table.now) }
-    requires s_len { (length s.now ≡ half v + 1) × Reduced v.p s.now × (length c.old ≡ half v + 1) }
-    ensures { Solved v.p (CAt (Zmod v.p) (poly v.p s.now)) c.new (length c.old) }
+fn fill_c(v: Accepted, table: &[u32], s: &[u32], c: &mut [u32])
+    requires inverses { Inverses v.values.p table.now × (2 * half v.values + 1 < length table.now) }
+    requires s_len { (length s.now ≡ half v.values + 1) × Reduced v.values.p s.now × (length c.old ≡ half v.values + 1) }
+    ensures { Solved v.values.p (CAt (Zmod v.values.p) (poly v.values.p s.now)) c.new (length c.old) }
 {
     c[0] = 1;
     for k in 1..c.len() {
@@ -102,19 +97,18 @@ fn fill_c(v: Values, table: &[u32], s: &[u32], c: &mut [u32])
 }
 
 fn solution(
-    v: Values,
+    v: Accepted,
     table: &mut [u32],
     h: &mut [u32],
     s: &mut [u32],
     c: &mut [u32],
     g: &mut [u32],
 )
-    requires ready { Ready v }
-    requires table_len { (length table.old ≡ 2 * half v + 2) × (length h.old ≡ half v) }
-    requires s_len { (length s.old ≡ half v + 1) × (length c.old ≡ half v + 1) × (length g.old ≡ half v + 1) }
-    ensures { Candidate v h.new s.new g.new }
+    requires table_len { (length table.old ≡ 2 * half v.values + 2) × (length h.old ≡ half v.values) }
+    requires s_len { (length s.old ≡ half v.values + 1) × (length c.old ≡ half v.values + 1) × (length g.old ≡ half v.values + 1) }
+    ensures { Candidate v.values h.new s.new g.new }
 {
-    field::inverses(table, v.p);
+    field::inverses(table, v.values.p);
     recurrence::expansion_of_curves(v, table, h);
     fill_s(v, table, h, s);
     fill_c(v, table, s, c);
@@ -123,17 +117,16 @@ fn solution(
 
 // g = the only polynomial that can meet the rules; the front of h and s takes its expansion and its power sums. table and c are room.
 pub fn candidate(
-    v: Values,
+    v: Accepted,
     table: &mut [u32],
     h: &mut [u32],
     s: &mut [u32],
     c: &mut [u32],
     g: &mut [u32],
 )
-    requires ready { Ready v }
-    requires table_len { (length table.old ≡ 2 * half v + 2) × (half v ≤ length h.old) }
-    requires v_in_bounds { (half v + 1 ≤ length s.old) × (half v + 1 ≤ length c.old) × (length g.old ≡ half v + 1) }
-    ensures { Candidate v h.new s.new g.new }
+    requires table_len { (length table.old ≡ 2 * half v.values + 2) × (half v.values ≤ length h.old) }
+    requires v_in_bounds { (half v.values + 1 ≤ length s.old) × (half v.values + 1 ≤ length c.old) × (length g.old ≡ half v.values + 1) }
+    ensures { Candidate v.values h.new s.new g.new }
 {
     let n = g.len();
     let d = n - 1;

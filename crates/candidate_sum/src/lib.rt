@@ -6,29 +6,35 @@ ghost use Rattle.std.specs.Prelude.{◌≡◌, ◌+◌, ◌*◌, ◌≤◌, leng
 ghost use Rattle.sheet.specs.Values.{half};
 ghost use Rattle.candidate_sum.specs.CandidateSum.{Determined, CandidateSum};
 
-use barrett::Modulus;
+use accepted::Accepted;
 use sheet::Values;
 
 // In room: a table of inverses, the expansion, and two rows.
-fn sum_in(v: Values, table: &mut [u32], h: &mut [u32], t: &mut [u64], u: &mut [u64]) -> Option<u32>
-    requires determined { Determined v }
-    requires table_len { (length table.old ≡ 8 * half v + 4) × (length h.old ≡ 4 * half v + 1) }
-    requires t_len { (length t.old ≡ 2 * half v + 1) × (length u.old ≡ 2 * half v + 1) }
-    ensures { CandidateSum v result }
+fn sum_in(
+    v: Accepted,
+    table: &mut [u32],
+    h: &mut [u32],
+    t: &mut [u64],
+    u: &mut [u64],
+) -> Option<u32>
+    requires determined { Determined v.values }
+    requires table_len { (length table.old ≡ 8 * half v.values + 4) × (length h.old ≡ 4 * half v.values + 1) }
+    requires t_len { (length t.old ≡ 2 * half v.values + 1) × (length u.old ≡ 2 * half v.values + 1) }
+    ensures { CandidateSum v.values result }
 {
-    field::inverses(table, v.p);
+    field::inverses(table, v.values.p);
     recurrence::expansion_of_curves(v, table, h);
-    poles::sum_of_poles(h, t, u, Modulus::new(v.p))
+    poles::sum_of_poles(h, t, u, v.modulus)
 }
 
 // The same with room of its own: T words for the inverses, H for the expansion, R for each row.
-fn sized<const T: usize, const H: usize, const R: usize>(v: Values) -> Option<u32>
-    requires determined { Determined v }
-    requires room { (4 * v.degree ≤ T) × (2 * v.degree ≤ H + 1) × (v.degree ≤ R) }
+fn sized<const T: usize, const H: usize, const R: usize>(v: Accepted) -> Option<u32>
+    requires determined { Determined v.values }
+    requires room { (4 * v.values.degree ≤ T) × (2 * v.values.degree ≤ H + 1) × (v.values.degree ≤ R) }
     requires small { (T ≤ 1024) × (H ≤ 512) × (R ≤ 264) }
-    ensures { CandidateSum v result }
+    ensures { CandidateSum v.values result }
 {
-    let l = v.degree as usize;
+    let l = v.values.degree as usize;
     let i = 4 * l;
     let j = 2 * l - 1;
     let mut table = [0; T];
@@ -43,7 +49,8 @@ pub fn candidate_sum(v: Values) -> Option<u32>
     requires { Determined v }
     ensures { CandidateSum v result }
 {
-    if v.degree <= 21 {
+    let v = Accepted::new(v);
+    if v.values.degree <= 21 {
         sized::<88, 88, 28>(v)
     } else {
         sized::<1024, 512, 264>(v)

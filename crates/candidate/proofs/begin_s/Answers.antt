@@ -11,7 +11,7 @@ use Rattle.candidate.proofs.begin_s.Goals as goal
 
 pub returns : goal.returns
 returns c =
-    let v = c.args.v in
+    let v = c.args.v.values in
     let s = c.args.s.now in
     let p = v.p in
     let q = question v in

@@ -1,5 +1,5 @@
 -- `candidate::far_sum` meets its contract. Assumes nothing.
-use Rattle.std.proofs.Common.{arith, length, length-take-le, sym, ◌-◌}
+use Rattle.std.proofs.Common.{arith, length, ◌-◌}
 use Rattle.zmod.specs.Residues.{poly}
 use Rattle.expansion.specs.Parts.{part_reduced, reduced_front}
 use Rattle.candidate.proofs.EquationTurns.{far_zero, far_more}
@@ -10,20 +10,12 @@ returns-then-k-eq1 c =
     let a = c.args in
     far_zero a.p (poly a.p a.s.now) (poly a.p a.c.now) a.k (omega arith) c.if-k-eq1.true
 
-pub slice_bounds-before-length : goal.slice_bounds-before-length
-slice_bounds-before-length c =
-    let a = c.args in
-    sym (length-take-le (a.k - 1) a.c.now (omega arith))
-
-pub coefficient-requires : goal.coefficient-requires
-coefficient-requires c =
-    let a = c.args in record {
-      start_lt_p = (omega arith, omega arith, omega arith);
-      reduced = (
-        part_reduced a.p a.s.now 2 (length a.s.now - 2) (omega arith) (λ i l. c.requires.reduced.0 i),
-        reduced_front a.p a.c.now (omega arith) (a.k - 1) (λ i l. c.requires.reduced.1 i (omega arith)),
-      );
-    }
+pub coefficient-requires-clause-reduced : goal.coefficient-requires-clause-reduced
+coefficient-requires-clause-reduced c =
+    let a = c.args in (
+      part_reduced a.p a.s.now 2 (length a.s.now - 2) (omega arith) (λ i l. c.requires.reduced.0 i),
+      reduced_front a.p a.c.now (omega arith) (a.k - 1) (λ i l. c.requires.reduced.1 i (omega arith)),
+    )
 
 pub returns : goal.returns
 returns c =

@@ -6,4 +6,4 @@ use Rattle.expansion.specs.Equations.{Solved}
 use Rattle.candidate.proofs.fill_c.Given as goal
 
 abbrev pub invariant-loop-k : goal.invariant-loop-k
-invariant-loop-k l = (length l.c ≡ length l.initial.c) × Solved l.v.p (CAt (Zmod l.v.p) (poly l.v.p l.s)) l.c l.k
+invariant-loop-k l = (length l.c ≡ length l.initial.c) × Solved l.v.values.p (CAt (Zmod l.v.values.p) (poly l.v.values.p l.s)) l.c l.k

@@ -1,27 +1,19 @@
 -- `candidate::fill_s` meets its contract. The invariant: the words up to i solve their equations, and y and z are the multiples of −A and −B for i.
 -- Assumes nothing.
-use Rattle.std.proofs.Common.{arith, length, length-set, refl, subst, ◌*◌, ◌+◌, ◌-◌, ◌<◌, ◌∙◌, ◌≡◌}
+use Rattle.std.proofs.Common.{arith, length, length-set, refl, ◌*◌, ◌+◌, ◌-◌, ◌<◌}
 use Rattle.zmod.specs.Zmod.{Zmod, minus}
 use Rattle.zmod.specs.Residues.{poly}
 use Rattle.sheet.specs.Values.{question}
 use Rattle.candidate.specs.Equations.{SAt}
 use Rattle.expansion.specs.Multiple.{none, once, both}
-use Rattle.expansion.specs.Equations.{Solved}
 use Rattle.expansion.specs.Stores.{solved_more}
 use Rattle.candidate.proofs.Causal.{s_causal}
 use Rattle.candidate.proofs.fill_s.Goals as goal
 
-pub begin_s-requires : goal.begin_s-requires
-begin_s-requires c =
-    record {
-      ready = c.requires.ready;
-      in_bounds = omega arith;
-    }
-
 pub loop-i-init : goal.loop-i-init
 loop-i-init c =
     let a = c.args in
-    let v = a.v in
+    let v = a.v.values in
     let p = v.p in (
       refl,
       c.begin_s.ensures (poly p a.h.now),
@@ -29,34 +21,11 @@ loop-i-init c =
       none (minus p (question v).B) (omega arith),
     )
 
-pub next_s-requires : goal.next_s-requires
-next_s-requires c =
-    let size = c.begin_s.auto.s in
-    let inv = c.loop-i.invariant in record {
-      ready = c.requires.ready;
-      inverses = c.requires.inverses;
-      h_len = (c.requires.h_len.0, c.requires.h_len.1);
-      le_i = (omega arith, omega arith, omega (arith, size), inv.1.reduced);
-      multiple = (inv.2, inv.3);
-    }
-
-pub bounds-s-i : goal.bounds-s-i
-bounds-s-i c =
-    omega (arith, c.requires.h_len, c.begin_s.auto.s, c.loop-i.invariant)
-
-pub add-y-requires : goal.add-y-requires
-add-y-requires c =
-    (omega (arith, c.loop-i.invariant.2.below), omega (arith, c.minus_twice-a.ensures.below), omega arith)
-
-pub add-z-requires : goal.add-z-requires
-add-z-requires c =
-    (omega (arith, c.loop-i.invariant.3.below), omega (arith, c.minus_twice-b.ensures.below), omega arith)
-
 pub loop-i-preserved : goal.loop-i-preserved
 loop-i-preserved c =
     let args = c.args in
-    let p = args.v.p in
-    let q = question args.v in
+    let p = args.v.values.p in
+    let q = question args.v.values in
     let h = poly p args.h.now in
     let loop = c.loop-i in
     let i = loop.i in
@@ -66,15 +35,3 @@ loop-i-preserved c =
       both (minus p q.A) (2 * i - 1) 2 (2 * (i + 1) - 1) (omega arith) loop.invariant.2 c.minus_twice-a.ensures c.add-y.ensures,
       both (minus p q.B) (2 * i - 2) 2 (2 * (i + 1) - 2) (omega arith) loop.invariant.3 c.minus_twice-b.ensures c.add-z.ensures,
     )
-
-pub shape_of-s : goal.shape_of-s
-shape_of-s c =
-    c.loop-i.invariant.0 ∙ c.begin_s.auto.s
-
-pub returns : goal.returns
-returns c =
-    let a = c.args in
-    let p = a.v.p in
-    let loop = c.loop-i in
-    let end : loop.i + 1 ≡ length a.s.now = omega (arith, c.requires.ready, c.requires.inverses, c.requires.h_len) in
-    subst (Solved p (SAt (Zmod p) (question a.v) (poly p a.h.now)) loop.s) end loop.invariant.1

@@ -9,5 +9,6 @@ use Rattle.candidate.proofs.fill_s.Given as goal
 
 abbrev pub invariant-loop-i : goal.invariant-loop-i
 invariant-loop-i l =
-    (length l.s ≡ length l.initial.s) × (Solved l.v.p (SAt (Zmod l.v.p) (question l.v) (poly l.v.p l.h)) l.s (l.i + 1))
-    × (Multiple l.v.p (2 * l.i - 1) (minus l.v.p (question l.v).A) l.y) × Multiple l.v.p (2 * l.i - 2) (minus l.v.p (question l.v).B) l.z
+    (length l.s ≡ length l.initial.s) × (Solved l.v.values.p (SAt (Zmod l.v.values.p) (question l.v.values) (poly l.v.values.p l.h)) l.s (l.i + 1))
+    × (Multiple l.v.values.p (2 * l.i - 1) (minus l.v.values.p (question l.v.values).A) l.y)
+    × Multiple l.v.values.p (2 * l.i - 2) (minus l.v.values.p (question l.v.values).B) l.z

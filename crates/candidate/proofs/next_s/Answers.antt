@@ -6,18 +6,13 @@ use Rattle.sheet.specs.Values.{question}
 use Rattle.candidate.proofs.EquationTurns.{s_more}
 use Rattle.candidate.proofs.next_s.Goals as goal
 
-pub weighted-w-requires : goal.weighted-w-requires
-weighted-w-requires c =
-    let i = c.args.i in
-    omega (arith, c.requires.h_len.1 i, c.requires.le_i.3 (i - 1) (omega arith), c.requires.le_i.3 c.saturating_sub.result (omega arith))
-
 pub returns : goal.returns
 returns c =
     let a = c.args in
-    let p = a.v.p in
+    let p = a.v.values.p in
     let s = a.s.now in
     let i = a.i in
-    s_more p (question a.v) a.h.now s i (omega arith) (omega arith) a.y a.z c.weighted-w.result c.divide.result
+    s_more p (question a.v.values) a.h.now s i (omega arith) (omega arith) a.y a.z c.weighted-w.result c.divide.result
     c.requires.multiple.0 c.requires.multiple.1
     (residue_same
     (ap (λ n. plus p (plus p (times p (mk p 1) (mk p (get_or a.h.now i 0))) (times p (mk p a.y) (mk p (get_or s (i - 1) 0))))
