@@ -14,17 +14,13 @@ use Rattle.sheet.specs.Form.{certificate_words}
 use Rattle.sheet.specs.Place.{place_of}
 use Rattle.sheet.specs.Values.{values_of, half, gOf, n_of, abscissas_of}
 use Rattle.sheet.specs.Asked.{asked}
-use Rattle.sheet.specs.Ready.{Ready, HoldsG, HoldsN}
-use Rattle.sheet.specs.Ready as R
+use Rattle.sheet.specs.Ready.{HoldsG, HoldsN}
 use Rattle.reading.specs.Accepted.{certificate_length, certificate_g, certificate_n}
 use Rattle.promises.specs.Asked.{rules_ask, certificate_rules}
 
 module _ (ws : List ℕ) (all : AllYes (asked Certificate ws)) (v : Values) (d : ℕ) (e : v ≡ values_of Certificate ws) (d_is : d ≡ half v) where
   d_half : d ≡ half (values_of Certificate ws)
   d_half = d_is ∙ ap half e
-
-  pub ready : Ready v
-  ready = subst Ready (sym e) (R.ready Certificate ws all)
 
   pub long : length ws ≡ certificate_words d
   long = certificate_length ws all ∙ ap certificate_words (sym d_half)

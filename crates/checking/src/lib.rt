@@ -11,94 +11,77 @@ ghost use Rattle.questions.specs.Number.{outcome};
 ghost use Rattle.sheet.specs.declared.Form.TheVariants.{Certificate};
 ghost use Rattle.sheet.specs.Values.{values_of, half, question};
 ghost use Rattle.sheet.specs.Asked.{asked};
-ghost use Rattle.sheet.specs.Ready.{Ready, HoldsG, HoldsN};
-ghost use Rattle.rules.specs.Over.{Over};
+ghost use Rattle.sheet.specs.Ready.{HoldsG, HoldsN};
 ghost use Rattle.promises.specs.Abscissas.{rational_abscissas_of};
 ghost use Rattle.promises.specs.Asked.{rules_ask};
 ghost use Rattle.promises.specs.Answer.{CheckRight};
 ghost use Rattle.checking.specs.Passed.{Coefficients, Passed};
 
-use barrett::Modulus;
+use accepted::Accepted;
 use questions::Refusal;
 use sheet::{Form, Values};
 
 // Whether N is that of R2, with room for R2's.
-fn same_numerator_in(v: Values, m: Modulus, g: &[u32], n: &[u32], room: &mut [u32]) -> bool
-    requires ready { (Ready v) × HoldsG v g.now × Over v m }
-    requires holds_n { HoldsN v n.now × (length room.old ≡ 2 * half v + 2) }
-    ensures { (result ≡ true) ↔ (poly v.p n.now ≡ N (Zmod v.p) (question v) (poly v.p g.now)) }
+fn same_numerator_in(v: Accepted, g: &[u32], n: &[u32], room: &mut [u32]) -> bool
+    requires holds_g { HoldsG v.values g.now }
+    requires holds_n { HoldsN v.values n.now × (length room.old ≡ 2 * half v.values + 2) }
+    ensures { (result ≡ true) ↔ (poly v.values.p n.now ≡ N (Zmod v.values.p) (question v.values) (poly v.values.p g.now)) }
 {
-    numerator::numerator(v, m, g, room);
+    numerator::numerator(v, g, room);
     poly::equal(n, room)
 }
 
 // The same, with room of its own.
-fn same_numerator(v: Values, m: Modulus, g: &[u32], n: &[u32]) -> bool
-    requires ready { (Ready v) × HoldsG v g.now × Over v m }
-    requires holds_n { HoldsN v n.now }
-    ensures { (result ≡ true) ↔ (poly v.p n.now ≡ N (Zmod v.p) (question v) (poly v.p g.now)) }
+fn same_numerator(v: Accepted, g: &[u32], n: &[u32]) -> bool
+    requires holds_g { HoldsG v.values g.now }
+    requires holds_n { HoldsN v.values n.now }
+    ensures { (result ≡ true) ↔ (poly v.values.p n.now ≡ N (Zmod v.values.p) (question v.values) (poly v.values.p g.now)) }
 {
     let count = n.len();
     let mut room = [0u32; 256];
-    same_numerator_in(v, m, g, n, &mut room[..count])
+    same_numerator_in(v, g, n, &mut room[..count])
 }
 
 // Question 9, for a g with R1.
-fn numerator_and_count(v: Values, m: Modulus, g: &[u32], n: &[u32], abscissas: u32) -> bool
-    requires ready { (Ready v) × HoldsG v g.now × Over v m }
-    requires holds_n { HoldsN v n.now × R1 (Zmod v.p) (question v) (poly v.p g.now) }
-    ensures { (result ≡ true) ↔ ((poly v.p n.now ≡ N (Zmod v.p) (question v) (poly v.p g.now))
-        × (abscissas ≡ rational_abscissas_of v g.now)) }
+fn numerator_and_count(v: Accepted, g: &[u32], n: &[u32], abscissas: u32) -> bool
+    requires holds_g { HoldsG v.values g.now }
+    requires holds_n { HoldsN v.values n.now × R1 (Zmod v.values.p) (question v.values) (poly v.values.p g.now) }
+    ensures { (result ≡ true) ↔ ((poly v.values.p n.now ≡ N (Zmod v.values.p) (question v.values) (poly v.values.p g.now))
+        × (abscissas ≡ rational_abscissas_of v.values g.now)) }
 {
-    if !same_numerator(v, m, g, n) {
+    if !same_numerator(v, g, n) {
         return false;
     }
-    counting::roots(g, m) == abscissas
+    counting::roots(g, v.modulus) == abscissas
 }
 
-// Questions 8 to 10 of g, N and the count of rational abscissas, with the prepared modulus.
-fn ask_rules_over(
-    v: Values,
-    m: Modulus,
-    g: &[u32],
-    n: &[u32],
-    abscissas: u32,
-) -> Result<(), Refusal>
-    requires ready { (Ready v) × HoldsG v g.now × Over v m }
-    requires holds_n { HoldsN v n.now }
-    ensures { Answers (rules_ask v g.now n.now abscissas) (λ _. Unit {0}) (outcome result) }
+// Questions 8 to 10 of g, N and the count of rational abscissas.
+fn ask_rules(v: Accepted, g: &[u32], n: &[u32], abscissas: u32) -> Result<(), Refusal>
+    requires holds_g { HoldsG v.values g.now }
+    requires holds_n { HoldsN v.values n.now }
+    ensures { Answers (rules_ask v.values g.now n.now abscissas) (λ _. Unit {0}) (outcome result) }
 {
     if !rules::rule_one(v, g) {
         return Err(Refusal::KernelPolynomial);
     }
-    if !numerator_and_count(v, m, g, n, abscissas) {
+    if !numerator_and_count(v, g, n, abscissas) {
         return Err(Refusal::Numerator);
     }
-    if !equation::rule_three(v, m, g, n) {
+    if !equation::rule_three(v, g, n) {
         return Err(Refusal::Equation);
     }
     Ok(())
 }
 
-// The same for the values of any sheet.
-fn ask_rules(v: Values, g: &[u32], n: &[u32], abscissas: u32) -> Result<(), Refusal>
-    requires ready { (Ready v) × HoldsG v g.now }
-    requires holds_n { HoldsN v n.now }
-    ensures { Answers (rules_ask v g.now n.now abscissas) (λ _. Unit {0}) (outcome result) }
-{
-    let m = Modulus::new(v.p);
-    ask_rules_over(v, m, g, n, abscissas)
-}
-
 // The coefficients on a certificate that passes 2 to 7, to g and n; and questions 8 to 10.
-fn judge(v: Values, ws: &[u32], d: usize, g: &mut [u32], n: &mut [u32]) -> Result<(), Refusal>
+fn judge(v: Accepted, ws: &[u32], d: usize, g: &mut [u32], n: &mut [u32]) -> Result<(), Refusal>
     requires all_yes { AllYes (asked Certificate ws.now) }
-    requires v_value { (v ≡ values_of Certificate ws.now) × (d ≡ half v) }
+    requires v_value { (v.values ≡ values_of Certificate ws.now) × (d ≡ half v.values) }
     requires g_len { (length g.old ≡ d + 1) × (length n.old ≡ 2 * d + 2) }
     ensures { Coefficients ws.now g.new n.new result }
 {
-    sheet::g_coefficients(Form::Certificate, v.p, ws, d, g);
-    sheet::n_coefficients(v.p, ws, d, n);
+    sheet::g_coefficients(Form::Certificate, v.values.p, ws, d, g);
+    sheet::n_coefficients(v.values.p, ws, d, n);
     let abscissas = sheet::rational_abscissas(ws, d);
     ask_rules(v, g, n, abscissas)
 }
@@ -108,10 +91,11 @@ pub fn passed(ws: &[u32], g: &mut [u32], n: &mut [u32]) -> Result<Values, Refusa
     requires { (length g.old ≡ 128) × (length n.old ≡ 256) }
     ensures { Passed ws.now g.new n.new result }
 {
-    let v = reading::read(Form::Certificate, ws)?;
-    let d = sheet::half_degree(v);
+    let values = reading::read(Form::Certificate, ws)?;
+    let d = sheet::half_degree(values);
+    let v = Accepted::new(values);
     judge(v, ws, d, &mut g[..d + 1], &mut n[..2 * d + 2])?;
-    Ok(v)
+    Ok(values)
 }
 
 // Whether the words are a certificate; or the first of questions 2 to 10 that they do not pass.

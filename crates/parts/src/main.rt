@@ -7,17 +7,16 @@ ghost use Rattle.std.specs.Prelude.{◌≡◌, length};
 ghost use Rattle.series.specs.Series.{Seq};
 ghost use Rattle.zmod.specs.Zmod.{Zmod};
 ghost use Rattle.zmod.specs.Residues.{Reduced};
-ghost use Rattle.sheet.specs.Ready.{Ready};
 ghost use Rattle.rules.specs.Products.{Products};
 ghost use Rattle.text.specs.Text.{hex_lines};
 ghost use Rattle.parts.specs.Parts.{Parts, PartsText};
 
-use barrett::Modulus;
+use accepted::Accepted;
 use sheet::Values;
 
 // The residues of all coefficients that the three slices have room for.
 fn fill(
-    v: Values,
+    v: Accepted,
     square: &[u32],
     slope: &[u32],
     bend: &[u32],
@@ -25,15 +24,15 @@ fn fill(
     first: &mut [u32],
     second: &mut [u32],
 )
-    requires ready { (Ready v) × (Reduced v.p square.now) × (Reduced v.p slope.now) × (Reduced v.p bend.now) }
+    requires reduced { (Reduced v.values.p square.now) × (Reduced v.values.p slope.now) × (Reduced v.values.p bend.now) }
     requires first_len { (length first.old ≡ length linear.old) × (length second.old ≡ length linear.old) }
-    ensures { (g : Seq (Zmod v.p)) → Products v.p g square.now slope.now bend.now
-        → Parts v g linear.new first.new second.new }
+    ensures { (g : Seq (Zmod v.values.p)) → Products v.values.p g square.now slope.now bend.now
+        → Parts v.values g linear.new first.new second.new }
 {
     for k in 0..linear.len() {
-        linear[k] = field::reduce(rules::linear_part(v, square, k), v.p);
-        first[k] = field::reduce(rules::first_logarithmic_part(v, slope, k), v.p);
-        second[k] = field::reduce(rules::second_logarithmic_part(v, bend, k), v.p);
+        linear[k] = field::reduce(rules::linear_part(v, square, k), v.values.p);
+        first[k] = field::reduce(rules::first_logarithmic_part(v, slope, k), v.values.p);
+        second[k] = field::reduce(rules::second_logarithmic_part(v, bend, k), v.values.p);
     }
 }
 
@@ -58,7 +57,7 @@ fn print(rt: &HostRuntime, linear: &[u8], first: &[u8], second: &[u8])
 }
 
 fn main(rt: HostRuntime) {
-    let v = Values {
+    let v = Accepted::new(Values {
         p: 1009,
         a: 1,
         b: 3,
@@ -66,19 +65,17 @@ fn main(rt: HostRuntime) {
         btilde: 877,
         degree: 3,
         sigma: 46,
-    };
+    });
     let g = [986u32, 1];
     let mut square = [0u32; 3];
     let mut slope = [0u32; 2];
     let mut bend = [0u32; 1];
-    let m = Modulus::new(1009);
     let mut e = [0u64; 8];
     let mut acc = [0u64; 3];
     let mut h = [0u32; 1];
     let mut q = [0u32; 3];
     numerator::products(
         v,
-        m,
         &g,
         &mut e,
         &mut acc,

@@ -35,7 +35,7 @@ use Rattle.sheet.specs.Values.{gOf, n_of, values_of, question, half}
 use Rattle.reading.specs.Accepted.{certificate_g, certificate_n}
 use Rattle.promises.specs.declared.Point.{Point}
 use Rattle.promises.specs.declared.Point.TheVariants as point
-use Rattle.promises.specs.Asked.{check_asks, push_asks, OnDomain, Given}
+use Rattle.promises.specs.Asked.{check_asks, OnDomain, Given}
 use Rattle.promises.specs.Answer.{ToPoint, PushRight}
 use Rattle.promises.specs.Certificates.{check_asked}
 use Rattle.pushing.specs.Pushed.{slope_of, Pushed}

@@ -8,15 +8,15 @@ ghost use Rattle.zmod.specs.Residues.{Residue};
 ghost use Rattle.questions.specs.Questions.{AllYes};
 ghost use Rattle.sheet.specs.declared.Form.TheVariants.{Certificate};
 ghost use Rattle.sheet.specs.Values.{values_of, gOf, n_of};
-ghost use Rattle.sheet.specs.Ready.{Ready, HoldsG, HoldsN};
+ghost use Rattle.sheet.specs.Ready.{HoldsG, HoldsN};
 ghost use Rattle.promises.specs.Asked.{OnDomain, check_asks};
 ghost use Rattle.promises.specs.Answer.{PushRight};
 ghost use Rattle.pushing.specs.Pushed.{slope_of, Pushed};
 
+use accepted::Accepted;
 use evaluation::Jet;
 use promises::Point;
 use questions::Refusal;
-use sheet::Values;
 
 // x³ + a x + b
 fn cubic(a: u32, b: u32, x: u32, p: u32) -> u32
@@ -29,18 +29,17 @@ fn cubic(a: u32, b: u32, x: u32, p: u32) -> u32
 }
 
 // Question 12 of an affine point.
-fn within(v: Values, x: u32, y: u32) -> bool
-    requires { Ready v }
-    ensures { (result ≡ true) ↔ OnDomain v x y }
+fn within(v: Accepted, x: u32, y: u32) -> bool
+    ensures { (result ≡ true) ↔ OnDomain v.values x y }
 {
-    let p = v.p;
+    let p = v.values.p;
     if p <= x {
         return false;
     }
     if p <= y {
         return false;
     }
-    field::multiply(y, y, p) == cubic(v.a, v.b, x, p)
+    field::multiply(y, y, p) == cubic(v.values.a, v.values.b, x, p)
 }
 
 // N'g − 2Ng' at a point, from g, g', N and N' there.
@@ -58,7 +57,7 @@ fn slope(g: Jet, n: Jet, p: u32) -> u32
 // Where the point (x, y) goes, in room for the tables of x. One inverse serves for both quotients; by powers it would take most of the time over large
 // primes.
 fn image_in(
-    v: Values,
+    v: Accepted,
     g: &[u32],
     n: &[u32],
     x: u32,
@@ -66,11 +65,11 @@ fn image_in(
     powers: &mut [u32],
     slopes: &mut [u32],
 ) -> Point
-    requires ready { (Ready v) × (HoldsG v g.now) × (HoldsN v n.now) × (x < v.p) }
+    requires holds { (HoldsG v.values g.now) × (HoldsN v.values n.now) × (x < v.values.p) }
     requires powers_len { (length powers.old ≡ min (length n.now) 16 + 1) × (length slopes.old ≡ min (length n.now) 16 + 1) }
-    ensures { Pushed v g.now n.now x y result }
+    ensures { Pushed v.values g.now n.now x y result }
 {
-    let p = v.p;
+    let p = v.values.p;
     evaluation::tables(x, powers, slopes, p);
     let gx = evaluation::evaluate(g, powers, slopes, p);
     if gx.value == 0 {
@@ -85,9 +84,9 @@ fn image_in(
     Point::Affine(u, field::multiply(t, square, p))
 }
 
-fn image(v: Values, g: &[u32], n: &[u32], x: u32, y: u32) -> Point
-    requires { (Ready v) × (HoldsG v g.now) × (HoldsN v n.now) × (x < v.p) }
-    ensures { Pushed v g.now n.now x y result }
+fn image(v: Accepted, g: &[u32], n: &[u32], x: u32, y: u32) -> Point
+    requires { (HoldsG v.values g.now) × (HoldsN v.values n.now) × (x < v.values.p) }
+    ensures { Pushed v.values g.now n.now x y result }
 {
     let mut powers = [0u32; 17];
     let mut slopes = [0u32; 17];
@@ -96,8 +95,14 @@ fn image(v: Values, g: &[u32], n: &[u32], x: u32, y: u32) -> Point
 }
 
 // Question 12 and the image, for a certificate that passes, with its coefficients.
-fn push_passed(v: Values, ws: &[u32], g: &[u32], n: &[u32], point: Point) -> Result<Point, Refusal>
-    requires all_yes { (AllYes (check_asks ws.now)) × (v ≡ values_of Certificate ws.now) }
+fn push_passed(
+    v: Accepted,
+    ws: &[u32],
+    g: &[u32],
+    n: &[u32],
+    point: Point,
+) -> Result<Point, Refusal>
+    requires all_yes { (AllYes (check_asks ws.now)) × (v.values ≡ values_of Certificate ws.now) }
     requires g_value { (g.now ≡ gOf Certificate ws.now) × (n.now ≡ n_of Certificate ws.now) }
     ensures { PushRight ws.now point result }
 {
@@ -118,7 +123,8 @@ pub fn push(ws: &[u32], point: Point) -> Result<Point, Refusal>
 {
     let mut g = [0u32; 128];
     let mut n = [0u32; 256];
-    let v = checking::passed(ws, &mut g, &mut n)?;
-    let d = sheet::half_degree(v);
+    let values = checking::passed(ws, &mut g, &mut n)?;
+    let d = sheet::half_degree(values);
+    let v = Accepted::new(values);
     push_passed(v, ws, &g[..d + 1], &n[..2 * d + 2], point)
 }

@@ -3,18 +3,16 @@
 
 ghost use Rattle.std.specs.Prelude.{◌≡◌, ◌+◌, ◌%◌, ◌≤◌, length};
 ghost use Rattle.sheet.specs.Values.{half};
-ghost use Rattle.sheet.specs.Ready.{Ready};
 ghost use Rattle.promises.specs.Asked.{Room};
 ghost use Rattle.solution.specs.Solved.{Solved};
 
-use barrett::Modulus;
+use accepted::Accepted;
 use questions::Refusal;
-use sheet::Values;
 
 // Solve on the values of an accepted question, in room. Half of what R3 asks holds of the candidate by construction. (Before N stands in its place, its room
 // serves for g from the top down; the table's serves for the squares of R3 after it.)
 fn solve_in(
-    v: Values,
+    v: Accepted,
     e: &mut [u64],
     acc: &mut [u64],
     s: &mut [u32],
@@ -24,28 +22,25 @@ fn solve_in(
     g: &mut [u32],
     answer: &mut [u32],
 ) -> Result<u32, Refusal>
-    requires ready { Ready v }
-    requires degree_in_bounds { (v.degree + 2 ≤ length s.old) × (length s.old ≤ 257) × (length s.old % 4 ≡ 1) × (length acc.old ≡ length s.old) }
-    requires degree_in_bounds_2 { (v.degree + 6 ≤ length e.old) × (length h.old ≡ v.degree + 1) × (length table.old ≡ v.degree + 1) }
-    requires n_len { (length n.old ≡ v.degree + 1) × (length g.old ≡ half v + 1) × Room (length answer.old) }
-    ensures { Solved v answer.old answer.new result }
+    requires degree_in_bounds { (v.values.degree + 2 ≤ length s.old) × (length s.old ≤ 257) × (length s.old % 4 ≡ 1) × (length acc.old ≡ length s.old) }
+    requires degree_in_bounds_2 { (v.values.degree + 6 ≤ length e.old) × (length h.old ≡ v.values.degree + 1) × (length table.old ≡ v.values.degree + 1) }
+    requires n_len { (length n.old ≡ v.values.degree + 1) × (length g.old ≡ half v.values + 1) × Room (length answer.old) }
+    ensures { Solved v.values answer.old answer.new result }
 {
     candidate::candidate(v, table, h, s, n, g);
-    let m = Modulus::new(v.p);
-    numerator::numerator(v, m, g, n);
+    numerator::numerator(v, g, n);
     let d = g.len() - 1;
     let k = table.len() - 3;
-    let holds = equation::rule_three_from(v, m, g, n, e, acc, s, h, &mut table[..k], d);
-    certifying::finish(v, m, g, n, holds, answer)
+    let holds = equation::rule_three_from(v, g, n, e, acc, s, h, &mut table[..k], d);
+    certifying::finish(v, g, n, holds, answer)
 }
 
 // The same, with room of its own for N values.
-fn solve_sized<const N: usize>(v: Values, answer: &mut [u32]) -> Result<u32, Refusal>
-    requires ready { Ready v }
-    requires room { (v.degree + 7 ≤ N) × (N ≤ 264) × Room (length answer.old) }
-    ensures { Solved v answer.old answer.new result }
+fn solve_sized<const N: usize>(v: Accepted, answer: &mut [u32]) -> Result<u32, Refusal>
+    requires room { (v.values.degree + 7 ≤ N) × (N ≤ 264) × Room (length answer.old) }
+    ensures { Solved v.values answer.old answer.new result }
 {
-    let n = v.degree as usize;
+    let n = v.values.degree as usize;
     let i = (n + 4) / 4 * 4 + 1;
     let k = n + 1;
     let c = n + 6;
@@ -71,15 +66,14 @@ fn solve_sized<const N: usize>(v: Values, answer: &mut [u32]) -> Result<u32, Ref
 }
 
 // The same, in the smallest of three sizes that is enough.
-pub fn solve_values(v: Values, answer: &mut [u32]) -> Result<u32, Refusal>
-    requires ready { Ready v }
+pub fn solve_values(v: Accepted, answer: &mut [u32]) -> Result<u32, Refusal>
     requires room { Room (length answer.old) }
-    ensures { Solved v answer.old answer.new result }
+    ensures { Solved v.values answer.old answer.new result }
 {
-    if v.degree <= 21 {
+    if v.values.degree <= 21 {
         return solve_sized::<28>(v, answer);
     }
-    if v.degree <= 79 {
+    if v.values.degree <= 79 {
         return solve_sized::<88>(v, answer);
     }
     solve_sized::<264>(v, answer)

@@ -3,6 +3,7 @@
 
 ghost use Rattle.promises.specs.Answer.{SolveRight};
 
+use accepted::Accepted;
 use questions::Refusal;
 use sheet::Form;
 
@@ -14,5 +15,5 @@ pub fn solve(ws: &[u32], answer: &mut [u32]) -> Result<u32, Refusal>
         return Err(Refusal::Room);
     }
     let v = reading::read(Form::Question, ws)?;
-    solution::solve_values(v, answer)
+    solution::solve_values(Accepted::new(v), answer)
 }

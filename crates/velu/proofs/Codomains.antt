@@ -181,3 +181,7 @@ module _ (v : Values) (ready : Ready v) (g : List ℕ) (g_words : HoldsG v g) wh
   not_leading other e =
       other (mk_apart {p = v.p} (omega arith) (get_or g (length g - 1) 0) 1 (g_words.reduced (length g - 1)) (omega arith)
       (sym (poly_at v.p g (length g - 1)) ∙ ap (poly v.p g) (omega arith) ∙ e))
+
+  -- where it is 1, what holds of the completed values
+  pub facts_of : get_or g (length g - 1) 0 ≡ 1 → {w : Values} → Completed v g w → Facts v g w
+  facts_of one = facts v ready g g_words (is_leading one)

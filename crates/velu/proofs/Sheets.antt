@@ -14,17 +14,13 @@ use Rattle.sheet.specs.declared.Form.TheVariants.{Kernel}
 use Rattle.sheet.specs.declared.Values.{Values}
 use Rattle.sheet.specs.Values.{coefficient_in, gOf, half, values_of}
 use Rattle.sheet.specs.Asked.{asked}
-use Rattle.sheet.specs.Ready.{Ready, HoldsG}
-use Rattle.sheet.specs.Ready as R
+use Rattle.sheet.specs.Ready.{HoldsG}
 use Rattle.reading.specs.Accepted.{kernel_length, kernel_g}
 use Rattle.promises.specs.Asked.{Room, last_ask}
 use Rattle.promises.specs.Answer.{KernelRight}
 use Rattle.velu.specs.Completed.{Finished}
 
 module _ (ws : List ℕ) (all : AllYes (asked Kernel ws)) (v : Values) (e : v ≡ values_of Kernel ws) where
-  pub ready : Ready v
-  ready = subst Ready (sym e) (R.ready Kernel ws all)
-
   pub long : length ws ≡ half v + 6
   long = kernel_length ws all ∙ ap (λ v. half v + 6) (sym e)
 

@@ -8,11 +8,12 @@ ghost use Rattle.questions.specs.Questions.{AllYes};
 ghost use Rattle.sheet.specs.declared.Form.TheVariants.{Kernel};
 ghost use Rattle.sheet.specs.Values.{values_of, half};
 ghost use Rattle.sheet.specs.Asked.{asked};
-ghost use Rattle.sheet.specs.Ready.{Ready, HoldsG};
+ghost use Rattle.sheet.specs.Ready.{HoldsG};
 ghost use Rattle.promises.specs.Asked.{Room};
 ghost use Rattle.promises.specs.Answer.{KernelRight};
 ghost use Rattle.velu.specs.Completed.{Completed, Finished};
 
+use accepted::Accepted;
 use questions::Refusal;
 use sheet::{Form, Values};
 
@@ -26,39 +27,36 @@ fn less_multiple(a: u32, k: u32, h: u32, p: u32) -> u32
 
 // The values with σ, and with the only codomain that can pass, in room for five power sums, one turn, and the expansion up to h₂.
 fn completed_in(
-    v: Values,
+    v: Accepted,
     g: &[u32],
     e: &mut [u64],
     acc: &mut [u64],
     s: &mut [u32],
     h: &mut [u32],
 ) -> Values
-    requires ready { (Ready v) × HoldsG v g.now }
+    requires holds_g { HoldsG v.values g.now }
     requires e_len { (length e.old ≡ 130) × (length acc.old ≡ 5) × (length s.old ≡ 5) × (length h.old ≡ 3) }
-    ensures { Completed v g.now result }
+    ensures { Completed v.values g.now result }
 {
     power_sums::power_sums(v, g, e, acc, s, 0);
     expansion::expansion(v, s, h, 0);
-    let p = v.p;
+    let p = v.values.p;
     let second = g.len() - 2;
     let twice = field::multiply(2, g[second], p);
-    let atilde = less_multiple(v.a, 5, h[1], p);
-    let btilde = less_multiple(v.b, 7, h[2], p);
+    let atilde = less_multiple(v.values.a, 5, h[1], p);
+    let btilde = less_multiple(v.values.b, 7, h[2], p);
     let sigma = field::negate(twice, p);
     Values {
-        p: v.p,
-        a: v.a,
-        b: v.b,
         atilde,
         btilde,
-        degree: v.degree,
         sigma,
+        ..v.values
     }
 }
 
-fn completed(v: Values, g: &[u32]) -> Values
-    requires { (Ready v) × HoldsG v g.now }
-    ensures { Completed v g.now result }
+fn completed(v: Accepted, g: &[u32]) -> Values
+    requires { HoldsG v.values g.now }
+    ensures { Completed v.values g.now result }
 {
     let mut e = [0u64; 130];
     let mut acc = [0u64; 5];
@@ -68,10 +66,10 @@ fn completed(v: Values, g: &[u32]) -> Values
 }
 
 // Questions 8 and 11, and the certificate.
-fn finish(v: Values, g: &[u32], answer: &mut [u32]) -> Result<u32, Refusal>
-    requires ready { (Ready v) × HoldsG v g.now }
+fn finish(v: Accepted, g: &[u32], answer: &mut [u32]) -> Result<u32, Refusal>
+    requires holds_g { HoldsG v.values g.now }
     requires room { Room (length answer.old) }
-    ensures { Finished v g.now answer.old answer.new result }
+    ensures { Finished v.values g.now answer.old answer.new result }
 {
     let top = g.len() - 1;
     if g[top] != 1 {
@@ -81,26 +79,26 @@ fn finish(v: Values, g: &[u32], answer: &mut [u32]) -> Result<u32, Refusal>
     if !reading::nonsingular(w.atilde, w.btilde, w.p) {
         return Err(Refusal::NoIsogeny);
     }
-    certifying::certify(w, g, answer)
+    certifying::certify(Accepted::new(w), g, answer)
 }
 
 // The same with the coefficients read from an accepted sheet, to g.
-fn kernel_in(v: Values, ws: &[u32], g: &mut [u32], answer: &mut [u32]) -> Result<u32, Refusal>
-    requires all_yes { (AllYes (asked Kernel ws.now)) × (v ≡ values_of Kernel ws.now) }
-    requires g_len { (length g.old ≡ half v + 1) × Room (length answer.old) }
+fn kernel_in(v: Accepted, ws: &[u32], g: &mut [u32], answer: &mut [u32]) -> Result<u32, Refusal>
+    requires all_yes { (AllYes (asked Kernel ws.now)) × (v.values ≡ values_of Kernel ws.now) }
+    requires g_len { (length g.old ≡ half v.values + 1) × Room (length answer.old) }
     ensures { KernelRight ws.now answer.old answer.new result }
 {
     let d = g.len() - 1;
-    sheet::g_coefficients(Form::Kernel, v.p, ws, d, g);
+    sheet::g_coefficients(Form::Kernel, v.values.p, ws, d, g);
     finish(v, g, answer)
 }
 
-fn kernel_accepted(v: Values, ws: &[u32], answer: &mut [u32]) -> Result<u32, Refusal>
-    requires all_yes { (AllYes (asked Kernel ws.now)) × (v ≡ values_of Kernel ws.now) }
+fn kernel_accepted(v: Accepted, ws: &[u32], answer: &mut [u32]) -> Result<u32, Refusal>
+    requires all_yes { (AllYes (asked Kernel ws.now)) × (v.values ≡ values_of Kernel ws.now) }
     requires room { Room (length answer.old) }
     ensures { KernelRight ws.now answer.old answer.new result }
 {
-    let count = sheet::half_degree(v) + 1;
+    let count = sheet::half_degree(v.values) + 1;
     let mut g = [0u32; 128];
     kernel_in(v, ws, &mut g[..count], answer)
 }
@@ -113,5 +111,5 @@ pub fn kernel(ws: &[u32], answer: &mut [u32]) -> Result<u32, Refusal>
         return Err(Refusal::Room);
     }
     let v = reading::read(Form::Kernel, ws)?;
-    kernel_accepted(v, ws, answer)
+    kernel_accepted(Accepted::new(v), ws, answer)
 }

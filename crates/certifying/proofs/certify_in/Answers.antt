@@ -6,24 +6,22 @@ use Rattle.certifying.proofs.certify_in.Goals as goal
 pub numerator-requires : goal.numerator-requires
 numerator-requires c =
     record {
-      ready = (c.requires.ready.0, c.requires.holds_g.0, c.requires.ready.1);
+      holds_g = c.requires.holds_g.0;
       out_len = c.requires.n_len.0;
     }
 
 pub rule_three-holds-requires : goal.rule_three-holds-requires
 rule_three-holds-requires c =
     record {
-      ready = c.requires.ready;
       holds_g = c.requires.holds_g;
-      holds_n = numerator_words c.args.v c.requires.ready.0 c.args.g.now c.numerator.new.out c.requires.holds_g.0 (omega arith) c.numerator.ensures;
+      holds_n = numerator_words c.args.v.values c.args.v.ready c.args.g.now c.numerator.new.out c.requires.holds_g.0 (omega arith) c.numerator.ensures;
     }
 
 pub finish-requires : goal.finish-requires
 finish-requires c =
     record {
-      ready = c.requires.ready;
       holds_g = c.requires.holds_g;
-      holds_n = numerator_words c.args.v c.requires.ready.0 c.args.g.now c.numerator.new.out c.requires.holds_g.0 (omega arith) c.numerator.ensures;
+      holds_n = numerator_words c.args.v.values c.args.v.ready c.args.g.now c.numerator.new.out c.requires.holds_g.0 (omega arith) c.numerator.ensures;
       variant = c.rule_three-holds.ensures;
       room = c.requires.n_len.1;
     }

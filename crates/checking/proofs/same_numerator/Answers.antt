@@ -8,6 +8,6 @@ slice_bounds-same_numerator_in-end c = sym (length-take-le _ _ (omega arith))
 pub same_numerator_in-requires : goal.same_numerator_in-requires
 same_numerator_in-requires c =
     record {
-      ready = c.requires.ready;
-      holds_n = (c.requires.holds_n, simp length-take (omega (arith, c.requires.ready.0.degree, c.requires.holds_n.count)));
+      holds_g = c.requires.holds_g;
+      holds_n = (c.requires.holds_n, simp length-take (omega (arith, c.args.v.ready.degree, c.requires.holds_n.count)));
     }

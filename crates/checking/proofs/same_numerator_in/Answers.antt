@@ -6,7 +6,7 @@ use Rattle.checking.proofs.same_numerator_in.Goals as goal
 
 pub returns : goal.returns
 returns c =
-    let v = c.args.v in
+    let v = c.args.v.values in
     let room = c.numerator.new.out in
     decides (c.equal.ensures v.p c.requires.holds_n.0.reduced c.numerator.ensures.reduced)
-    (whole_numerator v c.requires.ready.0 c.args.g.now room c.requires.ready.1 (omega arith) c.numerator.ensures)
+    (whole_numerator v c.args.v.ready c.args.g.now room c.requires.holds_g (omega arith) c.numerator.ensures)

@@ -10,26 +10,26 @@ pub loop-k-init : goal.loop-k-init
 loop-k-init c = (refl, refl, refl, λ g products. (stored_none _ _, stored_none _ _, stored_none _ _))
 
 pub linear_part-requires : goal.linear_part-requires
-linear_part-requires c = (c.requires.ready.0, c.requires.ready.1)
+linear_part-requires c = c.requires.reduced.0
 
 pub reduce-requires : goal.reduce-requires
-reduce-requires c = omega (arith, c.requires.ready.0.prime.least)
+reduce-requires c = omega (arith, c.args.v.ready.prime.least)
 
 pub first_logarithmic_part-requires : goal.first_logarithmic_part-requires
-first_logarithmic_part-requires c = (c.requires.ready.0, c.requires.ready.2)
+first_logarithmic_part-requires c = c.requires.reduced.1
 
 pub reduce-requires-in-loop-k : goal.reduce-requires-in-loop-k
-reduce-requires-in-loop-k c = omega (arith, c.requires.ready.0.prime.least)
+reduce-requires-in-loop-k c = omega (arith, c.args.v.ready.prime.least)
 
 pub bounds-first-k : goal.bounds-first-k
 bounds-first-k c =
     omega (arith, c.loop-k.invariant.0, c.loop-k.invariant.1, c.requires.first_len.0)
 
 pub second_logarithmic_part-requires : goal.second_logarithmic_part-requires
-second_logarithmic_part-requires c = (c.requires.ready.0, c.requires.ready.3)
+second_logarithmic_part-requires c = c.requires.reduced.2
 
 pub reduce-requires-in-loop-k-2 : goal.reduce-requires-in-loop-k-2
-reduce-requires-in-loop-k-2 c = omega (arith, c.requires.ready.0.prime.least)
+reduce-requires-in-loop-k-2 c = omega (arith, c.args.v.ready.prime.least)
 
 pub bounds-second-k : goal.bounds-second-k
 bounds-second-k c =
@@ -69,11 +69,11 @@ shape_of-second c = c.loop-k.invariant.2
 pub returns : goal.returns
 returns c =
     let a = c.args in
-    let p = a.v.p in
+    let p = a.v.values.p in
     let loop = c.loop-k in
     λ g products.
     let stored = loop.invariant.3 g products in
-    let pos : 0 < p = omega (arith, c.requires.ready.0.prime.least) in
+    let pos : 0 < p = omega (arith, c.args.v.ready.prime.least) in
     let end : length loop.linear ≤ loop.k = search rules in
     let end₂ : length loop.first ≤ loop.k = omega (arith, end, loop.invariant.0, loop.invariant.1, c.requires.first_len.0) in
     let end₃ : length loop.second ≤ loop.k = omega (arith, end, loop.invariant.0, loop.invariant.2, c.requires.first_len.1) in

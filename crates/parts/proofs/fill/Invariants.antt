@@ -11,7 +11,7 @@ use Rattle.parts.proofs.fill.Given as goal
 abbrev pub invariant-loop-k : goal.invariant-loop-k
 invariant-loop-k l =
     (length l.linear ≡ length l.initial.linear) × (length l.first ≡ length l.initial.first) × (length l.second ≡ length l.initial.second)
-    × ((g : Seq (Zmod l.v.p)) → Products l.v.p g l.square l.slope l.bend
-    → Stored (Of l.v.p (linear_part_of (Zmod l.v.p) (question l.v) g)) l.initial.linear l.linear l.k
-    × Stored (Of l.v.p (first_logarithmic_part_of (Zmod l.v.p) (question l.v) g)) l.initial.first l.first l.k
-    × Stored (Of l.v.p (second_logarithmic_part_of (Zmod l.v.p) (question l.v) g)) l.initial.second l.second l.k)
+    × ((g : Seq (Zmod l.v.values.p)) → Products l.v.values.p g l.square l.slope l.bend
+    → Stored (Of l.v.values.p (linear_part_of (Zmod l.v.values.p) (question l.v.values) g)) l.initial.linear l.linear l.k
+    × Stored (Of l.v.values.p (first_logarithmic_part_of (Zmod l.v.values.p) (question l.v.values) g)) l.initial.first l.first l.k
+    × Stored (Of l.v.values.p (second_logarithmic_part_of (Zmod l.v.values.p) (question l.v.values) g)) l.initial.second l.second l.k)

@@ -11,6 +11,6 @@ slice_bounds-image_in-end-2 c = sym (length-take-le _ _ (search rules))
 pub image_in-requires : goal.image_in-requires
 image_in-requires c =
     record {
-      ready = c.requires;
+      holds = c.requires;
       powers_len = (length-take-le _ _ (search rules) ∙ c.count-k.ensures, length-take-le _ _ (search rules) ∙ c.count-k.ensures);
     }

@@ -1,7 +1,6 @@
 -- `pushing::image_in` meets its contract. Assumes nothing.
 use Rattle.std.proofs.Common.{arith, rules}
 use Rattle.zmod.specs.Zmod.{mk}
-use Rattle.evaluation.specs.Jets.{JetOf}
 use Rattle.pushing.proofs.Images.{to_infinity, to_point}
 use Rattle.pushing.proofs.image_in.Goals as goal
 
@@ -10,18 +9,15 @@ evaluate-gx-requires c =
     let filled = c.tables.ensures in
     record {
       a_in_bounds = (search rules, search rules);
-      reduced = (λ i. omega (arith, c.requires.ready.1.reduced i, c.requires.ready.0.prime), filled.powers_low, filled.slopes_low);
+      reduced = (λ i. omega (arith, c.requires.holds.0.reduced i, c.args.v.ready.prime), filled.powers_low, filled.slopes_low);
       p_nonzero = search rules;
     }
 
 pub returns-then-gx-eq0 : goal.returns-then-gx-eq0
 returns-then-gx-eq0 c =
-    let at_g : let a = c.args in JetOf a.v.p a.g.now (mk a.v.p a.x) c.evaluate-gx.result =
+    let at_g = c.evaluate-gx.ensures (mk c.args.v.values.p c.args.x) c.tables.ensures in
     let a = c.args in
-    c.evaluate-gx.ensures (mk a.v.p a.x) c.tables.ensures
-    in
-    let a = c.args in
-    to_infinity a.v c.requires.ready.0 a.g.now a.n.now c.requires.ready.1.count c.requires.ready.2.count a.x a.y c.evaluate-gx.result (at_g)
+    to_infinity a.v.values a.v.ready a.g.now a.n.now c.requires.holds.0.count c.requires.holds.1.count a.x a.y c.evaluate-gx.result at_g
     c.if-gx-eq0.true
 
 pub evaluate-nx-requires : goal.evaluate-nx-requires
@@ -29,32 +25,21 @@ evaluate-nx-requires c =
     let filled = c.tables.ensures in
     record {
       a_in_bounds = (search rules, search rules);
-      reduced = (λ i. omega (arith, c.requires.ready.2.reduced i, c.requires.ready.0.prime), filled.powers_low, filled.slopes_low);
+      reduced = (λ i. omega (arith, c.requires.holds.1.reduced i, c.args.v.ready.prime), filled.powers_low, filled.slopes_low);
       p_nonzero = search rules;
     }
 
 pub slope-requires : goal.slope-requires
 slope-requires c =
-    let at_g : let a = c.args in JetOf a.v.p a.g.now (mk a.v.p a.x) c.evaluate-gx.result =
-    let a = c.args in
-    c.evaluate-gx.ensures (mk a.v.p a.x) c.tables.ensures
-    in
-    let at_n : let a = c.args in JetOf a.v.p a.n.now (mk a.v.p a.x) c.evaluate-nx.result =
-    let a = c.args in
-    c.evaluate-nx.ensures (mk a.v.p a.x) c.tables.ensures
-    in
-    let g = at_g in
-    let n = at_n in
-    (omega (arith, c.requires.ready.0.prime), g.value_is.below, g.slope_is.below, n.value_is.below, n.slope_is.below)
+    let at_g = c.evaluate-gx.ensures (mk c.args.v.values.p c.args.x) c.tables.ensures in
+    let at_n = c.evaluate-nx.ensures (mk c.args.v.values.p c.args.x) c.tables.ensures in
+    (omega (arith, c.args.v.ready.prime), at_g.value_is.below, at_g.slope_is.below, at_n.value_is.below, at_n.slope_is.below)
 
 pub inverse_by_euclid-i-requires : goal.inverse_by_euclid-i-requires
 inverse_by_euclid-i-requires c =
-    let at_g : let a = c.args in JetOf a.v.p a.g.now (mk a.v.p a.x) c.evaluate-gx.result =
-    let a = c.args in
-    c.evaluate-gx.ensures (mk a.v.p a.x) c.tables.ensures
-    in
+    let at_g = c.evaluate-gx.ensures (mk c.args.v.values.p c.args.x) c.tables.ensures in
     record {
-      prime = c.requires.ready.0.prime.prime;
+      prime = c.args.v.ready.prime.prime;
       a_nonzero = (omega (arith, c.if-gx-eq0.false), at_g.value_is.below);
     }
 
@@ -63,16 +48,10 @@ shape_of-powers c = omega (arith, c.tables.auto)
 
 pub returns : goal.returns
 returns c =
-    let at_g : let a = c.args in JetOf a.v.p a.g.now (mk a.v.p a.x) c.evaluate-gx.result =
+    let at_g = c.evaluate-gx.ensures (mk c.args.v.values.p c.args.x) c.tables.ensures in
+    let at_n = c.evaluate-nx.ensures (mk c.args.v.values.p c.args.x) c.tables.ensures in
     let a = c.args in
-    c.evaluate-gx.ensures (mk a.v.p a.x) c.tables.ensures
-    in
-    let at_n : let a = c.args in JetOf a.v.p a.n.now (mk a.v.p a.x) c.evaluate-nx.result =
-    let a = c.args in
-    c.evaluate-nx.ensures (mk a.v.p a.x) c.tables.ensures
-    in
-    let a = c.args in
-    to_point a.v c.requires.ready.0 a.g.now a.n.now c.requires.ready.1.count c.requires.ready.2.count a.x a.y c.evaluate-gx.result
-    (at_g) c.evaluate-nx.result c.if-gx-eq0.false (at_n) c.slope.ensures
+    to_point a.v.values a.v.ready a.g.now a.n.now c.requires.holds.0.count c.requires.holds.1.count a.x a.y c.evaluate-gx.result
+    at_g c.evaluate-nx.result c.if-gx-eq0.false at_n c.slope.ensures
     c.multiply-w.ensures c.inverse_by_euclid-i.ensures c.multiply-square.ensures
     c.multiply-u.ensures c.multiply-t.ensures c.multiply.ensures

@@ -2,19 +2,14 @@
 use Rattle.std.proofs.Common.{subst, sym}
 use Rattle.questions.specs.Tests.{was_no, was_yes}
 use Rattle.promises.specs.Asked.{OnDomain}
-use Rattle.promises.specs.Certificates.{ready_of}
 use Rattle.pushing.proofs.Images.{infinity, off, pushed, g_holds, n_holds, of_sheet}
 use Rattle.pushing.proofs.push_passed.Goals as goal
-
-pub within-requires : goal.within-requires
-within-requires c = ready_of c.args.ws.now c.args.v c.requires.all_yes.1 c.requires.all_yes.0
 
 pub image-requires : goal.image-requires
 image-requires c =
     let a = c.args in (
-      ready_of a.ws.now a.v c.requires.all_yes.1 c.requires.all_yes.0,
-      g_holds a.ws.now a.v c.requires.all_yes.1 c.requires.all_yes.0 a.g.now a.n.now c.requires.g_value.0 c.requires.g_value.1,
-      n_holds a.ws.now a.v c.requires.all_yes.1 c.requires.all_yes.0 a.g.now a.n.now c.requires.g_value.0 c.requires.g_value.1,
+      g_holds a.ws.now a.v.values c.requires.all_yes.1 c.requires.all_yes.0 a.g.now a.n.now c.requires.g_value.0 c.requires.g_value.1,
+      n_holds a.ws.now a.v.values c.requires.all_yes.1 c.requires.all_yes.0 a.g.now a.n.now c.requires.g_value.0 c.requires.g_value.1,
       (was_yes c.within.ensures c.if-within.true).x_below,
     )
 
@@ -27,7 +22,7 @@ returns-then-within c =
     let a = c.args in
     pushed a.ws.now c.requires.all_yes.0 a.point c.in-Affine.x c.in-Affine.y c.in-Affine.is c.image.result
     (subst (λ v. OnDomain v c.in-Affine.x c.in-Affine.y) c.requires.all_yes.1 (was_yes c.within.ensures c.if-within.true))
-    (of_sheet a.ws.now a.v c.requires.all_yes.1 c.requires.all_yes.0 a.g.now a.n.now c.requires.g_value.0 c.requires.g_value.1 c.in-Affine.x c.in-Affine.y c.image.result
+    (of_sheet a.ws.now a.v.values c.requires.all_yes.1 c.requires.all_yes.0 a.g.now a.n.now c.requires.g_value.0 c.requires.g_value.1 c.in-Affine.x c.in-Affine.y c.image.result
     c.image.ensures)
 
 pub returns-else-within : goal.returns-else-within

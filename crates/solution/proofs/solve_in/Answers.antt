@@ -1,5 +1,5 @@
 -- `solution::solve_in` meets its contract. Assumes nothing.
-use Rattle.std.proofs.Common.{arith, length, length-take, rules, subst, sym, ◌%◌, ◌-◌, ◌∙◌, ◌≡◌}
+use Rattle.std.proofs.Common.{arith, length, length-take, subst, sym, ◌%◌, ◌-◌, ◌≡◌}
 use Rattle.sheet.specs.Values.{half}
 use Rattle.sheet.specs.Ready.{HoldsG, degree_half}
 use Rattle.promises.specs.Numerators.{numerator_words}
@@ -9,37 +9,34 @@ use Rattle.solution.proofs.solve_in.Goals as goal
 
 pub candidate-requires : goal.candidate-requires
 candidate-requires c =
-    let v = c.args.v in
-    let d = degree_half v c.requires.ready in
+    let v = c.args.v.values in
+    let d = degree_half v c.args.v.ready in
     record {
-      ready = c.requires.ready;
       table_len = omega (arith, d, c.requires.degree_in_bounds, c.requires.degree_in_bounds_2, c.requires.n_len);
       v_in_bounds = omega (arith, d, c.requires.degree_in_bounds, c.requires.degree_in_bounds_2, c.requires.n_len);
     }
 
 pub numerator-requires : goal.numerator-requires
 numerator-requires c =
-    let g_words : HoldsG c.args.v c.candidate.new.g =
+    let g_words : HoldsG c.args.v.values c.candidate.new.g =
     record { count = omega (arith, c.candidate.auto, c.requires.n_len); reduced = c.candidate.ensures.reduced }
     in
-    let m = c.new-m.ensures in record {
-      ready = (c.requires.ready, g_words, record { same = m });
-      out_len = omega (arith, degree_half c.args.v c.requires.ready, c.candidate.auto, c.requires.n_len);
+    record {
+      holds_g = g_words;
+      out_len = omega (arith, degree_half c.args.v.values c.args.v.ready, c.candidate.auto, c.requires.n_len);
     }
 
 pub rule_three_from-holds-requires : goal.rule_three_from-holds-requires
 rule_three_from-holds-requires c =
-    let g_words : HoldsG c.args.v c.candidate.new.g =
+    let g_words : HoldsG c.args.v.values c.candidate.new.g =
     record { count = omega (arith, c.candidate.auto, c.requires.n_len); reduced = c.candidate.ensures.reduced }
     in
     let n_words =
-    numerator_words c.args.v c.requires.ready c.candidate.new.g c.numerator.new.out g_words
-    (omega (arith, degree_half c.args.v c.requires.ready, c.candidate.auto, c.numerator.auto, c.requires.n_len)) c.numerator.ensures in
-    let v = c.args.v in
+    numerator_words c.args.v.values c.args.v.ready c.candidate.new.g c.numerator.new.out g_words
+    (omega (arith, degree_half c.args.v.values c.args.v.ready, c.candidate.auto, c.numerator.auto, c.requires.n_len)) c.numerator.ensures in
+    let v = c.args.v.values in
     let made = c.candidate in
-    let m = c.new-m.ensures in
     let d : length made.new.g - 1 ≡ half v = omega (arith, made.auto, c.requires.n_len) in record {
-      ready = (c.requires.ready, record { same = m });
       holds_g = (g_words, made.ensures.r1);
       holds_n = n_words;
       degree_in_bounds = (
@@ -62,14 +59,13 @@ rule_three_from-holds-requires c =
 
 pub finish-requires : goal.finish-requires
 finish-requires c =
-    let g_words : HoldsG c.args.v c.candidate.new.g =
+    let g_words : HoldsG c.args.v.values c.candidate.new.g =
     record { count = omega (arith, c.candidate.auto, c.requires.n_len); reduced = c.candidate.ensures.reduced }
     in
     let n_words =
-    numerator_words c.args.v c.requires.ready c.candidate.new.g c.numerator.new.out g_words
-    (omega (arith, degree_half c.args.v c.requires.ready, c.candidate.auto, c.numerator.auto, c.requires.n_len)) c.numerator.ensures in
-    let m = c.new-m.ensures in record {
-      ready = (c.requires.ready, record { same = m });
+    numerator_words c.args.v.values c.args.v.ready c.candidate.new.g c.numerator.new.out g_words
+    (omega (arith, degree_half c.args.v.values c.args.v.ready, c.candidate.auto, c.numerator.auto, c.requires.n_len)) c.numerator.ensures in
+    record {
       holds_g = (g_words, c.candidate.ensures.r1);
       holds_n = n_words;
       variant = c.rule_three_from-holds.ensures;
@@ -79,5 +75,5 @@ finish-requires c =
 pub returns : goal.returns
 returns c =
     let made = c.candidate in
-    solved c.args.v made.new.h made.new.s made.new.g c.args.answer.now
+    solved c.args.v.values made.new.h made.new.s made.new.g c.args.answer.now
     c.finish.new.answer made.ensures c.finish.result c.finish.ensures

@@ -1,8 +1,6 @@
 -- `solving::solve` meets its contract. Assumes nothing.
-use Rattle.std.proofs.Common.{arith, refl, subst, sym}
+use Rattle.std.proofs.Common.{arith, refl, subst, ◌∙◌}
 use Rattle.std.proofs.lemmas.Result.{err_from_is_err_and}
-use Rattle.sheet.specs.declared.Form.TheVariants.{Question}
-use Rattle.sheet.specs.Ready.{Ready, ready}
 use Rattle.solution.specs.Solved.{Solved}
 use Rattle.solving.proofs.Sheets.{solve_short, solve_unread, solve_right}
 use Rattle.solving.proofs.solve.Goals as goal
@@ -16,17 +14,9 @@ returns-in_err-v c =
     let p = err_from_is_err_and c.from_residual.result c.from_residual.ensures.1 in
     rw (p.1, p.2) (solve_unread c.args.ws.now c.args.answer.now (omega (arith, c.if-answer-lt-MOST_WORDS.false)) _ c.in_err-v.ensures, refl)
 
-pub solve_values-requires : goal.solve_values-requires
-solve_values-requires c =
-    let right = c.in_ok-v.ensures in
-    record {
-      ready = subst Ready (sym right.1) (ready Question c.args.ws.now right.0);
-      room = omega arith;
-    }
-
 pub returns : goal.returns
 returns c =
     let right = c.in_ok-v.ensures in
     let answer = c.args.answer.now in
     solve_right c.args.ws.now answer (omega (arith, c.if-answer-lt-MOST_WORDS.false)) right.0 c.solve_values.new.answer c.solve_values.result
-    (subst (λ v. Solved v answer c.solve_values.new.answer c.solve_values.result) right.1 c.solve_values.ensures)
+    (subst (λ v. Solved v answer c.solve_values.new.answer c.solve_values.result) (c.new.ensures ∙ right.1) c.solve_values.ensures)
