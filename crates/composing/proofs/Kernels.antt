@@ -12,14 +12,14 @@ use Rattle.std.specs.Prelude.{Result, Ok, Err}
 use Rattle.ring.specs.Ring.{pow}
 use Rattle.series.specs.Series.{Series, Seq, conv}
 use Rattle.zmod.specs.Zmod.{Zmod, mk}
-use Rattle.zmod.specs.Residues.{Residue, Reduced, Residues, poly, residue_unique, residue_mod, residues_same}
-use Rattle.isogeny.specs.Rules.{N, R1, R3, Meets}
+use Rattle.zmod.specs.Residues.{Residue, Residues, poly, residue_unique, residue_mod, residues_same}
+use Rattle.isogeny.specs.Rules.{N, R3, Meets}
 use Rattle.composition.specs.Substitution.{homogenize}
 use Rattle.composition.specs.Composite.{composite_g}
 use Rattle.questions.specs.declared.refusal.Refusal.{Refusal}
 use Rattle.sheet.specs.declared.Values.{Values}
 use Rattle.sheet.specs.Values.{half, question}
-use Rattle.sheet.specs.Ready.{Ready, HoldsG, half_least, half_most}
+use Rattle.sheet.specs.Ready.{Ready, HoldsG, half_most}
 use Rattle.promises.specs.Answer.{composed}
 use Rattle.promises.specs.Composed.{composed_half, composed_ready, composed_meets, whole_composite}
 use Rattle.certifying.specs.Certified.{Certified}

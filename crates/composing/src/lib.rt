@@ -6,12 +6,11 @@ ghost use Rattle.std.specs.Prelude.{◌≡◌, true, ◌↔◌, ◌+◌, ◌*◌
 ghost use Rattle.questions.specs.Questions.{AllYes};
 ghost use Rattle.sheet.specs.declared.Form.TheVariants.{Certificate};
 ghost use Rattle.sheet.specs.Values.{values_of, half, gOf, n_of};
-ghost use Rattle.sheet.specs.Ready.{Ready};
 ghost use Rattle.promises.specs.Asked.{Room, ComposableValues, ProductAllowed, check_asks};
 ghost use Rattle.promises.specs.Answer.{composed, ComposeRight};
 ghost use Rattle.composing.specs.Joined.{Joined, Composed};
 
-use barrett::Modulus;
+use accepted::Accepted;
 use questions::Refusal;
 use sheet::Values;
 
@@ -29,40 +28,36 @@ fn meet(v: Values, w: Values) -> bool
 }
 
 // Question 14.
-fn product_allowed(v: Values, w: Values) -> bool
-    requires { (Ready v) × Ready w }
-    ensures { (result ≡ true) ↔ ProductAllowed v w }
+fn product_allowed(v: Accepted, w: Accepted) -> bool
+    ensures { (result ≡ true) ↔ ProductAllowed v.values w.values }
 {
-    let l = v.degree * w.degree;
+    let l = v.values.degree * w.values.degree;
     if 255 < l {
         return false;
     }
-    2 * l - 1 < v.p
+    2 * l - 1 < v.values.p
 }
 
 // The values of the composite.
-fn composite_values(v: Values, w: Values) -> Values
-    requires { (Ready v) × Ready w }
-    ensures { result ≡ composed v w }
+fn composite_values(v: Accepted, w: Accepted) -> Values
+    ensures { result ≡ composed v.values w.values }
 {
-    let degree = v.degree * w.degree;
-    let sum = u64::from(w.sigma) + field::product(w.degree, v.sigma);
-    let sigma = field::reduce(sum, v.p);
+    let degree = v.values.degree * w.values.degree;
+    let sum = u64::from(w.values.sigma) + field::product(w.values.degree, v.values.sigma);
+    let sigma = field::reduce(sum, v.values.p);
     Values {
-        p: v.p,
-        a: v.a,
-        b: v.b,
-        atilde: w.atilde,
-        btilde: w.btilde,
+        atilde: w.values.atilde,
+        btilde: w.values.btilde,
         degree,
         sigma,
+        ..v.values
     }
 }
 
 // The certificate of the composite of two maps that meet, in room for its g and its N.
 fn compose_in(
-    v: Values,
-    w: Values,
+    v: Accepted,
+    w: Accepted,
     g1: &[u32],
     n1: &[u32],
     g2: &[u32],
@@ -70,29 +65,28 @@ fn compose_in(
     n: &mut [u32],
     answer: &mut [u32],
 ) -> Result<u32, Refusal>
-    requires joined { Joined v w g1.now n1.now g2.now }
-    requires g_len { (length g.old ≡ half (composed v w) + 1) × (length n.old ≡ 2 * half (composed v w) + 2) × Room (length answer.old) }
-    ensures { Composed v w g1.now g2.now answer.old answer.new result }
+    requires joined { Joined v.values w.values g1.now n1.now g2.now }
+    requires g_len { (length g.old ≡ half (composed v.values w.values) + 1) × (length n.old ≡ 2 * half (composed v.values w.values) + 2) × Room (length answer.old) }
+    ensures { Composed v.values w.values g1.now g2.now answer.old answer.new result }
 {
-    let u = composite_values(v, w);
-    let m = Modulus::new(u.p);
-    substitution::composite(n1, g1, g2, g, m);
-    numerator::numerator(u, m, g, n);
-    certifying::finish(u, m, g, n, true, answer)
+    let u = Accepted::new(composite_values(v, w));
+    substitution::composite(n1, g1, g2, g, u.modulus);
+    numerator::numerator(u, g, n);
+    certifying::finish(u, g, n, true, answer)
 }
 
 // The same, with room of its own.
 fn compose_joined(
-    v: Values,
-    w: Values,
+    v: Accepted,
+    w: Accepted,
     g1: &[u32],
     n1: &[u32],
     g2: &[u32],
     answer: &mut [u32],
 ) -> Result<u32, Refusal>
-    requires joined { Joined v w g1.now n1.now g2.now }
+    requires joined { Joined v.values w.values g1.now n1.now g2.now }
     requires room { Room (length answer.old) }
-    ensures { Composed v w g1.now g2.now answer.old answer.new result }
+    ensures { Composed v.values w.values g1.now g2.now answer.old answer.new result }
 {
     let count = sheet::half_degree(composite_values(v, w)) + 1;
     let twice = 2 * count;
@@ -103,8 +97,8 @@ fn compose_joined(
 
 // Questions 13 and 14, and the certificate, for two certificates that pass, with their coefficients.
 fn compose_passed(
-    v: Values,
-    w: Values,
+    v: Accepted,
+    w: Accepted,
     first: &[u32],
     second: &[u32],
     g1: &[u32],
@@ -112,13 +106,13 @@ fn compose_passed(
     g2: &[u32],
     answer: &mut [u32],
 ) -> Result<u32, Refusal>
-    requires all_yes { (AllYes (check_asks first.now)) × (v ≡ values_of Certificate first.now) }
-    requires all_yes_2 { (AllYes (check_asks second.now)) × (w ≡ values_of Certificate second.now) }
+    requires all_yes { (AllYes (check_asks first.now)) × (v.values ≡ values_of Certificate first.now) }
+    requires all_yes_2 { (AllYes (check_asks second.now)) × (w.values ≡ values_of Certificate second.now) }
     requires g1_value { (g1.now ≡ gOf Certificate first.now) × (n1.now ≡ n_of Certificate first.now) × (g2.now ≡ gOf Certificate second.now) }
     requires room { Room (length answer.old) }
     ensures { ComposeRight first.now second.now answer.old answer.new result }
 {
-    if !meet(v, w) {
+    if !meet(v.values, w.values) {
         return Err(Refusal::Joint);
     }
     if !product_allowed(v, w) {
@@ -129,22 +123,23 @@ fn compose_passed(
 
 // Questions 2 to 10 of the second certificate, and what follows them, for a first one that passes.
 fn compose_second(
-    v: Values,
+    v: Accepted,
     first: &[u32],
     second: &[u32],
     g1: &[u32],
     n1: &[u32],
     answer: &mut [u32],
 ) -> Result<u32, Refusal>
-    requires all_yes { (AllYes (check_asks first.now)) × (v ≡ values_of Certificate first.now) }
+    requires all_yes { (AllYes (check_asks first.now)) × (v.values ≡ values_of Certificate first.now) }
     requires g1_value { (g1.now ≡ gOf Certificate first.now) × (n1.now ≡ n_of Certificate first.now) }
     requires room { Room (length answer.old) }
     ensures { ComposeRight first.now second.now answer.old answer.new result }
 {
     let mut g2 = [0u32; 128];
     let mut n2 = [0u32; 256];
-    let w = checking::passed(second, &mut g2, &mut n2)?;
-    let d = sheet::half_degree(w);
+    let values = checking::passed(second, &mut g2, &mut n2)?;
+    let d = sheet::half_degree(values);
+    let w = Accepted::new(values);
     compose_passed(v, w, first, second, g1, n1, &g2[..d + 1], answer)
 }
 
@@ -158,7 +153,8 @@ pub fn compose(first: &[u32], second: &[u32], answer: &mut [u32]) -> Result<u32,
     }
     let mut g1 = [0u32; 128];
     let mut n1 = [0u32; 256];
-    let v = checking::passed(first, &mut g1, &mut n1)?;
-    let d = sheet::half_degree(v);
+    let values = checking::passed(first, &mut g1, &mut n1)?;
+    let d = sheet::half_degree(values);
+    let v = Accepted::new(values);
     compose_second(v, first, second, &g1[..d + 1], &n1[..2 * d + 2], answer)
 }

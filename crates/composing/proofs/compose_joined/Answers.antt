@@ -3,10 +3,6 @@ use Rattle.std.proofs.Common.{ap, arith, length-take-le, sym, ◌*◌, ◌+◌, 
 use Rattle.composing.proofs.Kernels.{both_half}
 use Rattle.composing.proofs.compose_joined.Goals as goal
 
-pub composite_values-requires : goal.composite_values-requires
-composite_values-requires c =
-    (c.requires.joined.ready₁, c.requires.joined.ready₂)
-
 pub slice_bounds-g-end : goal.slice_bounds-g-end
 slice_bounds-g-end c =
     let d = both_half _ _ _ _ _ c.requires.joined _ _ c.composite_values.ensures c.half_degree-count.ensures.0 in omega (arith, d)

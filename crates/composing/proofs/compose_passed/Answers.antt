@@ -1,27 +1,21 @@
 -- `composing::compose_passed` meets its contract. Assumes nothing.
 use Rattle.std.proofs.Common.{not, ap, refl}
 use Rattle.questions.specs.Tests.{refuted, shown}
-use Rattle.promises.specs.Certificates.{ready_of}
 use Rattle.composing.proofs.Sheets.{unmet, disallowed, joined_read, answered_read}
 use Rattle.composing.proofs.compose_passed.Goals as goal
 
 pub returns-then-not-meet : goal.returns-then-not-meet
 returns-then-not-meet c =
     let a = c.args in (
-      unmet a.first.now a.second.now a.answer.now c.requires.room c.requires.all_yes.0 c.requires.all_yes_2.0 a.v a.w c.requires.all_yes.1 c.requires.all_yes_2.1
+      unmet a.first.now a.second.now a.answer.now c.requires.room c.requires.all_yes.0 c.requires.all_yes_2.0 a.v.values a.w.values c.requires.all_yes.1 c.requires.all_yes_2.1
           (refuted c.meet.ensures (ap not c.if-not-meet.true)),
       refl,
     )
 
-pub product_allowed-requires : goal.product_allowed-requires
-product_allowed-requires c =
-    let a = c.args in
-    (ready_of a.first.now a.v c.requires.all_yes.1 c.requires.all_yes.0, ready_of a.second.now a.w c.requires.all_yes_2.1 c.requires.all_yes_2.0)
-
 pub returns-then-not-product_allowed : goal.returns-then-not-product_allowed
 returns-then-not-product_allowed c =
     let a = c.args in (
-      disallowed a.first.now a.second.now a.answer.now c.requires.room c.requires.all_yes.0 c.requires.all_yes_2.0 a.v a.w c.requires.all_yes.1 c.requires.all_yes_2.1
+      disallowed a.first.now a.second.now a.answer.now c.requires.room c.requires.all_yes.0 c.requires.all_yes_2.0 a.v.values a.w.values c.requires.all_yes.1 c.requires.all_yes_2.1
           (shown c.meet.ensures (ap not c.if-not-meet.false)) (refuted c.product_allowed.ensures (ap not c.if-not-product_allowed.true)),
       refl,
     )
@@ -30,7 +24,7 @@ pub compose_joined-requires : goal.compose_joined-requires
 compose_joined-requires c =
     let a = c.args in
     record {
-      joined = joined_read a.first.now a.second.now a.answer.now c.requires.room c.requires.all_yes.0 c.requires.all_yes_2.0 a.v a.w c.requires.all_yes.1 c.requires.all_yes_2.1
+      joined = joined_read a.first.now a.second.now a.answer.now c.requires.room c.requires.all_yes.0 c.requires.all_yes_2.0 a.v.values a.w.values c.requires.all_yes.1 c.requires.all_yes_2.1
           (shown c.meet.ensures (ap not c.if-not-meet.false)) (shown c.product_allowed.ensures (ap not c.if-not-product_allowed.false))
           a.g1.now a.n1.now a.g2.now c.requires.g1_value.0 c.requires.g1_value.1 c.requires.g1_value.2;
       room = c.requires.room;
@@ -39,7 +33,7 @@ compose_joined-requires c =
 pub returns : goal.returns
 returns c =
     let a = c.args in
-    answered_read a.first.now a.second.now a.answer.now c.requires.room c.requires.all_yes.0 c.requires.all_yes_2.0 a.v a.w c.requires.all_yes.1 c.requires.all_yes_2.1
+    answered_read a.first.now a.second.now a.answer.now c.requires.room c.requires.all_yes.0 c.requires.all_yes_2.0 a.v.values a.w.values c.requires.all_yes.1 c.requires.all_yes_2.1
     (shown c.meet.ensures (ap not c.if-not-meet.false)) (shown c.product_allowed.ensures (ap not c.if-not-product_allowed.false))
     a.g1.now a.n1.now a.g2.now c.requires.g1_value.0 c.requires.g1_value.1 c.requires.g1_value.2
     _ c.compose_joined.result c.compose_joined.ensures

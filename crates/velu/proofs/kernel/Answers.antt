@@ -1,11 +1,10 @@
 -- `velu::kernel` meets its contract. Assumes nothing.
-use Rattle.std.proofs.Common.{arith, inl, inr, refl, subst, sym, ◌∙◌}
+use Rattle.std.proofs.Common.{arith, inl, inr, refl, ◌∙◌}
 use Rattle.std.proofs.lemmas.Result.{err_from_is_err_and}
 use Rattle.questions.specs.Joined.{no_before}
 use Rattle.sheet.specs.declared.Form.TheVariants.{Kernel}
 use Rattle.sheet.specs.Values.{values_of, gOf}
 use Rattle.sheet.specs.Asked.{asked}
-use Rattle.sheet.specs.Ready.{Ready, ready}
 use Rattle.promises.specs.Asked.{last_ask}
 use Rattle.velu.proofs.kernel.Goals as goal
 
@@ -18,9 +17,6 @@ returns-in_err-v c =
     let p = err_from_is_err_and c.from_residual.result c.from_residual.ensures.1 in
     let unread = no_before (asked Kernel ws) (last_ask (values_of Kernel ws) (gOf Kernel ws)) _ c.in_err-v.ensures in
     rw (p.1, p.2) (inr (omega (arith, c.if-answer-lt-MOST_WORDS.false), unread), refl)
-
-pub new-requires : goal.new-requires
-new-requires c = subst Ready (sym c.in_ok-v.ensures.1) (ready Kernel c.args.ws.now c.in_ok-v.ensures.0)
 
 pub kernel_accepted-requires : goal.kernel_accepted-requires
 kernel_accepted-requires c = record {
