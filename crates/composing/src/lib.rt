@@ -66,7 +66,8 @@ fn compose_in(
     answer: &mut [u32],
 ) -> Result<u32, Refusal>
     requires joined { Joined v.values w.values g1.now n1.now g2.now }
-    requires g_len { (length g.old ≡ half (composed v.values w.values) + 1) × (length n.old ≡ 2 * half (composed v.values w.values) + 2) × Room (length answer.old) }
+    requires g_len { (length g.old ≡ half (composed v.values w.values) + 1) × (length n.old ≡ 2 * half (composed v.values w.values) + 2)
+        × Room (length answer.old) }
     ensures { Composed v.values w.values g1.now g2.now answer.old answer.new result }
 {
     let u = Accepted::new(composite_values(v, w));

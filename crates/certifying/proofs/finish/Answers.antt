@@ -25,7 +25,9 @@ pub write-words-requires : goal.write-words-requires
 write-words-requires c =
     let a = c.args in
     let found = c.roots-abscissas in
-    let count = counted_on_sheet a.v.values a.v.ready a.g.now c.requires.holds_g.0 c.requires.holds_g.1 a.v.modulus (record { same = a.v.over }) found.result found.ensures in
+    let count =
+    counted_on_sheet a.v.values a.v.ready a.g.now c.requires.holds_g.0 c.requires.holds_g.1 a.v.modulus (record { same = a.v.over })
+    found.result found.ensures in
     let fit = abscissas_fit a.v.values a.v.ready a.g.now c.requires.holds_g.0 c.requires.holds_g.1 in
     record {
       ready = a.v.ready;
@@ -42,7 +44,10 @@ overflow_cast-count c =
 pub returns : goal.returns
 returns c =
     let a = c.args in
-    let count = counted_on_sheet a.v.values a.v.ready a.g.now c.requires.holds_g.0 c.requires.holds_g.1 a.v.modulus (record { same = a.v.over }) c.roots-abscissas.result c.roots-abscissas.ensures in
+    let found = c.roots-abscissas in
+    let count =
+    counted_on_sheet a.v.values a.v.ready a.g.now c.requires.holds_g.0 c.requires.holds_g.1 a.v.modulus (record { same = a.v.over })
+    found.result found.ensures in
     record {
       certificate = record {
         g = a.g.now;

@@ -17,7 +17,9 @@ roots-requires c =
 pub returns : goal.returns
 returns c =
     let a = c.args in
-    let count = counted_on_sheet a.v.values a.v.ready a.g.now c.requires.holds_g c.requires.holds_n.1 a.v.modulus (record { same = a.v.over }) c.roots.result c.roots.ensures in
+    let count =
+    counted_on_sheet a.v.values a.v.ready a.g.now c.requires.holds_g c.requires.holds_n.1 a.v.modulus (record { same = a.v.over })
+    c.roots.result c.roots.ensures in
     let numerator = shown c.same_numerator.ensures (ap not c.if-not-same_numerator.false) in (
       λ t. (numerator, sym (eqb-true c.roots.result a.abscissas t) ∙ count),
       λ h. eq-eqb c.roots.result a.abscissas (count ∙ sym h.1),

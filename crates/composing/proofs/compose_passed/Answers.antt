@@ -6,16 +6,20 @@ use Rattle.composing.proofs.compose_passed.Goals as goal
 
 pub returns-then-not-meet : goal.returns-then-not-meet
 returns-then-not-meet c =
-    let a = c.args in (
-      unmet a.first.now a.second.now a.answer.now c.requires.room c.requires.all_yes.0 c.requires.all_yes_2.0 a.v.values a.w.values c.requires.all_yes.1 c.requires.all_yes_2.1
+    let a = c.args in
+    let yes = c.requires.all_yes in
+    let yes₂ = c.requires.all_yes_2 in (
+      unmet a.first.now a.second.now a.answer.now c.requires.room yes.0 yes₂.0 a.v.values a.w.values yes.1 yes₂.1
           (refuted c.meet.ensures (ap not c.if-not-meet.true)),
       refl,
     )
 
 pub returns-then-not-product_allowed : goal.returns-then-not-product_allowed
 returns-then-not-product_allowed c =
-    let a = c.args in (
-      disallowed a.first.now a.second.now a.answer.now c.requires.room c.requires.all_yes.0 c.requires.all_yes_2.0 a.v.values a.w.values c.requires.all_yes.1 c.requires.all_yes_2.1
+    let a = c.args in
+    let yes = c.requires.all_yes in
+    let yes₂ = c.requires.all_yes_2 in (
+      disallowed a.first.now a.second.now a.answer.now c.requires.room yes.0 yes₂.0 a.v.values a.w.values yes.1 yes₂.1
           (shown c.meet.ensures (ap not c.if-not-meet.false)) (refuted c.product_allowed.ensures (ap not c.if-not-product_allowed.true)),
       refl,
     )
@@ -23,8 +27,10 @@ returns-then-not-product_allowed c =
 pub compose_joined-requires : goal.compose_joined-requires
 compose_joined-requires c =
     let a = c.args in
+    let yes = c.requires.all_yes in
+    let yes₂ = c.requires.all_yes_2 in
     record {
-      joined = joined_read a.first.now a.second.now a.answer.now c.requires.room c.requires.all_yes.0 c.requires.all_yes_2.0 a.v.values a.w.values c.requires.all_yes.1 c.requires.all_yes_2.1
+      joined = joined_read a.first.now a.second.now a.answer.now c.requires.room yes.0 yes₂.0 a.v.values a.w.values yes.1 yes₂.1
           (shown c.meet.ensures (ap not c.if-not-meet.false)) (shown c.product_allowed.ensures (ap not c.if-not-product_allowed.false))
           a.g1.now a.n1.now a.g2.now c.requires.g1_value.0 c.requires.g1_value.1 c.requires.g1_value.2;
       room = c.requires.room;
@@ -33,7 +39,9 @@ compose_joined-requires c =
 pub returns : goal.returns
 returns c =
     let a = c.args in
-    answered_read a.first.now a.second.now a.answer.now c.requires.room c.requires.all_yes.0 c.requires.all_yes_2.0 a.v.values a.w.values c.requires.all_yes.1 c.requires.all_yes_2.1
+    let yes = c.requires.all_yes in
+    let yes₂ = c.requires.all_yes_2 in
+    answered_read a.first.now a.second.now a.answer.now c.requires.room yes.0 yes₂.0 a.v.values a.w.values yes.1 yes₂.1
     (shown c.meet.ensures (ap not c.if-not-meet.false)) (shown c.product_allowed.ensures (ap not c.if-not-product_allowed.false))
     a.g1.now a.n1.now a.g2.now c.requires.g1_value.0 c.requires.g1_value.1 c.requires.g1_value.2
     _ c.compose_joined.result c.compose_joined.ensures

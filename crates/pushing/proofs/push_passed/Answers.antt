@@ -22,8 +22,8 @@ returns-then-within c =
     let a = c.args in
     pushed a.ws.now c.requires.all_yes.0 a.point c.in-Affine.x c.in-Affine.y c.in-Affine.is c.image.result
     (subst (λ v. OnDomain v c.in-Affine.x c.in-Affine.y) c.requires.all_yes.1 (was_yes c.within.ensures c.if-within.true))
-    (of_sheet a.ws.now a.v.values c.requires.all_yes.1 c.requires.all_yes.0 a.g.now a.n.now c.requires.g_value.0 c.requires.g_value.1 c.in-Affine.x c.in-Affine.y c.image.result
-    c.image.ensures)
+    (of_sheet a.ws.now a.v.values c.requires.all_yes.1 c.requires.all_yes.0 a.g.now a.n.now c.requires.g_value.0 c.requires.g_value.1
+    c.in-Affine.x c.in-Affine.y c.image.result c.image.ensures)
 
 pub returns-else-within : goal.returns-else-within
 returns-else-within c =
