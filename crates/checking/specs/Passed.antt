@@ -5,6 +5,7 @@ use Rattle.questions.specs.Questions.{AllYes, FirstNo}
 use Rattle.questions.specs.Answers.{Answers}
 use Rattle.questions.specs.Number.{number, outcome}
 use Rattle.questions.specs.declared.refusal.Refusal.{Refusal}
+use Rattle.accepted.specs.declared.Accepted.{Accepted}
 use Rattle.sheet.specs.declared.Form.TheVariants.{Certificate}
 use Rattle.sheet.specs.declared.Values.{Values}
 use Rattle.sheet.specs.Values.{values_of, half, gOf, n_of}
@@ -29,6 +30,6 @@ pub record Passes (ws g n : List ℕ) (v : Values) : Type 0 where
 pub passes_half : {ws g n : List ℕ} {v : Values} → Passes ws g n v → half v ≤ 127
 passes_half {ws = ws} {v = v} h = half_most v (ready_of ws v h.values h.all)
 
-abbrev pub Passed : List ℕ → List ℕ → List ℕ → Result Values Refusal → Type 0
-Passed ws g n (Ok v) = Passes ws g n v
+abbrev pub Passed : List ℕ → List ℕ → List ℕ → Result Accepted Refusal → Type 0
+Passed ws g n (Ok v) = Passes ws g n v.values
 Passed ws g n (Err refusal) = FirstNo (check_asks ws) (number refusal)

@@ -19,7 +19,7 @@ ghost use Rattle.checking.specs.Passed.{Coefficients, Passed};
 
 use accepted::Accepted;
 use questions::Refusal;
-use sheet::{Form, Values};
+use sheet::Form;
 
 // Whether N is that of R2, with room for R2's.
 fn same_numerator_in(v: Accepted, g: &[u32], n: &[u32], room: &mut [u32]) -> bool
@@ -87,15 +87,15 @@ fn judge(v: Accepted, ws: &[u32], d: usize, g: &mut [u32], n: &mut [u32]) -> Res
 }
 
 // Questions 2 to 10. The values of a certificate that passes are the answer, and g and n begin with its coefficients.
-pub fn passed(ws: &[u32], g: &mut [u32], n: &mut [u32]) -> Result<Values, Refusal>
+pub fn passed(ws: &[u32], g: &mut [u32], n: &mut [u32]) -> Result<Accepted, Refusal>
     requires { (length g.old ≡ 128) × (length n.old ≡ 256) }
     ensures { Passed ws.now g.new n.new result }
 {
     let values = reading::read(Form::Certificate, ws)?;
-    let d = sheet::half_degree(values);
     let v = Accepted::new(values);
+    let d = sheet::half_degree(v.values);
     judge(v, ws, d, &mut g[..d + 1], &mut n[..2 * d + 2])?;
-    Ok(values)
+    Ok(v)
 }
 
 // Whether the words are a certificate; or the first of questions 2 to 10 that they do not pass.

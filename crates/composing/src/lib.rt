@@ -138,9 +138,8 @@ fn compose_second(
 {
     let mut g2 = [0u32; 128];
     let mut n2 = [0u32; 256];
-    let values = checking::passed(second, &mut g2, &mut n2)?;
-    let d = sheet::half_degree(values);
-    let w = Accepted::new(values);
+    let w = checking::passed(second, &mut g2, &mut n2)?;
+    let d = sheet::half_degree(w.values);
     compose_passed(v, w, first, second, g1, n1, &g2[..d + 1], answer)
 }
 
@@ -154,8 +153,7 @@ pub fn compose(first: &[u32], second: &[u32], answer: &mut [u32]) -> Result<u32,
     }
     let mut g1 = [0u32; 128];
     let mut n1 = [0u32; 256];
-    let values = checking::passed(first, &mut g1, &mut n1)?;
-    let d = sheet::half_degree(values);
-    let v = Accepted::new(values);
+    let v = checking::passed(first, &mut g1, &mut n1)?;
+    let d = sheet::half_degree(v.values);
     compose_second(v, first, second, &g1[..d + 1], &n1[..2 * d + 2], answer)
 }

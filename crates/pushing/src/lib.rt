@@ -123,8 +123,7 @@ pub fn push(ws: &[u32], point: Point) -> Result<Point, Refusal>
 {
     let mut g = [0u32; 128];
     let mut n = [0u32; 256];
-    let values = checking::passed(ws, &mut g, &mut n)?;
-    let d = sheet::half_degree(values);
-    let v = Accepted::new(values);
+    let v = checking::passed(ws, &mut g, &mut n)?;
+    let d = sheet::half_degree(v.values);
     push_passed(v, ws, &g[..d + 1], &n[..2 * d + 2], point)
 }
