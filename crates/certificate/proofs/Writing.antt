@@ -7,13 +7,13 @@ use native.Mathlib.Omega.{arith}
 use lib.Dec.{eqb, eqb→eq}
 use lib.ListN.{length, get_or, set, take, drop, length-append, length-map, get_or-map}
 use lib.Seq.{paste}
-use Rattle.std.specs.Prelude.{Option, Some, unwrap_or}
+use Rattle.std.specs.Prelude.{Option, Some, is_some, unwrap_or, true}
 use Rattle.sheet.specs.declared.Form.TheVariants.{Certificate}
 use Rattle.sheet.specs.declared.Kind.{Kind}
 use Rattle.sheet.specs.declared.Kind.TheVariants.{P}
 use Rattle.sheet.specs.declared.Values.{Values}
 use Rattle.sheet.specs.Code.{code}
-use Rattle.sheet.specs.Table.{at}
+use Rattle.sheet.specs.Table.{at, T_true}
 use Rattle.sheet.specs.Word.{word}
 use Rattle.sheet.specs.Form.{header, certificate_words}
 use Rattle.sheet.specs.Lengths.{certificate_words_lem}
@@ -47,6 +47,13 @@ module _ (kinds : List Kind) (is_header : map code kinds ≡ header Certificate)
   kind_is =
       sym (get_or-map code kinds i P) ∙ ap (λ (ks : List ℕ). get_or ks i 1) is_header
       ∙ eqb→eq _ _ (at (λ i. eqb (get_or (header Certificate) i 1) (suc i)) 7 tt i in_seven)
+
+  pub of_header : 1 ≤ kind
+  of_header = omega (arith, kind_is)
+
+  pub has_place : {place : Option ℕ} → place ≡ placed Certificate kind 0 → is_some place ≡ true
+  has_place e =
+      ap is_some e ∙ ap (λ k. is_some (placed Certificate k 0)) kind_is ∙ T_true _ (at (λ i. is_some (placed Certificate (suc i) 0)) 7 tt i in_seven)
 
   pub at_header : {place : Option ℕ} {at_kind : ℕ} → place ≡ placed Certificate kind 0 → place ≡ Some at_kind → at_kind ≡ i
   at_header e is =

@@ -18,8 +18,9 @@ fn word_of(kind: Kind, value: u32) -> u32
     u32::from(kind) * 268435456 + value
 }
 
-// The value of a header's word of a kind, 0 for a kind of no header.
+// The value of a header's word of a kind from 1 on, 0 for a kind of no header.
 fn header_value(v: Values, kind: Kind) -> u32
+    requires { 1 ≤ code kind }
     ensures { result ≡ value_at v (code kind) }
 {
     match kind {

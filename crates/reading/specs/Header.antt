@@ -12,7 +12,7 @@ use Rattle.sheet.specs.Form.{header, position, holds}
 use Rattle.sheet.specs.Place.{place_of}
 use Rattle.sheet.specs.Entries.{header_place}
 use Rattle.sheet.specs.Asked.{Asked2}
-use Rattle.sheet.specs.Table.{at, every, both, both_left, both_right}
+use Rattle.sheet.specs.Table.{at, every, both, both_left, both_right, T_true}
 use Rattle.reading.specs.Leaf.{Stands}
 
 -- ── a kind's word is in the list, where `position` says
@@ -102,10 +102,6 @@ all_own : (form : Form) → T (every (own (header form)) (length (header form)))
 all_own Question = tt
 all_own Certificate = tt
 all_own Kernel = tt
-
-T_true : (b : Bool) → T b → b ≡ true
-T_true true t = refl
-T_true false t = absurd t
 
 module _ (form : Form) (ws : List ℕ) where
   pub asked2_stands : Asked2 form ws → (k : ℕ) → Stands form k ws

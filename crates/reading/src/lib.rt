@@ -11,21 +11,28 @@ ghost use Rattle.sheet.specs.Values.{values_of};
 ghost use Rattle.sheet.specs.Lengths.{last};
 ghost use Rattle.sheet.specs.Asked.{PrimeAllowed, DegreeAllowed, ValuesBelow, Curves, Asked2, Asked6};
 ghost use Rattle.reading.specs.Reading.{Right};
-ghost use Rattle.reading.specs.Leaf.{Fits, EachFits, Sections, Bounds};
+ghost use Rattle.reading.specs.Leaf.{Stands, Fits, EachFits, Sections, Bounds};
 
 use questions::Refusal;
 use sheet::{Form, Kind, Values};
+
+// Whether the word of a kind is there, if the header has it.
+fn has_kind(form: Form, kind: Kind, ws: &[u32]) -> bool
+    requires { code kind < 8 }
+    ensures { (result ≡ true) ↔ Stands form (code kind) ws.now }
+{
+    match sheet::place(form, kind, 0) {
+        Some(at) => at < ws.len() && sheet::kind_of(ws[at]) == u32::from(kind),
+        None => true,
+    }
+}
 
 // Question 2.
 pub fn headed(form: Form, ws: &[u32]) -> bool
     ensures { (result ≡ true) ↔ Asked2 form ws.now }
 {
-    let kinds = sheet::header(form);
-    if ws.len() < kinds.len() {
-        return false;
-    }
-    for (i, kind) in kinds.iter().enumerate() {
-        if sheet::kind_of(ws[i]) != u32::from(*kind) {
+    for kind in sheet::header(form) {
+        if !has_kind(form, *kind, ws) {
             return false;
         }
     }

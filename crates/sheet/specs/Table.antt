@@ -1,6 +1,6 @@
 -- A rule of a table that holds at each of its indices, proved by one test that is computed.
 -- Assumes nothing.
-use Rattle.std.specs.Prelude.{◌≡◌, Bool, true, false, ℕ, zero, suc, ◌<◌, T}
+use Rattle.std.specs.Prelude.{◌≡◌, refl, Bool, true, false, ℕ, zero, suc, ◌<◌, T}
 use Rattle.std.proofs.Common.{sym, subst, not-suc-le-zero, arith}
 use Rattle.std.proofs.Math.Decide.{dec_lt}
 
@@ -15,6 +15,10 @@ both_left false b t = t
 pub both_right : (a b : Bool) → T (both a b) → T b
 both_right true b t = t
 both_right false b t = absurd t
+
+pub T_true : (b : Bool) → T b → b ≡ true
+T_true true t = refl
+T_true false t = absurd t
 
 -- the test passes at each number below n
 abbrev pub every : (ℕ → Bool) → ℕ → Bool

@@ -50,6 +50,12 @@ pub enum Kind {
     // The count of rational abscissas.
     Abscissas = 10,
     End = 15,
+    // The kinds of no word, for which the table of places answers too.
+    Unused0 = 0,
+    Unused11 = 11,
+    Unused12 = 12,
+    Unused13 = 13,
+    Unused14 = 14,
 }
 
 impl From<Kind> for u32 {
