@@ -2,12 +2,11 @@
 // u + 2^28·v and infinity as 2^56; an answer as one number, a refusal of 64 bits as 2^57 plus its own.
 #![tactic(auto)]
 
-ghost use Rattle.std.specs.Prelude.{◌≡◌, ◌+◌, ◌*◌, ◌^◌, ◌<◌, ◌≤◌, length};
+ghost use Rattle.std.specs.Prelude.{◌≡◌, ℕ, ◌+◌, ◌*◌, ◌^◌, ◌<◌, ◌≤◌, length, MatchResult, IsErrAnd};
 ghost use Rattle.sheet.specs.Word.{word_at};
 ghost use Rattle.sheet.specs.Form.{most_words};
-ghost use Rattle.questions.specs.Number.{number};
-ghost use Rattle.promises.specs.Outcome.{verdict_number, written_number};
-ghost use Rattle.encoding.specs.Encoding.{point_of, unpointed_of, Loaded};
+ghost use Rattle.questions.specs.declared.refusal.Refusal.TheVariants as question;
+ghost use Rattle.encoding.specs.Encoding.{point_of, Loaded};
 
 use promises::Point;
 use questions::Refusal;
@@ -59,23 +58,24 @@ pub fn point_of(k: u64) -> Point
     Point::Affine((k % 268435456) as u32, (k / 268435456) as u32)
 }
 
-// What push answers to a number that is no point, from what check answers: its refusal, or question 12's.
-pub fn unpointed(verdict: Result<(), Refusal>) -> Result<Point, Refusal>
-    ensures { result ≡ unpointed_of verdict }
+// What push answers to a number that is no point, from what check answers: its refusal, or question 12's. This and the numbers below take a refusal, or its
+// number itself: any word.
+pub fn unpointed<Q: From<Refusal> + Copy>(verdict: Result<(), Q>) -> Result<Point, Q>
+    ensures { IsErrAnd result (λ q. MatchResult verdict (λ _. Q.from_gives question.Point q) (λ first. q ≡ first)) }
 {
     verdict?;
-    Err(Refusal::Point)
+    Err(Q::from(Refusal::Point))
 }
 
 // ── answers
 
 // The number of what check answers.
-pub fn verdict_number(verdict: Result<(), Refusal>) -> u32
-    ensures { result ≡ verdict_number verdict }
+pub fn verdict_number<Q: Into<u32>>(verdict: Result<(), Q>) -> u32
+    ensures { MatchResult verdict (λ _. result ≡ 0) (λ q. Q.converts q result) }
 {
     match verdict {
         Ok(()) => 0,
-        Err(refusal) => u32::from(refusal),
+        Err(q) => q.into(),
     }
 }
 
@@ -87,15 +87,16 @@ pub fn point_number(u: u32, v: u32) -> u64
 }
 
 // 2^57 plus a refusal's number: no point, count or j-value is so large.
-pub fn refusal(refusal: Refusal) -> u64
-    ensures { result ≡ 2 ^ 57 + number refusal }
+pub fn refusal<Q: Into<u32>>(q: Q) -> u64
+    ensures { (n : ℕ) × Q.converts q n × (result ≡ 2 ^ 57 + n) }
 {
-    144115188075855872 + u64::from(u32::from(refusal))
+    let n: u32 = q.into();
+    144115188075855872 + u64::from(n)
 }
 
 // The number of what solve, kernel and compose answer.
-pub fn written_number(written: Result<u32, Refusal>) -> u64
-    ensures { result ≡ written_number written }
+pub fn written_number<Q: Into<u32>>(written: Result<u32, Q>) -> u64
+    ensures { MatchResult written (λ count. result ≡ count) (λ q. (n : ℕ) × Q.converts q n × (result ≡ 2 ^ 57 + n)) }
 {
     match written {
         Ok(count) => u64::from(count),
