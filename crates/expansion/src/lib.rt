@@ -21,7 +21,7 @@ pub fn weighted(l: u32, x: u32, m: u32, y: u32, n: u32, z: u32, p: u32) -> u32
     field::reduce(field::combination(l, x, m, y, n, z), p)
 }
 
-// out is a backwards, by its index as the edit `reversed_off_by_one` needs it; `quotients::reverse`, which has no such edit, is std's.
+// out is a backwards, by its index as the edit `reversed_off_by_one` needs it.
 pub fn reverse(a: &[u32], out: &mut [u32])
     requires { length out.old ≡ length a.now }
     ensures { Filled (λ i w. w ≡ get_or a.now (length a.now - 1 - i) 0) out.new (length a.now) }

@@ -16,13 +16,16 @@ ghost use Rattle.quotients.specs.Division.{QuotientTo, DividesBy};
 
 use barrett::Modulus;
 
-// out is a backwards.
+// out is a backwards. By its index: a copy and std's `reverse` go over the words twice, some 2 % of a check at ℓ = 127 and 255, and the copy is a call of
+// `memmove`, which the library needs for nothing else.
 fn reverse(a: &[u32], out: &mut [u32])
     requires { length out.old ≡ length a.now }
     ensures { ReversedWords a.now out.new }
 {
-    out.copy_from_slice(a);
-    out.reverse();
+    let n = a.len();
+    for k in 0..n {
+        out[k] = a[n - 1 - k];
+    }
 }
 
 // out = 1
