@@ -24,16 +24,16 @@ fn from_power(g: &[u32], r: &mut [u32], a: &mut [u64], b: &mut [u64], m: Modulus
     euclid::gcd_degree(a, b, m)
 }
 
-// The same for any g, with the power by quotients, in room of N words a slice.
-fn by_quotients<const N: usize>(g: &[u32], m: Modulus) -> usize
-    requires { Prime m.p × (Divisor m.p g.now) × (3 ≤ length g.now) × (2 * length g.now + 8 ≤ N) × (N ≤ 264) }
+// The same for any g, with the power by quotients in room of N words a slice, and Euclid's loop in room of K: both lie on the stack at once.
+fn by_quotients<const N: usize, const K: usize>(g: &[u32], m: Modulus) -> usize
+    requires { Prime m.p × (Divisor m.p g.now) × (3 ≤ length g.now) × (2 * length g.now + 8 ≤ N) × (N ≤ 264) × (length g.now ≤ K) × (K ≤ 128) }
     ensures { result ≡ rational_roots m.p (length g.now) (poly m.p g.now) }
 {
     let k = g.len();
     let d = k - 1;
-    let mut r = [0u32; N];
-    let mut a = [0u64; N];
-    let mut b = [0u64; N];
+    let mut r = [0u32; K];
+    let mut a = [0u64; K];
+    let mut b = [0u64; K];
     quotients::power_of_x::<N>(g, &mut r[..d], m);
     from_power(g, &mut r[..d], &mut a[..k], &mut b[..d], m)
 }
@@ -64,9 +64,9 @@ fn roots_by_size(g: &[u32], m: Modulus) -> usize
         return by_table(g, m);
     }
     if g.len() <= 40 {
-        return by_quotients::<88>(g, m);
+        return by_quotients::<88, 40>(g, m);
     }
-    by_quotients::<264>(g, m)
+    by_quotients::<264, 128>(g, m)
 }
 
 // The number of roots of g in ℤ/p.
